@@ -1,0 +1,5 @@
+pub mod Mod
+pub mod Normal
+pub mod Ring
+pub mod Integer
+pub mod Word

@@ -1,0 +1,120 @@
+-- Lists as code makes them: written over from a place on, and made from the front by a rule for each index. Assumes nothing.
+use mathlib.Core.Path.{_≡_, refl, sym, ap, ap₂, _∙_, subst}
+use mathlib.Core.Bool.{Bool, true, false, _&&_, and-true, and-false, and-assoc}
+use mathlib.Core.List.{List, [], _∷_, _++_, append-assoc, append-nil}
+use Prim.Native.Nat.{ℕ, zero, suc, _+_, _-_, _≤_, _<_}
+use native.Mathlib.Nat.{add-zero, add-suc, suc-add}
+use native.Mathlib.Numerals.{add-one}
+use native.Mathlib.Omega.{arith}
+use lib.Dec.{T, eqb, eqb→eq, eqb-refl}
+use lib.ListN.{length, take, drop, set, getD, length-append, length-drop, length-set}
+use lib.Seq.{take-all, take-suc, length-take-le, drop-cons, set-at, append-snoc, sets, sets-eq, ext-getD, getD-append-add}
+
+-- s with p written over it from index i on
+unfoldable pub over : ℕ → List ℕ → List ℕ → List ℕ
+over i [] s = s
+over i (v ∷ p) s = over (i + 1) p (set s i v)
+
+-- f 0, f 1, .., f (n - 1)
+unfoldable pub tab : (ℕ → ℕ) → ℕ → List ℕ
+tab f zero = []
+tab f (suc n) = tab f n ++ (f n ∷ [])
+
+-- whether two lists are the same
+unfoldable pub same : List ℕ → List ℕ → Bool
+same [] [] = true
+same [] (b ∷ t) = false
+same (a ∷ s) [] = false
+same (a ∷ s) (b ∷ t) = eqb a b && same s t
+
+-- ---- laws of over
+
+pub length-over : (p s : List ℕ) (i : ℕ) → length (over i p s) ≡ length s
+unfolding over
+length-over [] s i = refl
+length-over (v ∷ p) s i = length-over p (set s i v) (i + 1) ∙ length-set s i v
+
+pub over-append : (p q : List ℕ) (i : ℕ) (s : List ℕ) → over i (p ++ q) s ≡ over (i + length p) q (over i p s)
+unfolding over
+over-append [] q i s = ap (λ (k : ℕ). over k q s) (sym (add-zero i))
+over-append (v ∷ p) q i s =
+    let e : i + 1 + length p ≡ i + length (v ∷ p) = omega arith in
+    over-append p q (i + 1) (set s i v) ∙ ap (λ (k : ℕ). over k q (over (i + 1) p (set s i v))) e
+
+-- what is written next, after the n elements of p
+pub over-next : (p q s t u : List ℕ) (i n : ℕ) → length p ≡ n → t ≡ over i p s → u ≡ over (i + n) q t → u ≡ over i (p ++ q) s
+over-next p q s t u i n l e f =
+    f ∙ ap (λ (x : List ℕ). over (i + n) q x) e ∙ ap (λ (k : ℕ). over (i + k) q (over i p s)) (sym l) ∙ sym (over-append p q i s)
+
+over-sets : (p s : List ℕ) (i : ℕ) → over i p s ≡ sets s i p
+unfolding over
+over-sets [] s i = refl
+over-sets (v ∷ p) s i = ap (λ (k : ℕ). over k p (set s i v)) (add-one i) ∙ over-sets p (set s i v) (suc i)
+
+-- where it fits, it stands between what was before it and what comes after
+pub over-eq : (p s : List ℕ) (i : ℕ) → i + length p ≤ length s → over i p s ≡ take i s ++ p ++ drop (i + length p) s
+over-eq p s i h = over-sets p s i ∙ sets-eq p s i h
+
+-- one element more of what is copied
+pub over-store : (src s t : List ℕ) (at i : ℕ) → i < length src → t ≡ over at (take i src) s
+    → set t (at + i) (getD src i 0) ≡ over at (take (i + 1) src) s
+unfolding over
+over-store src s t at i h e =
+    rw (add-one i, take-suc src i 0 h)
+    (over-next (take i src) (getD src i 0 ∷ []) s t (set t (at + i) (getD src i 0)) at i (length-take-le i src (omega arith)) e refl)
+
+-- ---- laws of tab
+
+pub length-tab : (f : ℕ → ℕ) (n : ℕ) → length (tab f n) ≡ n
+unfolding tab
+length-tab f zero = refl
+length-tab f (suc n) = length-append (tab f n) (f n ∷ []) ∙ ap (λ (k : ℕ). k + 1) (length-tab f n) ∙ add-one n
+
+-- one store more, over the start of d
+pub tab-more : (f : ℕ → ℕ) (n : ℕ) (d : List ℕ) → n < length d → set (tab f n ++ drop n d) n (f n) ≡ tab f (n + 1) ++ drop (n + 1) d
+unfolding tab
+tab-more f n d h =
+    rw (add-one n, drop-cons d n 0 h) (set-at (tab f n) (getD d n 0) (drop (suc n) d) (f n) n (length-tab f n) ∙ sym (append-snoc (tab f n) (f n) (drop (suc n) d)))
+
+-- ---- laws of same
+
+pub same-more : (a b : List ℕ) (i : ℕ) → i < length a → i < length b
+    → same (take (i + 1) a) (take (i + 1) b) ≡ same (take i a) (take i b) && eqb (getD a i 0) (getD b i 0)
+unfolding same
+same-more a b i h k = rw (add-one i) (go a b i h k)
+  where
+    go : (a b : List ℕ) (i : ℕ) → i < length a → i < length b → same (take (suc i) a) (take (suc i) b) ≡ same (take i a) (take i b) && eqb (getD a i 0) (getD b i 0)
+    go [] b i h k = absurd (omega arith)
+    go (x ∷ a) [] i h k = absurd (omega arith)
+    go (x ∷ a) (y ∷ b) zero h k = and-true (eqb x y)
+    go (x ∷ a) (y ∷ b) (suc i) h k = ap (λ (c : Bool). eqb x y && c) (go a b i (omega arith) (omega arith)) ∙ sym (and-assoc (eqb x y) (same (take i a) (take i b)) (eqb (getD a i 0) (getD b i 0)))
+
+pub same-whole : (a b : List ℕ) (i : ℕ) → i ≡ length a → i ≡ length b → same (take i a) (take i b) ≡ same a b
+same-whole a b i h k = ap₂ same (take-all i a (omega arith)) (take-all i b (omega arith))
+
+pub same-unequal : (a b : List ℕ) → (length a ≡ length b → ⊥) → same a b ≡ false
+unfolding same
+same-unequal [] [] h = absurd (h refl)
+same-unequal [] (y ∷ b) h = refl
+same-unequal (x ∷ a) [] h = refl
+same-unequal (x ∷ a) (y ∷ b) h = ap (λ (c : Bool). eqb x y && c) (same-unequal a b (λ e. h (ap suc e))) ∙ and-false (eqb x y)
+
+-- what the test says
+pub same-eq : (a b : List ℕ) → same a b ≡ true → a ≡ b
+unfolding same
+same-eq [] [] h = refl
+same-eq [] (y ∷ b) h = absurd (subst T (sym h) tt)
+same-eq (x ∷ a) [] h = absurd (subst T (sym h) tt)
+same-eq (x ∷ a) (y ∷ b) h = go (eqb x y) refl h (same-eq a b)
+  where
+    go : (c : Bool) → eqb x y ≡ c → c && same a b ≡ true → (same a b ≡ true → a ≡ b) → _≡_ {A = List ℕ} (x ∷ a) (y ∷ b)
+    go true e h f = ap₂ (λ (u : ℕ) (v : List ℕ). u ∷ v) (eqb→eq x y (subst T (sym e) tt)) (f h)
+    go false e h f = absurd (subst T (sym h) tt)
+
+pub same-refl : (a : List ℕ) → same a a ≡ true
+unfolding same
+same-refl [] = refl
+same-refl (x ∷ a) = ap₂ _&&_ (is-true (eqb x x) (eqb-refl x)) (same-refl a)
+  where
+    is-true : (c : Bool) → T c → c ≡ true
+    is-true true t = refl
