@@ -1,9 +1,11 @@
 -- Words as bytes, little-endian (01, "Measures"; RFC 8439, 2.3), and the rotation of a word (RFC 8439, 2.1). Assumes nothing.
 use mathlib.Core.Path.{_≡_, refl, sym, ap, _∙_}
-use mathlib.Core.List.{List, [], _∷_, _++_, append-assoc}
-use Prim.Native.Nat.{ℕ, zero, suc, _+_, _-_, _*_, _/_, _%_, _^_}
+use mathlib.Core.List.{List, [], _∷_, _++_, append-assoc, append-nil}
+use Prim.Native.Nat.{ℕ, zero, suc, _+_, _-_, _*_, _/_, _%_, _^_, _<_}
 use native.Mathlib.Omega.{arith}
+use native.Mathlib.Numerals.{add-one}
 use lib.ListN.{length, getD}
+use Rattle.words.specs.List.{tab, length-tab, over, over-next}
 
 -- a word rotated left by n bits
 unfoldable pub rotl : ℕ → ℕ → ℕ
@@ -22,6 +24,10 @@ bytesOf (x ∷ s) = le32 x ++ bytesOf s
 unfoldable pub wordAt : List ℕ → ℕ → ℕ
 wordAt b i = getD b i 0 + getD b (i + 1) 0 * 2 ^ 8 + getD b (i + 2) 0 * 2 ^ 16 + getD b (i + 3) 0 * 2 ^ 24
 
+-- the first n words of a list of bytes
+unfoldable pub wordsAt : ℕ → List ℕ → List ℕ
+wordsAt n b = tab (λ i. wordAt b (4 * i)) n
+
 -- ---- laws
 
 pub bytesOf-append : (p q : List ℕ) → bytesOf (p ++ q) ≡ bytesOf p ++ bytesOf q
@@ -33,3 +39,24 @@ pub length-bytesOf : (p : List ℕ) → length (bytesOf p) ≡ 4 * length p
 unfolding bytesOf le32
 length-bytesOf [] = refl
 length-bytesOf (x ∷ p) = omega (arith, length-bytesOf p)
+
+-- byte i of some words is a byte of one of them
+pub getD-bytesOf : (w : List ℕ) (i : ℕ) → i < 4 * length w → getD (bytesOf w) i 0 ≡ getD (le32 (getD w (i / 4) 0)) (i % 4) 0
+unfolding bytesOf le32
+getD-bytesOf [] i h = absurd (omega arith)
+getD-bytesOf (x ∷ w) zero h = refl
+getD-bytesOf (x ∷ w) (suc zero) h = refl
+getD-bytesOf (x ∷ w) (suc (suc zero)) h = refl
+getD-bytesOf (x ∷ w) (suc (suc (suc zero))) h = refl
+getD-bytesOf (x ∷ w) (suc (suc (suc (suc i)))) h =
+    let q : suc (suc (suc (suc i))) / 4 ≡ suc (i / 4) = omega arith in
+    let r : suc (suc (suc (suc i))) % 4 ≡ i % 4 = omega arith in
+    rw (q, r) (getD-bytesOf w i (omega arith))
+
+-- one word more of those that are stored from `at` on
+pub over-word : (g : ℕ → ℕ) (s t u : List ℕ) (at i : ℕ) → t ≡ over at (bytesOf (tab g i)) s → u ≡ over (at + 4 * i) (le32 (g i)) t
+    → u ≡ over at (bytesOf (tab g (i + 1))) s
+unfolding tab bytesOf
+over-word g s t u at i e f =
+    let l : length (bytesOf (tab g i)) ≡ 4 * i = length-bytesOf (tab g i) ∙ ap (λ (k : ℕ). 4 * k) (length-tab g i) in
+    rw (add-one i, bytesOf-append (tab g i) (g i ∷ []), append-nil (le32 (g i))) (over-next (bytesOf (tab g i)) (le32 (g i)) s t u at (4 * i) l e f)

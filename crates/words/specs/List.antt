@@ -6,9 +6,10 @@ use Prim.Native.Nat.{ℕ, zero, suc, _+_, _-_, _≤_, _<_}
 use native.Mathlib.Nat.{add-zero, add-suc, suc-add}
 use native.Mathlib.Numerals.{add-one}
 use native.Mathlib.Omega.{arith}
-use lib.Dec.{T, eqb, eqb→eq, eqb-refl}
-use lib.ListN.{length, take, drop, set, getD, length-append, length-drop, length-set}
-use lib.Seq.{take-all, take-suc, length-take-le, drop-cons, set-at, append-snoc, sets, sets-eq, ext-getD, getD-append-add}
+use borrow.Author.Tests.{ltb-true, ltb-false}
+use lib.Dec.{T, eqb, ltb, eqb→eq, eqb-refl}
+use lib.ListN.{length, take, drop, set, getD, length-append, length-drop, length-set, List·getD-append, drop-of-length-le}
+use lib.Seq.{getD-drop, take-at, drop-at, getD-at, drop-drop, getD-set-other, take-all, take-suc, length-take-le, drop-cons, set-at, append-snoc, sets, sets-eq, ext-getD, getD-append-add}
 
 -- s with p written over it from index i on
 unfoldable pub over : ℕ → List ℕ → List ℕ → List ℕ
@@ -75,6 +76,69 @@ pub tab-more : (f : ℕ → ℕ) (n : ℕ) (d : List ℕ) → n < length d → s
 unfolding tab
 tab-more f n d h =
     rw (add-one n, drop-cons d n 0 h) (set-at (tab f n) (getD d n 0) (drop (suc n) d) (f n) n (length-tab f n) ∙ sym (append-snoc (tab f n) (f n) (drop (suc n) d)))
+
+pub tab-ext : (f g : ℕ → ℕ) (n : ℕ) → ((i : ℕ) → i < n → f i ≡ g i) → tab f n ≡ tab g n
+unfolding tab
+tab-ext f g zero h = refl
+tab-ext f g (suc n) h = ap₂ (λ (l : List ℕ) (x : ℕ). l ++ (x ∷ [])) (tab-ext f g n (λ i k. h i (omega arith))) (h n (omega arith))
+
+pub tab-add : (f : ℕ → ℕ) (a b : ℕ) → tab f (a + b) ≡ tab f a ++ tab (λ i. f (a + i)) b
+unfolding tab
+tab-add f a zero = rw (add-zero a) (sym (append-nil (tab f a)))
+tab-add f a (suc b) = rw (add-suc a b) (ap (λ (l : List ℕ). l ++ (f (a + b) ∷ [])) (tab-add f a b) ∙ append-assoc (tab f a) (tab (λ i. f (a + i)) b) (f (a + b) ∷ []))
+
+pub getD-tab : (f : ℕ → ℕ) (n i : ℕ) → i < n → getD (tab f n) i 0 ≡ f i
+unfolding tab
+getD-tab f zero i h = absurd (omega arith)
+getD-tab f (suc n) i h = go (ltb i n) refl (getD-tab f n i)
+  where
+    go : (b : Bool) → ltb i n ≡ b → (i < n → getD (tab f n) i 0 ≡ f i) → getD (tab f n ++ (f n ∷ [])) i 0 ≡ f i
+    go true e ih = let l : i < n = ltb-true i n e in List·getD-append (tab f n) (f n ∷ []) 0 i (rw (length-tab f n) l) ∙ ih l
+    go false e ih =
+        let same : i ≡ n = omega (arith, ltb-false i n e) in
+        rw same (getD-at (tab f n) (f n) [] 0 n (length-tab f n))
+
+pub take-tab : (f : ℕ → ℕ) (k n : ℕ) → k ≤ n → take k (tab f n) ≡ tab f k
+take-tab f k n h =
+    let whole : k + (n - k) ≡ n = omega arith in
+    ap (λ (m : ℕ). take k (tab f m)) (sym whole) ∙ ap (take k) (tab-add f k (n - k)) ∙ take-at (tab f k) (tab (λ i. f (k + i)) (n - k)) k (length-tab f k)
+
+-- one element more of what is written over s from `at` on
+pub over-tab : (g : ℕ → ℕ) (s t : List ℕ) (at i : ℕ) → t ≡ over at (tab g i) s → set t (at + i) (g i) ≡ over at (tab g (i + 1)) s
+unfolding over tab
+over-tab g s t at i e = rw (add-one i) (over-next (tab g i) (g i ∷ []) s t (set t (at + i) (g i)) at i (length-tab g i) e refl)
+
+-- what is past p is as it was
+pub getD-over : (p s : List ℕ) (i j : ℕ) → i + length p ≤ j → getD (over i p s) j 0 ≡ getD s j 0
+unfolding over
+getD-over [] s i j h = refl
+getD-over (v ∷ p) s i j h = getD-over p (set s i v) (i + 1) j (omega arith) ∙ getD-set-other s i j v 0 (λ e. omega arith)
+
+-- the next k elements of what a rule makes over the start of d
+pub tab-chunk : (f g : ℕ → ℕ) (d s t : List ℕ) (at k : ℕ) → at + k ≤ length d → s ≡ tab f at ++ drop at d → t ≡ over at (tab g k) s
+    → ((i : ℕ) → i < k → g i ≡ f (at + i)) → t ≡ tab f (at + k) ++ drop (at + k) d
+tab-chunk f g d s t at k fits es et same =
+    let ls : length s ≡ length d = ap length es ∙ length-append (tab f at) (drop at d) ∙ omega (arith, length-tab f at, length-drop at d) in
+    let lp : length (tab g k) ≡ k = length-tab g k in
+    let front : take at s ≡ tab f at = ap (take at) es ∙ take-at (tab f at) (drop at d) at (length-tab f at) in
+    let past : drop (at + k) s ≡ drop (at + k) d = sym (drop-drop k at s) ∙ ap (λ (l : List ℕ). drop k (drop at l)) es ∙ ap (drop k) (drop-at (tab f at) (drop at d) at (length-tab f at)) ∙ drop-drop k at d in
+    et ∙ over-eq (tab g k) s at (omega arith)
+    ∙ ap₂ (λ (a b : List ℕ). a ++ b)
+    (ap₂ (λ (a b : List ℕ). a ++ b) front (tab-ext g (λ i. f (at + i)) k same) ∙ sym (tab-add f at k))
+    (ap (λ (n : ℕ). drop (at + n) s) lp ∙ past)
+
+-- what a rule has not reached yet is as it was
+pub getD-rest : (f : ℕ → ℕ) (d : List ℕ) (i j : ℕ) → i ≤ j → getD (tab f i ++ drop i d) j 0 ≡ getD d j 0
+getD-rest f d i j h =
+    let whole : i + (j - i) ≡ j = omega arith in
+    ap (λ (k : ℕ). getD (tab f i ++ drop i d) k 0) (sym whole)
+    ∙ ap (λ (k : ℕ). getD (tab f i ++ drop i d) (k + (j - i)) 0) (sym (length-tab f i))
+    ∙ getD-append-add (tab f i) (drop i d) (j - i) 0 ∙ getD-drop i d (j - i) 0 ∙ ap (λ (k : ℕ). getD d k 0) whole
+
+-- what is written over all of a list
+pub over-all : (p s : List ℕ) → length p ≡ length s → over 0 p s ≡ p
+over-all p s h =
+    over-eq p s 0 (omega arith) ∙ ap (λ (l : List ℕ). p ++ l) (drop-of-length-le s {i = 0 + length p} (omega arith)) ∙ append-nil p
 
 -- ---- laws of same
 

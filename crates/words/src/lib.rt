@@ -2,7 +2,7 @@
 // differences and products are taken modulo 2^32, and words are stored little-endian (01,
 // "Measures").
 ghost use mathlib.Core.Path.{_≡_};
-ghost use Prim.Native.Nat.{_+_, _<_, _≤_};
+ghost use Prim.Native.Nat.{_+_, _<_, _≤_, min};
 ghost use lib.ListN.{length};
 ghost use Rattle.algebra.specs.Word.{add as addOf, sub as subOf, mul as mulOf};
 ghost use Rattle.words.specs.List.{over, same};
@@ -87,4 +87,10 @@ pub fn equal(a: &[u8], b: &[u8]) -> bool
         i += 1;
     }
     all
+}
+
+pub fn least(a: usize, b: usize) -> usize
+    ensures { λ r. ⌜ r ≡ min a b ⌝ }
+{
+    if a < b { a } else { b }
 }

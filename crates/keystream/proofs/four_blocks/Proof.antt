@@ -1,0 +1,58 @@
+use borrow.Author.Needs.{needs}
+use mathlib.Core.Path.{_≡_, refl, sym, ap, _∙_}
+use Prim.Native.Nat.{ℕ, _≤_, _<_, _-_, _+_, _*_}
+use native.Mathlib.Omega.{arith}
+use mathlib.Core.List.{map}
+use Rattle.chacha20.specs.ChaCha20.{rounds, blockFrom}
+use Rattle.keystream.specs.Lanes.{rows}
+use Rattle.keystream.proofs.Lanes.{added-rows, rounds-more}
+use Rattle.keystream.proofs.four_blocks.Statement.{statement}
+use Rattle.keystream.proofs.four_blocks.Tie as tie
+use Rattle.keystream.proofs.four_blocks.Reads as reads
+use Rattle.keystream.proofs.four_blocks.Lts as lts
+use Rattle.keystream.proofs.add_words.Reads as add-words-reads
+use Rattle.keystream.proofs.double_rounds.Reads as double-rounds-reads
+
+abbrev Inv-loop : tie.InvT-loop
+Inv-loop x₀ y i₀ x i = (i ≤ 10) × (rows x ≡ map (rounds i) (rows y))
+
+abbrev μ-loop : tie.MeasureT-loop
+μ-loop x₀ y i₀ x i = 10 - i
+
+loop-holds : tie.Need-loop-holds Inv-loop μ-loop
+unfolding rounds rows
+loop-holds c = (search needs, refl)
+
+double-rounds-requires : tie.Need-double-rounds-requires Inv-loop μ-loop
+double-rounds-requires c κs = search needs
+
+add-i : tie.Need-add-i Inv-loop μ-loop
+add-i c = search needs
+
+loop-less : tie.Need-loop-less Inv-loop μ-loop
+loop-less c = search needs
+
+loop-again : tie.Need-loop-again Inv-loop μ-loop
+loop-again c = (search needs, rounds-more _ _ _ _ (c .before .before .before .loop .inv .1) (c .double-rounds .ensures))
+
+add-words-requires : tie.Need-add-words-requires Inv-loop μ-loop
+add-words-requires c κs = search needs
+
+returns : tie.Need-returns Inv-loop μ-loop
+returns c =
+    let done : c .before .before .before .before .loop .i ≡ 10 = omega arith in
+    ap rows (c .add-words .ensures) ∙ added-rows _ _ (rw done at (c .before .before .before .before .loop .inv .1))
+
+pub four-blocks-spec : {M : Type 1} → statement M
+four-blocks-spec =
+    tie.close
+    (tie.spec
+    Inv-loop
+    μ-loop
+    loop-holds
+    double-rounds-requires
+    add-i
+    loop-less
+    loop-again
+    add-words-requires
+    returns)

@@ -1,0 +1,23 @@
+use borrow.Author.Needs.{needs}
+use mathlib.Core.Path.{_≡_, ap, _∙_}
+use mathlib.Core.List.{map}
+use Rattle.chacha20.specs.ChaCha20.{blockFrom}
+use Rattle.keystream.proofs.Lanes.{blocks-of-starts}
+use Rattle.keystream.proofs.next_blocks.Statement.{statement}
+use Rattle.keystream.proofs.next_blocks.Tie as tie
+use Rattle.keystream.proofs.next_blocks.Reads as reads
+use Rattle.keystream.proofs.next_blocks.Lts as lts
+use Rattle.keystream.proofs.four_blocks.Reads as four-blocks-reads
+use Rattle.keystream.proofs.four_starts.Reads as four-starts-reads
+
+four-starts-requires : tie.Need-four-starts-requires
+four-starts-requires c κs = search needs
+
+four-blocks-requires : tie.Need-four-blocks-requires
+four-blocks-requires c κs = search needs
+
+returns : tie.Need-returns
+returns c = c .four-blocks .ensures ∙ ap (map blockFrom) (c .before .before .four-starts .ensures) ∙ blocks-of-starts _ _ _
+
+pub next-blocks-spec : {M : Type 1} → statement M
+next-blocks-spec = tie.close (tie.spec four-starts-requires four-blocks-requires returns)

@@ -1,0 +1,88 @@
+use borrow.Author.Needs.{needs}
+use mathlib.Core.Path.{_≡_, refl, sym, ap, _∙_}
+use Prim.Native.Nat.{ℕ, _≤_, _<_, _-_, _+_, _*_, min}
+use native.Mathlib.Omega.{arith}
+use lib.Bits.{bitXor}
+use lib.ListN.{length, getD, length-set}
+use Rattle.words.specs.List.{over, tab, over-tab, getD-over, length-tab}
+use Rattle.keystream.proofs.xor_part.Statement.{statement}
+use Rattle.keystream.proofs.xor_part.Tie as tie
+use Rattle.keystream.proofs.xor_part.Reads as reads
+use Rattle.keystream.proofs.xor_part.Lts as lts
+use Rattle.words.proofs.least.Reads as least-reads
+
+abbrev Inv-loop : tie.InvT-loop
+Inv-loop bytes₀ at b n i₀ bytes i = (i ≤ n) × (bytes ≡ over at (tab (λ i. bitXor (getD bytes₀ (at + i) 0) (getD b i 0)) i) bytes₀) × (length bytes ≡ length bytes₀)
+
+abbrev μ-loop : tie.MeasureT-loop
+μ-loop bytes₀ at b n i₀ bytes i = n - i
+
+sub-least : tie.Need-sub-least Inv-loop μ-loop
+sub-least c = search needs
+
+least-requires : tie.Need-least-requires Inv-loop μ-loop
+least-requires c κs = search needs
+
+loop-holds : tie.Need-loop-holds Inv-loop μ-loop
+unfolding over tab
+loop-holds c = (search needs, refl, refl)
+
+add-bytes : tie.Need-add-bytes Inv-loop μ-loop
+add-bytes c = search needs
+
+slice-read-bytes : tie.Need-slice-read-bytes Inv-loop μ-loop
+slice-read-bytes c = search needs
+
+element-copy-out-bytes : tie.Need-element-copy-out-bytes Inv-loop μ-loop
+element-copy-out-bytes c = search needs
+
+add-bytes-2 : tie.Need-add-bytes-2 Inv-loop μ-loop
+add-bytes-2 c = search needs
+
+slice-write-bytes : tie.Need-slice-write-bytes Inv-loop μ-loop
+slice-write-bytes c = search needs
+
+add-i : tie.Need-add-i Inv-loop μ-loop
+add-i c = search needs
+
+loop-less : tie.Need-loop-less Inv-loop μ-loop
+loop-less c = search needs
+
+loop-again : tie.Need-loop-again Inv-loop μ-loop
+loop-again c =
+    let b = c .before .before .before .before .before .before .args .b .now in
+    let s = c .before .before .before .before .before .before .args .bytes .now in
+    let at = c .before .before .before .before .before .before .args .at in
+    let i = c .before .before .before .loop .i in
+    let rule : ℕ → ℕ = λ i. bitXor (getD s (at + i) 0) (getD b i 0) in
+    let here : getD (c .before .before .before .loop .bytes) (at + i) 0 ≡ getD s (at + i) 0 =
+    ap (λ l. getD l (at + i) 0) (c .before .before .before .loop .inv .1) ∙ getD-over (tab rule i) s at (at + i) (omega (arith, length-tab rule i)) in
+    (search needs, rw here (over-tab rule _ _ _ _ (c .before .before .before .loop .inv .1)), simp length-set (omega arith))
+
+same-length : tie.Need-same-length Inv-loop μ-loop
+same-length c = search needs
+
+returns : tie.Need-returns Inv-loop μ-loop
+returns c =
+    let done : c .before .loop .i ≡ min 256 (length (c .before .before .before .before .args .bytes .now) - c .before .before .before .before .args .at) = omega (arith, c .before .before .least .ensures) in
+    rw done at (c .before .loop .inv .1)
+
+pub xor-part-spec : {M : Type 1} → statement M
+xor-part-spec =
+    tie.close
+    (tie.spec
+    Inv-loop
+    μ-loop
+    sub-least
+    least-requires
+    loop-holds
+    add-bytes
+    slice-read-bytes
+    element-copy-out-bytes
+    add-bytes-2
+    slice-write-bytes
+    add-i
+    loop-less
+    loop-again
+    same-length
+    returns)
