@@ -1,9 +1,9 @@
 -- Congruence of natural numbers modulo m, and its laws; modulo 0 it is equality.
 -- Assumes nothing.
 use mathlib.Core.Path.{_≡_, refl, sym, ap, ap₂, _∙_, subst}
-use mathlib.Core.Bool.{Bool, true, false}
-use Prim.Native.Nat.{ℕ, zero, suc, _+_, _*_, _-_, _%_, _/_, _≤_, _<_}
-use native.Mathlib.Nat.{add-zero, zero-add, add-assoc, mul-comm, mod-mod, mod-zero, zero-mod, mul-mod-left, mul-mod-right, add-mod, mod-add-div', add-mul-mod-self-right, mod-eq-of-lt}
+use mathlib.Core.Bool.{true}
+use Prim.Native.Nat.{ℕ, zero, suc, _+_, _*_, _-_, _%_, _/_, _<_}
+use native.Mathlib.Nat.{add-zero, add-assoc, mul-comm, mod-mod, mod-zero, zero-mod, mul-mod-left, mul-mod-right, add-mod, mod-add-div', add-mul-mod-self-right, mod-eq-of-lt}
 use native.Mathlib.Omega.{arith}
 use lib.Dec.{T, ltb}
 

@@ -5,11 +5,11 @@ use mathlib.Core.Path.{_≡_, refl, sym, ap, ap₂, _∙_, subst}
 use mathlib.Core.Bool.{Bool, true, false}
 use mathlib.Core.List.{List, [], _∷_}
 use Prim.Native.Nat.{ℕ, zero, suc, _+_, _*_, _-_, _%_, min, compare, Ordering, Ordering·lt, Ordering·eq, Ordering·gt}
-use native.Mathlib.Nat.{add-zero, zero-add, add-assoc, add-comm, add-left-comm, mul-zero, zero-mul, mul-one, one-mul, mul-assoc, mul-left-comm, add-mul}
+use native.Mathlib.Nat.{zero-add, add-assoc, add-comm, add-left-comm, mul-zero, zero-mul, one-mul, mul-assoc, mul-left-comm, add-mul}
 use native.Mathlib.Omega.{arith}
-use lib.Dec.{T, eqb, leb, ltb, isEq, eqb→eq}
+use lib.Dec.{T, eqb, leb, isEq, eqb→eq}
 use lib.ListN.{getD}
-use Rattle.algebra.specs.Mod.{Mod, m-refl, m-eq, m-sym, m-trans, m-add, m-mul, m-by, m-cancel, neg-self, neg-twice, Under, under-mul}
+use Rattle.algebra.specs.Mod.{Mod, m-refl, m-eq, m-sym, m-trans, m-add, m-mul, m-cancel, neg-self, neg-twice, Under, under-mul}
 
 infixl 65 _⊕_
 infixl 70 _⊗_

@@ -1,9 +1,9 @@
 -- THE RING TACTIC. `ring (x ∷ y ∷ []) (search reify depth 20 fits 5000) refl` proves `Mod k a b`, for a numeral k, where a and b are sums,
 -- products and differences of x, y and numerals; k = 0 means as they stand. A hypothesis `Mod k v w` in scope defines v.
 -- Assumes nothing.
-use mathlib.Core.Path.{_≡_, refl, sym, ap, _∙_}
+use mathlib.Core.Path.{_≡_, refl, _∙_}
 use mathlib.Core.Bool.{true}
-use mathlib.Core.List.{List, [], _∷_}
+use mathlib.Core.List.{List, _∷_}
 use Prim.Native.Nat.{ℕ, zero, suc, _+_, _*_, _-_, _%_, _≤_}
 use native.Mathlib.Nat.{sub-add-cancel}
 use native.Mathlib.Omega.{arith}

@@ -1,16 +1,15 @@
 -- Words: numbers below 2^32, whose sums, differences and products are taken modulo 2^32 (01, "Measures"); and how the ring tactic reads them.
 -- `ring (x ∷ y ∷ []) (search words depth 40 fits 5000) refl` proves `a ≈ b`. Assumes nothing.
-use mathlib.Core.Path.{_≡_, refl, sym, ap, _∙_}
+use mathlib.Core.Path.{_≡_, refl, sym}
 use mathlib.Core.Bool.{Bool, true, false, cond}
-use mathlib.Core.List.{List, [], _∷_}
-use Prim.Native.Nat.{ℕ, zero, suc, _+_, _*_, _-_, _%_, _/_, _^_, _≤_, _<_}
-use native.Mathlib.Nat.{mod-eq-of-lt}
+use mathlib.Core.List.{List}
+use Prim.Native.Nat.{ℕ, _+_, _*_, _-_, _%_, _^_, _<_}
 use native.Mathlib.Omega.{arith}
 use lib.Dec.{ltb}
-use lib.IntN.{ℤ, pos, negsuc, negℤ, _+ℤ_, _-ℤ_, _*ℤ_}
-use Rattle.algebra.specs.Mod.{Mod, m-refl, m-eq, m-of, m-is, m-sym, m-trans, m-add, m-mul, m-mod, m-sub, m-word, m-words, m-cancel, neg-self, under-mod}
-use Rattle.algebra.specs.Normal.{_⊕_, _⊗_, ⊖, con}
-use Rattle.algebra.specs.Ring.{Read, ring, reify}
+use lib.IntN.{ℤ, pos, negℤ, _-ℤ_}
+use Rattle.algebra.specs.Mod.{Mod, m-refl, m-eq, m-of, m-sym, m-trans, m-add, m-mul, m-mod, m-sub, m-words, m-cancel, neg-self, under-mod}
+use Rattle.algebra.specs.Normal.{_⊕_, _⊗_, con}
+use Rattle.algebra.specs.Ring.{Read, reify}
 use Rattle.algebra.specs.Integer.{residue, residue-pos, residue-add, residues}
 
 unfoldable pub add : ℕ → ℕ → ℕ

@@ -3,13 +3,13 @@ use mathlib.Core.Path.{_≡_, refl, sym, ap, ap₂, _∙_, subst}
 use mathlib.Core.Bool.{Bool, true, false, _&&_, and-true, and-false, and-assoc}
 use mathlib.Core.List.{List, [], _∷_, _++_, append-assoc, append-nil}
 use Prim.Native.Nat.{ℕ, zero, suc, _+_, _-_, _≤_, _<_}
-use native.Mathlib.Nat.{add-zero, add-suc, suc-add}
+use native.Mathlib.Nat.{add-zero, add-suc}
 use native.Mathlib.Numerals.{add-one}
 use native.Mathlib.Omega.{arith}
 use borrow.Author.Tests.{ltb-true, ltb-false}
 use lib.Dec.{T, eqb, ltb, eqb→eq, eqb-refl}
 use lib.ListN.{length, take, drop, set, getD, length-append, length-drop, length-set, List·getD-append, drop-of-length-le}
-use lib.Seq.{getD-drop, take-at, drop-at, getD-at, drop-drop, getD-set-other, take-all, take-suc, length-take-le, drop-cons, set-at, append-snoc, sets, sets-eq, ext-getD, getD-append-add}
+use lib.Seq.{getD-drop, take-at, drop-at, getD-at, drop-drop, getD-set-other, take-all, take-suc, length-take-le, drop-cons, set-at, append-snoc, sets, sets-eq, getD-append-add}
 
 -- s with p written over it from index i on
 unfoldable pub over : ℕ → List ℕ → List ℕ → List ℕ

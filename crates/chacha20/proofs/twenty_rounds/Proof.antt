@@ -1,7 +1,7 @@
 use Rattle.chacha20.specs.ChaCha20.{words, columnRound, diagonalRound, doubleRound, rounds}
 use borrow.Author.Needs.{needs}
 use mathlib.Core.Path.{_≡_, refl, ap, _∙_}
-use Prim.Native.Nat.{ℕ, _≤_, _-_}
+use Prim.Native.Nat.{_≤_, _-_}
 use native.Mathlib.Numerals.{add-one}
 use native.Mathlib.Omega.{arith}
 use Rattle.chacha20.proofs.twenty_rounds.Statement.{statement}

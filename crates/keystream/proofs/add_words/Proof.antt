@@ -1,6 +1,6 @@
 use borrow.Author.Needs.{needs}
-use mathlib.Core.Path.{_≡_, refl, sym, ap, _∙_}
-use Prim.Native.Nat.{ℕ, _≤_, _<_, _-_, _+_, _*_}
+use mathlib.Core.Path.{_≡_, refl, ap, _∙_}
+use Prim.Native.Nat.{ℕ, _≤_, _-_}
 use native.Mathlib.Omega.{arith}
 use mathlib.Core.List.{_++_, append-nil}
 use lib.ListN.{length, drop, getD, length-set, drop-of-length-le}
@@ -8,9 +8,6 @@ use Rattle.algebra.specs.Word.{add}
 use Rattle.words.specs.List.{tab, tab-more, getD-rest}
 use Rattle.keystream.proofs.add_words.Statement.{statement}
 use Rattle.keystream.proofs.add_words.Tie as tie
-use Rattle.keystream.proofs.add_words.Reads as reads
-use Rattle.keystream.proofs.add_words.Lts as lts
-use Rattle.words.proofs.add.Reads as add-reads
 
 abbrev Inv-loop : tie.InvT-loop
 Inv-loop x₀ y i₀ x i = (i ≤ 64) × (x ≡ tab (λ i. add (getD x₀ i 0) (getD y i 0)) i ++ drop i x₀) × (length x ≡ length x₀)

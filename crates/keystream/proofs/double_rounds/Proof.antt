@@ -1,6 +1,6 @@
 use borrow.Author.Needs.{needs}
-use mathlib.Core.Path.{_≡_, refl, sym, ap, _∙_}
-use Prim.Native.Nat.{ℕ, _≤_, _<_, _-_, _+_, _*_}
+use mathlib.Core.Path.{_≡_, refl, ap, _∙_}
+use Prim.Native.Nat.{_≤_, _-_}
 use native.Mathlib.Omega.{arith}
 use mathlib.Core.List.{map}
 use Rattle.chacha20.specs.ChaCha20.{columnRound, diagonalRound, doubleRound}
@@ -8,12 +8,6 @@ use Rattle.keystream.specs.Lanes.{rows}
 use Rattle.keystream.proofs.Lanes.{upTo, round-more}
 use Rattle.keystream.proofs.double_rounds.Statement.{statement}
 use Rattle.keystream.proofs.double_rounds.Tie as tie
-use Rattle.keystream.proofs.double_rounds.Reads as reads
-use Rattle.keystream.proofs.double_rounds.Lts as lts
-use Rattle.chacha20.proofs.column_round.Reads as column-round-reads
-use Rattle.chacha20.proofs.diagonal_round.Reads as diagonal-round-reads
-use Rattle.keystream.proofs.lane.Reads as lane-reads
-use Rattle.keystream.proofs.set_lane.Reads as set-lane-reads
 
 abbrev Inv-loop : tie.InvT-loop
 Inv-loop x₀ l₀ x l = (l ≤ 4) × (rows x ≡ upTo l (map doubleRound (rows x₀)) (rows x₀))

@@ -1,17 +1,13 @@
 use borrow.Author.Needs.{needs}
-use mathlib.Core.Path.{_≡_, refl, sym, ap, _∙_}
-use Prim.Native.Nat.{ℕ, _≤_, _<_, _-_, _+_, _*_}
+use mathlib.Core.Path.{_≡_, refl, ap, _∙_}
+use Prim.Native.Nat.{_≤_, _-_}
 use native.Mathlib.Omega.{arith}
 use mathlib.Core.List.{map}
-use Rattle.chacha20.specs.ChaCha20.{rounds, blockFrom}
+use Rattle.chacha20.specs.ChaCha20.{rounds}
 use Rattle.keystream.specs.Lanes.{rows}
 use Rattle.keystream.proofs.Lanes.{added-rows, rounds-more}
 use Rattle.keystream.proofs.four_blocks.Statement.{statement}
 use Rattle.keystream.proofs.four_blocks.Tie as tie
-use Rattle.keystream.proofs.four_blocks.Reads as reads
-use Rattle.keystream.proofs.four_blocks.Lts as lts
-use Rattle.keystream.proofs.add_words.Reads as add-words-reads
-use Rattle.keystream.proofs.double_rounds.Reads as double-rounds-reads
 
 abbrev Inv-loop : tie.InvT-loop
 Inv-loop x₀ y i₀ x i = (i ≤ 10) × (rows x ≡ map (rounds i) (rows y))

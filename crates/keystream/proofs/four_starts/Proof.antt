@@ -1,17 +1,12 @@
 use borrow.Author.Needs.{needs}
-use mathlib.Core.Path.{_≡_, refl, sym, ap, _∙_}
-use Prim.Native.Nat.{ℕ, _≤_, _<_, _-_, _+_, _*_}
+use mathlib.Core.Path.{_≡_, refl}
+use Prim.Native.Nat.{_≤_, _-_}
 use native.Mathlib.Omega.{arith}
 use Rattle.algebra.specs.Word.{add}
 use Rattle.keystream.specs.Lanes.{rows, starts}
 use Rattle.keystream.proofs.Lanes.{upTo, start-more}
 use Rattle.keystream.proofs.four_starts.Statement.{statement}
 use Rattle.keystream.proofs.four_starts.Tie as tie
-use Rattle.keystream.proofs.four_starts.Reads as reads
-use Rattle.keystream.proofs.four_starts.Lts as lts
-use Rattle.chacha20.proofs.start.Reads as start-reads
-use Rattle.keystream.proofs.set_lane.Reads as set-lane-reads
-use Rattle.words.proofs.add.Reads as add-reads
 
 abbrev Inv-loop : tie.InvT-loop
 Inv-loop x₀ key counter nonce n₀ l₀ x n l = (l ≤ 4) × (n ≡ add counter l) × (rows x ≡ upTo l (starts key counter nonce) (rows x₀))

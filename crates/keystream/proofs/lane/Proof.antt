@@ -2,8 +2,6 @@ use Rattle.keystream.proofs.Lanes.{read-row}
 use borrow.Author.Needs.{needs}
 use Rattle.keystream.proofs.lane.Statement.{statement}
 use Rattle.keystream.proofs.lane.Tie as tie
-use Rattle.keystream.proofs.lane.Reads as reads
-use Rattle.keystream.proofs.lane.Lts as lts
 
 mul-t3 : tie.Need-mul-t3
 mul-t3 c = search needs

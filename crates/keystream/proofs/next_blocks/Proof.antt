@@ -1,14 +1,10 @@
 use borrow.Author.Needs.{needs}
-use mathlib.Core.Path.{_≡_, ap, _∙_}
+use mathlib.Core.Path.{ap, _∙_}
 use mathlib.Core.List.{map}
 use Rattle.chacha20.specs.ChaCha20.{blockFrom}
 use Rattle.keystream.proofs.Lanes.{blocks-of-starts}
 use Rattle.keystream.proofs.next_blocks.Statement.{statement}
 use Rattle.keystream.proofs.next_blocks.Tie as tie
-use Rattle.keystream.proofs.next_blocks.Reads as reads
-use Rattle.keystream.proofs.next_blocks.Lts as lts
-use Rattle.keystream.proofs.four_blocks.Reads as four-blocks-reads
-use Rattle.keystream.proofs.four_starts.Reads as four-starts-reads
 
 four-starts-requires : tie.Need-four-starts-requires
 four-starts-requires c κs = search needs

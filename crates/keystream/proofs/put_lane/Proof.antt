@@ -1,6 +1,6 @@
 use borrow.Author.Needs.{needs}
 use mathlib.Core.Path.{_≡_, refl, sym, ap, _∙_}
-use Prim.Native.Nat.{ℕ, _≤_, _<_, _-_, _+_, _*_}
+use Prim.Native.Nat.{_≤_, _-_, _+_, _*_}
 use native.Mathlib.Omega.{arith}
 use lib.ListN.{length, getD, length-set}
 use Rattle.words.specs.List.{over, tab, over-tab}
@@ -8,8 +8,6 @@ use Rattle.keystream.specs.Lanes.{col}
 use Rattle.keystream.proofs.Lanes.{row}
 use Rattle.keystream.proofs.put_lane.Statement.{statement}
 use Rattle.keystream.proofs.put_lane.Tie as tie
-use Rattle.keystream.proofs.put_lane.Reads as reads
-use Rattle.keystream.proofs.put_lane.Lts as lts
 
 abbrev Inv-loop : tie.InvT-loop
 Inv-loop out₀ at x l w₀ out w = (w ≤ 16) × (out ≡ over at (tab (λ w. getD x (4 * w + l) 0) w) out₀) × (length out ≡ length out₀)

@@ -1,13 +1,9 @@
-use mathlib.Core.Path.{_≡_, refl, ap, _∙_}
-use native.Mathlib.Omega.{arith}
+use mathlib.Core.Path.{refl}
 use Rattle.keystream.specs.Lanes.{rows, flat, inOrder}
 use Rattle.keystream.proofs.Lanes.{four-over, length-col}
 use borrow.Author.Needs.{needs}
 use Rattle.keystream.proofs.put_lanes.Statement.{statement}
 use Rattle.keystream.proofs.put_lanes.Tie as tie
-use Rattle.keystream.proofs.put_lanes.Reads as reads
-use Rattle.keystream.proofs.put_lanes.Lts as lts
-use Rattle.keystream.proofs.put_lane.Reads as put-lane-reads
 
 put-lane-requires : tie.Need-put-lane-requires
 put-lane-requires c κs = search needs

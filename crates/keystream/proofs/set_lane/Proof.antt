@@ -4,8 +4,6 @@ use Rattle.keystream.proofs.Lanes.{write-row}
 use borrow.Author.Needs.{needs}
 use Rattle.keystream.proofs.set_lane.Statement.{statement}
 use Rattle.keystream.proofs.set_lane.Tie as tie
-use Rattle.keystream.proofs.set_lane.Reads as reads
-use Rattle.keystream.proofs.set_lane.Lts as lts
 
 mul-x : tie.Need-mul-x
 mul-x c = search needs

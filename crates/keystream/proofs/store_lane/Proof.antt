@@ -1,17 +1,14 @@
 use borrow.Author.Needs.{needs}
 use mathlib.Core.Path.{_≡_, refl, sym, ap, _∙_}
-use Prim.Native.Nat.{ℕ, _≤_, _<_, _-_, _+_, _*_}
+use Prim.Native.Nat.{_≤_, _-_, _+_, _*_}
 use native.Mathlib.Omega.{arith}
 use lib.ListN.{length, getD}
-use Rattle.words.specs.List.{over, tab, length-over}
+use Rattle.words.specs.List.{over, tab}
 use Rattle.words.specs.Bytes.{bytesOf, over-word}
 use Rattle.keystream.specs.Lanes.{col}
 use Rattle.keystream.proofs.Lanes.{row}
 use Rattle.keystream.proofs.store_lane.Statement.{statement}
 use Rattle.keystream.proofs.store_lane.Tie as tie
-use Rattle.keystream.proofs.store_lane.Reads as reads
-use Rattle.keystream.proofs.store_lane.Lts as lts
-use Rattle.words.proofs.store.Reads as store-reads
 
 abbrev Inv-loop : tie.InvT-loop
 Inv-loop b₀ at x l w₀ b w = (w ≤ 16) × (b ≡ over at (bytesOf (tab (λ w. getD x (4 * w + l) 0) w)) b₀) × (length b ≡ length b₀)

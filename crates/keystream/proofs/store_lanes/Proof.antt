@@ -1,12 +1,7 @@
-use mathlib.Core.Path.{_≡_, refl, ap, _∙_}
-use native.Mathlib.Omega.{arith}
 use Rattle.keystream.proofs.Lanes.{four-stored}
 use borrow.Author.Needs.{needs}
 use Rattle.keystream.proofs.store_lanes.Statement.{statement}
 use Rattle.keystream.proofs.store_lanes.Tie as tie
-use Rattle.keystream.proofs.store_lanes.Reads as reads
-use Rattle.keystream.proofs.store_lanes.Lts as lts
-use Rattle.keystream.proofs.store_lane.Reads as store-lane-reads
 
 store-lane-requires : tie.Need-store-lane-requires
 store-lane-requires c κs = search needs

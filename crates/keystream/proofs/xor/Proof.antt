@@ -1,17 +1,11 @@
-use mathlib.Core.Path.{_≡_, refl, sym, ap, _∙_}
-use Prim.Native.Nat.{ℕ, _≤_, _<_, _-_, _+_, _*_}
+use mathlib.Core.Path.{_≡_, refl, sym, _∙_}
+use Prim.Native.Nat.{_-_}
 use native.Mathlib.Omega.{arith}
 use lib.ListN.{length}
 use Rattle.keystream.proofs.Turns.{Xored, xored-none, xored-more, xored-all}
 use borrow.Author.Needs.{needs}
 use Rattle.keystream.proofs.xor.Statement.{statement}
 use Rattle.keystream.proofs.xor.Tie as tie
-use Rattle.keystream.proofs.xor.Reads as reads
-use Rattle.keystream.proofs.xor.Lts as lts
-use Rattle.keystream.proofs.next_blocks.Reads as next-blocks-reads
-use Rattle.keystream.proofs.store_lanes.Reads as store-lanes-reads
-use Rattle.keystream.proofs.xor_part.Reads as xor-part-reads
-use Rattle.words.proofs.add.Reads as add-reads
 
 abbrev Inv-loop : tie.InvT-loop
 Inv-loop key counter nonce bytes₀ x₀ b₀ n₀ at₀ bytes x b n at = Xored key counter nonce bytes₀ bytes at n × (length b ≡ 256)

@@ -1,15 +1,12 @@
 use borrow.Author.Needs.{needs}
-use mathlib.Core.Path.{_≡_, refl, sym, ap, _∙_}
-use Prim.Native.Nat.{ℕ, _≤_, _<_, _-_, _+_, _*_, min}
+use mathlib.Core.Path.{_≡_, refl, ap, _∙_}
+use Prim.Native.Nat.{ℕ, _≤_, _-_, _+_, min}
 use native.Mathlib.Omega.{arith}
 use lib.Bits.{bitXor}
 use lib.ListN.{length, getD, length-set}
 use Rattle.words.specs.List.{over, tab, over-tab, getD-over, length-tab}
 use Rattle.keystream.proofs.xor_part.Statement.{statement}
 use Rattle.keystream.proofs.xor_part.Tie as tie
-use Rattle.keystream.proofs.xor_part.Reads as reads
-use Rattle.keystream.proofs.xor_part.Lts as lts
-use Rattle.words.proofs.least.Reads as least-reads
 
 abbrev Inv-loop : tie.InvT-loop
 Inv-loop bytes₀ at b n i₀ bytes i = (i ≤ n) × (bytes ≡ over at (tab (λ i. bitXor (getD bytes₀ (at + i) 0) (getD b i 0)) i) bytes₀) × (length bytes ≡ length bytes₀)

@@ -1,15 +1,11 @@
 use Rattle.words.specs.List.{same, same-more, same-unequal, same-whole}
 use borrow.Author.Needs.{needs}
-use mathlib.Core.Path.{_≡_, refl, sym, ap, _∙_}
-use mathlib.Core.Bool.{_&&_}
-use Prim.Native.Nat.{ℕ, _≤_, _-_, _+_}
+use mathlib.Core.Path.{_≡_, refl, sym, _∙_}
+use Prim.Native.Nat.{_≤_, _-_}
 use native.Mathlib.Omega.{arith}
 use lib.ListN.{length, take}
-use lib.Seq.{take-length}
 use Rattle.words.proofs.equal.Statement.{statement}
 use Rattle.words.proofs.equal.Tie as tie
-use Rattle.words.proofs.equal.Reads as reads
-use Rattle.words.proofs.equal.Lts as lts
 
 abbrev Inv-loop : tie.InvT-loop
 Inv-loop a b all₀ i₀ all i = (i ≤ length a) × (all ≡ same (take i a) (take i b))
