@@ -9,9 +9,9 @@ use Rattle.algebra.specs.Word.{add}
 use Rattle.words.specs.List.{tab, over, over-all, length-tab, getD-tab, getD-rest, tab-chunk}
 use Rattle.words.specs.Bytes.{le32, bytesOf, getD-bytesOf}
 use Rattle.chacha20.specs.ChaCha20.{block}
-use Rattle.keystream.specs.Lanes.{rows, inOrder, blocks}
-use Rattle.keystream.specs.Keystream.{keyWord, keyByte, stream, xored}
-use Rattle.keystream.proofs.Lanes.{in-order, length-inOrder}
+use Rattle.lanes.specs.Lanes.{rows, inOrder, length-inOrder}
+use Rattle.keystream.specs.Keystream.{keyWord, keyByte, stream, xored, blocks}
+use Rattle.keystream.proofs.Blocks.{in-order}
 
 -- a later start is the same stream further on
 word-shift : (key : List ℕ) (counter n : ℕ) (nonce : List ℕ) (at i : ℕ) → at % 16 ≡ 0 → n ≡ add counter (at / 16) → keyWord key n nonce i ≡ keyWord key counter nonce (at + i)

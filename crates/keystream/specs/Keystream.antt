@@ -1,12 +1,12 @@
 -- The key stream of RFC 8439, 2.4, and data xored with it. Assumes nothing.
 use Prim.Native.Nat.{ℕ, _/_, _%_}
-use mathlib.Core.List.{List}
+use mathlib.Core.List.{List, [], _∷_}
 use lib.Bits.{bitXor}
 use lib.ListN.{length, getD}
 use Rattle.algebra.specs.Word.{add}
 use Rattle.words.specs.List.{tab}
 use Rattle.words.specs.Bytes.{le32}
-use Rattle.chacha20.specs.ChaCha20.{block}
+use Rattle.chacha20.specs.ChaCha20.{start, block}
 
 -- word i of the stream from a block on is a word of one of the blocks that follow, counted modulo 2^32
 unfoldable pub keyWord : List ℕ → ℕ → List ℕ → ℕ → ℕ
@@ -23,3 +23,10 @@ stream key nonce n = tab (keyWord key 0 nonce) n
 -- 2.4: data xored with the stream from a block on, byte by byte
 unfoldable pub xored : List ℕ → ℕ → List ℕ → List ℕ → List ℕ
 xored key counter nonce d = tab (λ j. bitXor (getD d j 0) (keyByte key counter nonce j)) (length d)
+
+-- four blocks in a row: their starting states, and themselves
+unfoldable pub starts : List ℕ → ℕ → List ℕ → List (List ℕ)
+starts key n nonce = start key (add n 0) nonce ∷ start key (add n 1) nonce ∷ start key (add n 2) nonce ∷ start key (add n 3) nonce ∷ []
+
+unfoldable pub blocks : List ℕ → ℕ → List ℕ → List (List ℕ)
+blocks key n nonce = block key (add n 0) nonce ∷ block key (add n 1) nonce ∷ block key (add n 2) nonce ∷ block key (add n 3) nonce ∷ []

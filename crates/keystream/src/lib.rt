@@ -1,100 +1,13 @@
-// Four ChaCha20 blocks at a time, and the key stream of RFC 8439, 2.4, made of them. Word w of
-// state l stands at 4 * w + l, so that LLVM makes one vector operation of the four states' words:
-// this is where nearly all of the time of a door check goes.
+// The key stream of RFC 8439, 2.4, four blocks at a time: its words, and the xor of bytes with it.
 ghost use mathlib.Core.Path.{_≡_};
-ghost use mathlib.Core.List.{[], map};
+ghost use mathlib.Core.List.{[]};
 ghost use lib.Bits.{bitXor};
-ghost use lib.ListN.{length, getD, set};
+ghost use lib.ListN.{length, getD};
 ghost use Prim.Native.Nat.{_+_, _-_, _<_, _≤_, min};
-ghost use Rattle.algebra.specs.Word.{add};
 ghost use Rattle.words.specs.List.{over, tab};
 ghost use Rattle.words.specs.Bytes.{bytesOf};
-ghost use Rattle.chacha20.specs.ChaCha20.{words, doubleRound, blockFrom};
-ghost use Rattle.keystream.specs.Lanes.{rows, inOrder, starts, blocks};
-ghost use Rattle.keystream.specs.Keystream.{stream as streamOf, xored};
-use chacha20::State;
-
-fn lane(x: &[u32; 64], l: usize) -> State
-    requires { ⌜ l < 4 ⌝ }
-    ensures { λ r. ⌜ words r ≡ getD (rows (now (x .entry))) l [] ⌝ }
-{
-    State {
-        x0: x[l],
-        x1: x[4 + l],
-        x2: x[8 + l],
-        x3: x[12 + l],
-        x4: x[16 + l],
-        x5: x[20 + l],
-        x6: x[24 + l],
-        x7: x[28 + l],
-        x8: x[32 + l],
-        x9: x[36 + l],
-        x10: x[40 + l],
-        x11: x[44 + l],
-        x12: x[48 + l],
-        x13: x[52 + l],
-        x14: x[56 + l],
-        x15: x[60 + l],
-    }
-}
-
-pub fn set_lane(x: &mut [u32], l: usize, t: State)
-    requires { ⌜ (length (now x) ≡ 64) × (l < 4) ⌝ }
-    ensures { λ _. ⌜ rows (now (x .exit)) ≡ set (rows (now (x .entry))) l (words t) ⌝ }
-{
-    x[l] = t.x0;
-    x[4 + l] = t.x1;
-    x[8 + l] = t.x2;
-    x[12 + l] = t.x3;
-    x[16 + l] = t.x4;
-    x[20 + l] = t.x5;
-    x[24 + l] = t.x6;
-    x[28 + l] = t.x7;
-    x[32 + l] = t.x8;
-    x[36 + l] = t.x9;
-    x[40 + l] = t.x10;
-    x[44 + l] = t.x11;
-    x[48 + l] = t.x12;
-    x[52 + l] = t.x13;
-    x[56 + l] = t.x14;
-    x[60 + l] = t.x15;
-}
-
-// A double round on each of the four states. LLVM vectorises this loop.
-fn double_rounds(x: &mut [u32; 64])
-    ensures { λ _. ⌜ rows (now (x .exit)) ≡ map doubleRound (rows (now (x .entry))) ⌝ }
-{
-    let mut l: usize = 0;
-    while l < 4 {
-        let s = lane(x, l);
-        set_lane(x, l, chacha20::diagonal_round(chacha20::column_round(s)));
-        l += 1;
-    }
-}
-
-fn add_words(x: &mut [u32], y: &[u32; 64])
-    requires { ⌜ length (now x) ≡ 64 ⌝ }
-    ensures { λ _. ⌜ now (x .exit) ≡ tab (λ i. add (getD (now (x .entry)) i 0) (getD (now (y .entry)) i 0)) 64 ⌝ }
-{
-    let mut i: usize = 0;
-    while i < 64 {
-        x[i] = words::add(x[i], y[i]);
-        i += 1;
-    }
-}
-
-// Four starting states, of any keys, counters and nonces, become their blocks.
-pub fn four_blocks(x: &mut [u32; 64])
-    ensures { λ _. ⌜ rows (now (x .exit)) ≡ map blockFrom (rows (now (x .entry))) ⌝ }
-{
-    let y = *x;
-    let mut i: u32 = 0;
-    while i < 10 {
-        double_rounds(x);
-        i += 1;
-    }
-    add_words(x, &y);
-}
+ghost use Rattle.lanes.specs.Lanes.{rows, inOrder};
+ghost use Rattle.keystream.specs.Keystream.{starts, blocks, stream as streamOf, xored};
 
 // The starting states of four blocks in a row.
 fn four_starts(x: &mut [u32; 64], key: [u32; 8], counter: u32, nonce: [u32; 3])
@@ -103,7 +16,7 @@ fn four_starts(x: &mut [u32; 64], key: [u32; 8], counter: u32, nonce: [u32; 3])
     let mut n = counter;
     let mut l: usize = 0;
     while l < 4 {
-        set_lane(x, l, chacha20::start(key, n, nonce));
+        lanes::set_lane(x, l, chacha20::start(key, n, nonce));
         n = words::add(n, 1);
         l += 1;
     }
@@ -113,7 +26,7 @@ fn next_blocks(x: &mut [u32; 64], key: [u32; 8], counter: u32, nonce: [u32; 3])
     ensures { λ _. ⌜ rows (now (x .exit)) ≡ blocks key counter nonce ⌝ }
 {
     four_starts(x, key, counter, nonce);
-    four_blocks(x);
+    lanes::four_blocks(x);
 }
 
 fn put_lane(out: &mut [u32], at: usize, x: &[u32; 64], l: usize)

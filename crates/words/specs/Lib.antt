@@ -1,3 +1,4 @@
 pub mod List
 pub mod Bytes
 pub mod Spelt
+pub mod Xor

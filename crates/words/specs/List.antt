@@ -9,7 +9,7 @@ use native.Mathlib.Omega.{arith}
 use borrow.Author.Tests.{ltb-true, ltb-false}
 use lib.Dec.{T, eqb, ltb, eqb→eq, eqb-refl}
 use lib.ListN.{length, take, drop, set, getD, length-append, length-drop, length-set, List·getD-append, drop-of-length-le}
-use lib.Seq.{getD-drop, take-at, drop-at, getD-at, drop-drop, getD-set-other, take-all, take-suc, length-take-le, drop-cons, set-at, append-snoc, sets, sets-eq, getD-append-add}
+use lib.Seq.{ext-getD, getD-drop, take-at, drop-at, getD-at, drop-drop, getD-set-other, take-all, take-suc, length-take-le, drop-cons, set-at, append-snoc, sets, sets-eq, getD-append-add}
 
 -- s with p written over it from index i on
 unfoldable pub over : ℕ → List ℕ → List ℕ → List ℕ
@@ -97,6 +97,10 @@ getD-tab f (suc n) i h = go (ltb i n) refl (getD-tab f n i)
     go false e ih =
         let same : i ≡ n = omega (arith, ltb-false i n e) in
         rw same (getD-at (tab f n) (f n) [] 0 n (length-tab f n))
+
+-- a list is made of its own elements
+pub tab-getD : (s : List ℕ) → tab (λ i. getD s i 0) (length s) ≡ s
+tab-getD s = ext-getD 0 (tab (λ i. getD s i 0) (length s)) s (length-tab (λ i. getD s i 0) (length s)) (λ i h. getD-tab (λ i. getD s i 0) (length s) i (rw (length-tab (λ i. getD s i 0) (length s)) at h))
 
 pub take-tab : (f : ℕ → ℕ) (k n : ℕ) → k ≤ n → take k (tab f n) ≡ tab f k
 take-tab f k n h =

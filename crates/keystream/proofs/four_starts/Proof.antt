@@ -3,8 +3,9 @@ use mathlib.Core.Path.{_≡_, refl}
 use Prim.Native.Nat.{_≤_, _-_}
 use native.Mathlib.Omega.{arith}
 use Rattle.algebra.specs.Word.{add}
-use Rattle.keystream.specs.Lanes.{rows, starts}
-use Rattle.keystream.proofs.Lanes.{upTo, start-more}
+use Rattle.lanes.specs.Lanes.{rows, upTo}
+use Rattle.keystream.specs.Keystream.{starts}
+use Rattle.keystream.proofs.Blocks.{start-more}
 use Rattle.keystream.proofs.four_starts.Statement.{statement}
 use Rattle.keystream.proofs.four_starts.Tie as tie
 

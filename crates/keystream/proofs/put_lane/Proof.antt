@@ -4,8 +4,7 @@ use Prim.Native.Nat.{_≤_, _-_, _+_, _*_}
 use native.Mathlib.Omega.{arith}
 use lib.ListN.{length, getD, length-set}
 use Rattle.words.specs.List.{over, tab, over-tab}
-use Rattle.keystream.specs.Lanes.{col}
-use Rattle.keystream.proofs.Lanes.{row}
+use Rattle.lanes.specs.Lanes.{col, row}
 use Rattle.keystream.proofs.put_lane.Statement.{statement}
 use Rattle.keystream.proofs.put_lane.Tie as tie
 

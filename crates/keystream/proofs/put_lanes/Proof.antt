@@ -1,6 +1,6 @@
 use mathlib.Core.Path.{refl}
-use Rattle.keystream.specs.Lanes.{rows, flat, inOrder}
-use Rattle.keystream.proofs.Lanes.{four-over, length-col}
+use Rattle.lanes.specs.Lanes.{rows, flat, inOrder, length-col}
+use Rattle.keystream.proofs.Blocks.{four-over}
 use borrow.Author.Needs.{needs}
 use Rattle.keystream.proofs.put_lanes.Statement.{statement}
 use Rattle.keystream.proofs.put_lanes.Tie as tie

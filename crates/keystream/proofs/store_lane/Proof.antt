@@ -5,8 +5,7 @@ use native.Mathlib.Omega.{arith}
 use lib.ListN.{length, getD}
 use Rattle.words.specs.List.{over, tab}
 use Rattle.words.specs.Bytes.{bytesOf, over-word}
-use Rattle.keystream.specs.Lanes.{col}
-use Rattle.keystream.proofs.Lanes.{row}
+use Rattle.lanes.specs.Lanes.{col, row}
 use Rattle.keystream.proofs.store_lane.Statement.{statement}
 use Rattle.keystream.proofs.store_lane.Tie as tie
 

@@ -1,4 +1,4 @@
-use Rattle.keystream.proofs.Lanes.{four-stored}
+use Rattle.keystream.proofs.Blocks.{four-stored}
 use borrow.Author.Needs.{needs}
 use Rattle.keystream.proofs.store_lanes.Statement.{statement}
 use Rattle.keystream.proofs.store_lanes.Tie as tie

@@ -6,8 +6,8 @@ use mathlib.Core.List.{_++_, append-nil}
 use lib.ListN.{length, drop, getD, length-set, drop-of-length-le}
 use Rattle.algebra.specs.Word.{add}
 use Rattle.words.specs.List.{tab, tab-more, getD-rest}
-use Rattle.keystream.proofs.add_words.Statement.{statement}
-use Rattle.keystream.proofs.add_words.Tie as tie
+use Rattle.lanes.proofs.add_words.Statement.{statement}
+use Rattle.lanes.proofs.add_words.Tie as tie
 
 abbrev Inv-loop : tie.InvT-loop
 Inv-loop x₀ y i₀ x i = (i ≤ 64) × (x ≡ tab (λ i. add (getD x₀ i 0) (getD y i 0)) i ++ drop i x₀) × (length x ≡ length x₀)

@@ -1,9 +1,9 @@
 use lib.ListN.{length-set}
 use native.Mathlib.Omega.{arith}
-use Rattle.keystream.proofs.Lanes.{write-row}
+use Rattle.lanes.proofs.Rows.{write-row}
 use borrow.Author.Needs.{needs}
-use Rattle.keystream.proofs.set_lane.Statement.{statement}
-use Rattle.keystream.proofs.set_lane.Tie as tie
+use Rattle.lanes.proofs.set_lane.Statement.{statement}
+use Rattle.lanes.proofs.set_lane.Tie as tie
 
 mul-x : tie.Need-mul-x
 mul-x c = search needs

@@ -1,7 +1,7 @@
-use Rattle.keystream.proofs.Lanes.{read-row}
+use Rattle.lanes.proofs.Rows.{read-row}
 use borrow.Author.Needs.{needs}
-use Rattle.keystream.proofs.lane.Statement.{statement}
-use Rattle.keystream.proofs.lane.Tie as tie
+use Rattle.lanes.proofs.lane.Statement.{statement}
+use Rattle.lanes.proofs.lane.Tie as tie
 
 mul-t3 : tie.Need-mul-t3
 mul-t3 c = search needs

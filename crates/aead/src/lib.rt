@@ -1,0 +1,103 @@
+// ChaCha20-Poly1305, the AEAD of RFC 8439, 2.8: sealing and opening in place, for any additional
+// data and any length.
+ghost use mathlib.Core.Path.{_≡_};
+ghost use mathlib.Core.List.{_++_};
+ghost use lib.ListN.{length};
+ghost use Rattle.poly1305.specs.Poly1305.{bytes};
+ghost use Rattle.aead.specs.Aead.{polyKey, tagFor, sealed, sealedText, opens, openedText};
+
+// RFC 8439's P_MAX: what the block counter of 32 bits has room for, after block 0.
+const LIMIT: usize = 274877906880;
+
+// `ok` is whether the text was sealed; where it was not, it is too long, and the tag is zeros.
+pub struct Sealed {
+    pub ok: bool,
+    pub tag: [u8; 16],
+}
+
+// The one-time key of Poly1305 for a nonce, 2.6.
+pub fn poly_key(key: &[u8; 32], nonce: &[u8; 12]) -> [u8; 32]
+    ensures { λ r. ⌜ r ≡ polyKey (now (key .entry)) (now (nonce .entry)) ⌝ }
+{
+    let s = chacha20::block(chacha20::key_words(key), 0, chacha20::nonce_words(nonce));
+    let mut out = [0u8; 32];
+    words::store(&mut out, 0, s.x0);
+    words::store(&mut out, 4, s.x1);
+    words::store(&mut out, 8, s.x2);
+    words::store(&mut out, 12, s.x3);
+    words::store(&mut out, 16, s.x4);
+    words::store(&mut out, 20, s.x5);
+    words::store(&mut out, 24, s.x6);
+    words::store(&mut out, 28, s.x7);
+    out
+}
+
+// Two lengths, in eight bytes each.
+fn lengths(a: usize, b: usize) -> [u8; 16]
+    ensures { λ r. ⌜ r ≡ bytes 8 a ++ bytes 8 b ⌝ }
+{
+    let mut out = [0u8; 16];
+    words::store(&mut out, 0, (a % 4294967296) as u32);
+    words::store(&mut out, 4, (a / 4294967296) as u32);
+    words::store(&mut out, 8, (b % 4294967296) as u32);
+    words::store(&mut out, 12, (b / 4294967296) as u32);
+    out
+}
+
+// The tag of additional data and a ciphertext.
+fn tag_for(key: &[u8; 32], nonce: &[u8; 12], aad: &[u8], text: &[u8]) -> [u8; 16]
+    ensures { λ r. ⌜ r ≡ tagFor (now (key .entry)) (now (nonce .entry)) (now (aad .entry)) (now (text .entry)) ⌝ }
+{
+    let one_time = poly_key(key, nonce);
+    let halves = poly1305::key(&one_time);
+    let r = halves.r;
+    let s = halves.s;
+    let a = poly1305::absorb_padded([0; 5], r, aad);
+    let b = poly1305::absorb_padded(a, r, text);
+    let both = lengths(aad.len(), text.len());
+    let c = poly1305::absorb_padded(b, r, &both);
+    poly1305::tag(c, s)
+}
+
+// The text becomes its ciphertext. One that is too long stays as it is.
+pub fn seal(key: &[u8; 32], nonce: &[u8; 12], aad: &[u8], text: &mut [u8]) -> Sealed
+    ensures { λ r. ⌜ r ≡ sealed (now (key .entry)) (now (nonce .entry)) (now (aad .entry)) (now (text .entry)) ⌝ }
+    ensures { λ _. ⌜ now (text .exit) ≡ sealedText (now (key .entry)) (now (nonce .entry)) (now (text .entry)) ⌝ }
+{
+    if LIMIT < text.len() {
+        return Sealed {
+            ok: false,
+            tag: [0; 16],
+        };
+    }
+    keystream::xor(
+        chacha20::key_words(key),
+        1,
+        chacha20::nonce_words(nonce),
+        text,
+    );
+    let tag = tag_for(key, nonce, aad, text);
+    Sealed { ok: true, tag }
+}
+
+// Whether the tag fits; and only where it does the text becomes the plain one.
+pub fn open(key: &[u8; 32], nonce: &[u8; 12], aad: &[u8], text: &mut [u8], tag: &[u8; 16]) -> bool
+    ensures { λ r. ⌜ r ≡ opens (now (key .entry)) (now (nonce .entry)) (now (aad .entry)) (now (text .entry)) (now (tag .entry)) ⌝ }
+    ensures { λ _. ⌜ now (text .exit) ≡ openedText (now (key .entry)) (now (nonce .entry)) (now (aad .entry)) (now (text .entry)) (now (tag .entry)) ⌝ }
+{
+    if LIMIT < text.len() {
+        return false;
+    }
+    let expected = tag_for(key, nonce, aad, text);
+    if words::equal(&expected, tag) {
+        keystream::xor(
+            chacha20::key_words(key),
+            1,
+            chacha20::nonce_words(nonce),
+            text,
+        );
+        true
+    } else {
+        false
+    }
+}

@@ -1,0 +1,94 @@
+// Four ChaCha20 blocks at a time. Word w of state l stands at 4 * w + l, so that LLVM makes one
+// vector operation of the four states' words: this is where nearly all of the time of a door check
+// goes.
+ghost use mathlib.Core.Path.{_≡_};
+ghost use mathlib.Core.List.{[], map};
+ghost use lib.ListN.{length, getD, set};
+ghost use Prim.Native.Nat.{_<_};
+ghost use Rattle.algebra.specs.Word.{add};
+ghost use Rattle.words.specs.List.{tab};
+ghost use Rattle.chacha20.specs.ChaCha20.{words, doubleRound, blockFrom};
+ghost use Rattle.lanes.specs.Lanes.{rows};
+use chacha20::State;
+
+pub fn lane(x: &[u32; 64], l: usize) -> State
+    requires { ⌜ l < 4 ⌝ }
+    ensures { λ r. ⌜ words r ≡ getD (rows (now (x .entry))) l [] ⌝ }
+{
+    State {
+        x0: x[l],
+        x1: x[4 + l],
+        x2: x[8 + l],
+        x3: x[12 + l],
+        x4: x[16 + l],
+        x5: x[20 + l],
+        x6: x[24 + l],
+        x7: x[28 + l],
+        x8: x[32 + l],
+        x9: x[36 + l],
+        x10: x[40 + l],
+        x11: x[44 + l],
+        x12: x[48 + l],
+        x13: x[52 + l],
+        x14: x[56 + l],
+        x15: x[60 + l],
+    }
+}
+
+pub fn set_lane(x: &mut [u32], l: usize, t: State)
+    requires { ⌜ (length (now x) ≡ 64) × (l < 4) ⌝ }
+    ensures { λ _. ⌜ rows (now (x .exit)) ≡ set (rows (now (x .entry))) l (words t) ⌝ }
+{
+    x[l] = t.x0;
+    x[4 + l] = t.x1;
+    x[8 + l] = t.x2;
+    x[12 + l] = t.x3;
+    x[16 + l] = t.x4;
+    x[20 + l] = t.x5;
+    x[24 + l] = t.x6;
+    x[28 + l] = t.x7;
+    x[32 + l] = t.x8;
+    x[36 + l] = t.x9;
+    x[40 + l] = t.x10;
+    x[44 + l] = t.x11;
+    x[48 + l] = t.x12;
+    x[52 + l] = t.x13;
+    x[56 + l] = t.x14;
+    x[60 + l] = t.x15;
+}
+
+// A double round on each of the four states. LLVM vectorises this loop.
+fn double_rounds(x: &mut [u32; 64])
+    ensures { λ _. ⌜ rows (now (x .exit)) ≡ map doubleRound (rows (now (x .entry))) ⌝ }
+{
+    let mut l: usize = 0;
+    while l < 4 {
+        let s = lane(x, l);
+        set_lane(x, l, chacha20::diagonal_round(chacha20::column_round(s)));
+        l += 1;
+    }
+}
+
+fn add_words(x: &mut [u32], y: &[u32; 64])
+    requires { ⌜ length (now x) ≡ 64 ⌝ }
+    ensures { λ _. ⌜ now (x .exit) ≡ tab (λ i. add (getD (now (x .entry)) i 0) (getD (now (y .entry)) i 0)) 64 ⌝ }
+{
+    let mut i: usize = 0;
+    while i < 64 {
+        x[i] = words::add(x[i], y[i]);
+        i += 1;
+    }
+}
+
+// Four starting states, of any keys, counters and nonces, become their blocks.
+pub fn four_blocks(x: &mut [u32; 64])
+    ensures { λ _. ⌜ rows (now (x .exit)) ≡ map blockFrom (rows (now (x .entry))) ⌝ }
+{
+    let y = *x;
+    let mut i: u32 = 0;
+    while i < 10 {
+        double_rounds(x);
+        i += 1;
+    }
+    add_words(x, &y);
+}
