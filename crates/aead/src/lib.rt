@@ -20,15 +20,9 @@ pub fn poly_key(key: &[u8; 32], nonce: &[u8; 12]) -> [u8; 32]
     ensures { λ r. ⌜ r ≡ polyKey (now (key .entry)) (now (nonce .entry)) ⌝ }
 {
     let s = chacha20::block(chacha20::key_words(key), 0, chacha20::nonce_words(nonce));
+    let w = [s.x0, s.x1, s.x2, s.x3, s.x4, s.x5, s.x6, s.x7];
     let mut out = [0u8; 32];
-    words::store(&mut out, 0, s.x0);
-    words::store(&mut out, 4, s.x1);
-    words::store(&mut out, 8, s.x2);
-    words::store(&mut out, 12, s.x3);
-    words::store(&mut out, 16, s.x4);
-    words::store(&mut out, 20, s.x5);
-    words::store(&mut out, 24, s.x6);
-    words::store(&mut out, 28, s.x7);
+    words::store_all(&mut out, 0, &w);
     out
 }
 
@@ -36,11 +30,14 @@ pub fn poly_key(key: &[u8; 32], nonce: &[u8; 12]) -> [u8; 32]
 fn lengths(a: usize, b: usize) -> [u8; 16]
     ensures { λ r. ⌜ r ≡ bytes 8 a ++ bytes 8 b ⌝ }
 {
+    let w = [
+        (a % 4294967296) as u32,
+        (a / 4294967296) as u32,
+        (b % 4294967296) as u32,
+        (b / 4294967296) as u32,
+    ];
     let mut out = [0u8; 16];
-    words::store(&mut out, 0, (a % 4294967296) as u32);
-    words::store(&mut out, 4, (a / 4294967296) as u32);
-    words::store(&mut out, 8, (b % 4294967296) as u32);
-    words::store(&mut out, 12, (b / 4294967296) as u32);
+    words::store_all(&mut out, 0, &w);
     out
 }
 

@@ -2,11 +2,11 @@
 // differences and products are taken modulo 2^32, and words are stored little-endian (01,
 // "Measures").
 ghost use mathlib.Core.Path.{_≡_};
-ghost use Prim.Native.Nat.{_+_, _<_, _≤_, min};
+ghost use Prim.Native.Nat.{_+_, _*_, _<_, _≤_, min};
 ghost use lib.ListN.{length};
 ghost use Rattle.algebra.specs.Word.{add as addOf, sub as subOf, mul as mulOf};
 ghost use Rattle.words.specs.List.{over, same};
-ghost use Rattle.words.specs.Bytes.{rotl, le32, wordAt};
+ghost use Rattle.words.specs.Bytes.{rotl, le32, bytesOf, wordAt};
 
 pub fn add(a: u32, b: u32) -> u32
     ensures { λ r. ⌜ r ≡ addOf a b ⌝ }
@@ -58,6 +58,18 @@ pub fn store(out: &mut [u8], at: usize, x: u32)
     out[at + 1] = (x / 256 % 256) as u8;
     out[at + 2] = (x / 65536 % 256) as u8;
     out[at + 3] = (x / 16777216 % 256) as u8;
+}
+
+// The bytes of all of w over those from `at` on.
+pub fn store_all(out: &mut [u8], at: usize, w: &[u32])
+    requires { ⌜ at + 4 * length (now w) ≤ length (now out) ⌝ }
+    ensures { λ _. ⌜ now (out .exit) ≡ over at (bytesOf (now (w .entry))) (now (out .entry)) ⌝ }
+{
+    let mut i: usize = 0;
+    while i < w.len() {
+        store(out, at + 4 * i, w[i]);
+        i += 1;
+    }
 }
 
 // All of src over the bytes of dst from `at` on.
