@@ -14,7 +14,7 @@ use Rattle.chacha20.specs.declared.State.{State}
 use Rattle.chacha20.specs.ChaCha20.{words, block, blockBytes}
 use Rattle.poly1305.specs.Poly1305.{bytes, prime, rOf, sOf, pieces, pad16, absorbAll, tagOf, mac}
 use Rattle.poly1305.specs.Limbs.{value, words4, modPrime}
-use Rattle.poly1305.specs.Laws.{absorbAll-then, pieces-append, padded-whole, length-bytes, mac-law}
+use Rattle.poly1305.specs.Laws.{absorbAll-then, pieces-append, padded-whole, length-bytes, value-zero, mac-law}
 use Rattle.aead.specs.Aead.{polyKey, macData, within}
 
 pub poly-key-law : (key nonce out t : List ℕ) (s : State) → words s ≡ block (wordsAt 8 key) 0 (wordsAt 3 nonce) → length out ≡ 32
@@ -54,7 +54,7 @@ lengths-law a b out t size e =
     ∙ ap₂ (λ (x y : List ℕ). x ++ y) (eight a) (eight b)
 
 pub tag-law : (k aad text lens r a b c s t : List ℕ) → value r ≡ rOf k → words4 s ≡ sOf k → lens ≡ bytes 8 (length aad) ++ bytes 8 (length text)
-    → Mod prime (value a) (absorbAll (value r) 0 (pieces (aad ++ pad16 aad)))
+    → Mod prime (value a) (absorbAll (value r) (value (0 ∷ 0 ∷ 0 ∷ 0 ∷ 0 ∷ [])) (pieces (aad ++ pad16 aad)))
     → Mod prime (value b) (absorbAll (value r) (value a) (pieces (text ++ pad16 text)))
     → Mod prime (value c) (absorbAll (value r) (value b) (pieces (lens ++ pad16 lens)))
     → t ≡ tagOf (modPrime (value c)) (words4 s) → t ≡ mac k (macData aad text)
@@ -70,7 +70,7 @@ tag-law k aad text lens r a b c s t hr hs hl ha hb hc ht =
     let cut : pieces A ++ (pieces B ++ pieces (lens ++ pad16 lens)) ≡ pieces (macData aad text) =
     rw bare (sym (ap pieces (sym whole) ∙ pieces-append A (B ++ lens) (padded-whole aad) ∙ ap (λ (p : List (List ℕ)). pieces A ++ p) (pieces-append B lens (padded-whole text)))) in
     let after : Mod prime (value c) (absorbAll (value r) 0 (pieces A ++ (pieces B ++ pieces (lens ++ pad16 lens)))) =
-    absorbAll-then (value r) 0 (value a) (pieces A) (pieces B ++ pieces (lens ++ pad16 lens)) ha
+    absorbAll-then (value r) 0 (value a) (pieces A) (pieces B ++ pieces (lens ++ pad16 lens)) (rw value-zero at ha)
     (absorbAll-then (value r) (value a) (value b) (pieces B) (pieces (lens ++ pad16 lens)) hb hc) in
     mac-law k (macData aad text) hr hs (rw cut at after) ht
 

@@ -1,6 +1,5 @@
 use mathlib.Core.Path.{ap, _∙_}
 use Rattle.aead.specs.Aead.{tagFor, macData}
-use Rattle.poly1305.specs.Limbs.{value}
 use Rattle.poly1305.specs.Poly1305.{mac}
 use Rattle.aead.proofs.Tags.{tag-law}
 use borrow.Author.Needs.{needs}
@@ -32,7 +31,7 @@ tag-requires : tie.Need-tag-requires
 tag-requires c κs = search needs
 
 returns : tie.Need-returns
-unfolding tagFor value
+unfolding tagFor
 returns c =
     let k = c .before .before .before .before .before .before .before .before .key in
     tag-law _ (c .before .before .before .before .before .before .before .before .before .before .before .before .before .args .aad .now) (c .before .before .before .before .before .before .before .before .before .before .before .before .before .args .text .now) _ _ _ _ _ _ _ (k .ensures .1 .0) (k .ensures .1 .1) (c .before .before .before .lengths .ensures)
