@@ -1,0 +1,50 @@
+// The cipher as C functions, for programs in other languages to link: the benchmark does. A slice
+// is handed over as a pointer and a length; an array of fixed size as a pointer.
+ghost use mathlib.Core.Path.{_≡_};
+ghost use lib.ListN.{length};
+ghost use Rattle.words.specs.Bytes.{wordsAt};
+ghost use Rattle.keystream.specs.Keystream.{stream};
+ghost use Rattle.aead.specs.Aead.{sealed, sealedText, opens, openedText};
+
+// The key stream's words from block 0 on.
+#[no_mangle]
+pub extern "C" fn cipher_stream(key: &[u8; 32], nonce: &[u8; 12], out: &mut [u32])
+    ensures { λ _. ⌜ now (out .exit) ≡ stream (wordsAt 8 (now (key .entry))) (wordsAt 3 (now (nonce .entry))) (length (now (out .entry))) ⌝ }
+{
+    keystream::stream(chacha20::key_words(key), chacha20::nonce_words(nonce), out);
+}
+
+// Seals text in place and writes its tag. Where text is too long it answers false, and the tag
+// becomes zeros.
+#[no_mangle]
+pub extern "C" fn cipher_seal(
+    key: &[u8; 32],
+    nonce: &[u8; 12],
+    aad: &[u8],
+    text: &mut [u8],
+    tag: &mut [u8; 16],
+) -> bool
+    ensures { λ r. ⌜ r ≡ sealed (now (key .entry)) (now (nonce .entry)) (now (aad .entry)) (now (text .entry)) .ok ⌝ }
+    ensures { λ _. ⌜ now (tag .exit) ≡ sealed (now (key .entry)) (now (nonce .entry)) (now (aad .entry)) (now (text .entry)) .tag ⌝ }
+    ensures { λ _. ⌜ now (text .exit) ≡ sealedText (now (key .entry)) (now (nonce .entry)) (now (text .entry)) ⌝ }
+{
+    let s = aead::seal(key, nonce, aad, text);
+    let t = s.tag;
+    *tag = t;
+    s.ok
+}
+
+// Opens text in place if its tag fits, and answers whether it does.
+#[no_mangle]
+pub extern "C" fn cipher_open(
+    key: &[u8; 32],
+    nonce: &[u8; 12],
+    aad: &[u8],
+    text: &mut [u8],
+    tag: &[u8; 16],
+) -> bool
+    ensures { λ r. ⌜ r ≡ opens (now (key .entry)) (now (nonce .entry)) (now (aad .entry)) (now (text .entry)) (now (tag .entry)) ⌝ }
+    ensures { λ _. ⌜ now (text .exit) ≡ openedText (now (key .entry)) (now (nonce .entry)) (now (aad .entry)) (now (text .entry)) (now (tag .entry)) ⌝ }
+{
+    aead::open(key, nonce, aad, text, tag)
+}
