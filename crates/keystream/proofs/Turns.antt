@@ -64,6 +64,12 @@ filled-more key nonce out₀ out out′ x at n n′ lk ln f room is written long
   long = long ∙ f .long;
 }
 
+pub filled-all : (key nonce out₀ out : List ℕ) (at n : ℕ) → Filled key nonce out₀ out at n → at ≡ length out → out ≡ stream key nonce (length out₀)
+unfolding stream
+filled-all key nonce out₀ out at n f done =
+    let all : at ≡ length out₀ = done ∙ f .long in
+    rw all at (f .written) ∙ rw (drop-of-length-le out₀ {i = length out₀} (omega arith)) (append-nil (tab (keyWord key 0 nonce) (length out₀)))
+
 pub filled-last : (key nonce out₀ out out′ x k₀ k : List ℕ) (at n : ℕ) → length key ≡ 8 → length nonce ≡ 3 → Filled key nonce out₀ out at n
     → length out < at + 64 → rows x ≡ blocks key n nonce → length k₀ ≡ 64 → k ≡ over 0 (inOrder x) k₀
     → out′ ≡ over at (tab (λ i. getD k i 0) (length out - at)) out → out′ ≡ stream key nonce (length out₀)

@@ -75,6 +75,9 @@ pub fn stream(key: [u32; 8], nonce: [u32; 3], out: &mut [u32])
         n = words::add(n, 4);
         at += 64;
     }
+    if at == out.len() {
+        return;
+    }
     let mut k = [0u32; 64];
     next_blocks(&mut x, key, n, nonce);
     put_lanes(&mut k, 0, &x);

@@ -1,11 +1,17 @@
-use mathlib.Core.Path.{refl}
+use borrow.Author.Needs.{needs}
+use mathlib.Core.Path.{_≡_, refl, sym}
 use Prim.Native.Nat.{_-_}
 use native.Mathlib.Omega.{arith}
 use lib.ListN.{length}
-use Rattle.keystream.proofs.Turns.{Filled, filled-none, filled-more, filled-last}
-use borrow.Author.Needs.{needs}
+use Rattle.keystream.proofs.Turns.{Filled, filled-none, filled-more, filled-all, filled-last}
 use Rattle.keystream.proofs.stream.Statement.{statement}
 use Rattle.keystream.proofs.stream.Tie as tie
+use Rattle.keystream.proofs.stream.Reads as reads
+use Rattle.keystream.proofs.stream.Lts as lts
+use Rattle.keystream.proofs.next_blocks.Reads as next-blocks-reads
+use Rattle.keystream.proofs.put_lanes.Reads as put-lanes-reads
+use Rattle.keystream.proofs.put_part.Reads as put-part-reads
+use Rattle.words.proofs.add.Reads as add-reads
 
 abbrev Inv-loop : tie.InvT-loop
 Inv-loop key nonce out₀ x₀ at₀ n₀ out x at n = Filled key nonce out₀ out at n
@@ -38,6 +44,12 @@ loop-again : tie.Need-loop-again Inv-loop μ-loop
 loop-again c =
     filled-more _ _ _ _ _ _ _ _ _ (search needs) (search needs) (c .before .before .before .before .before .before .before .before .before .loop .inv) (omega (arith, c .before .before .before .before .before .before .before .before)) (c .before .before .before .before .before .before .next-blocks .ensures) (c .before .before .before .put-lanes .ensures) (c .before .before .before .put-lanes .kept .0) (c .add .ensures)
 
+same-length : tie.Need-same-length Inv-loop μ-loop
+same-length c = c .before .before .loop .inv .long
+
+returns : tie.Need-returns Inv-loop μ-loop
+returns c = filled-all _ _ _ _ _ _ (c .before .before .loop .inv) (c .if1 .taken)
+
 next-blocks-requires-2 : tie.Need-next-blocks-requires-2 Inv-loop μ-loop
 next-blocks-requires-2 c κs = search needs
 
@@ -50,12 +62,12 @@ put-lanes-requires-2 c κs = search needs
 put-part-requires : tie.Need-put-part-requires Inv-loop μ-loop
 put-part-requires c κs = search needs
 
-same-length : tie.Need-same-length Inv-loop μ-loop
-same-length c = search needs
+same-length-2 : tie.Need-same-length-2 Inv-loop μ-loop
+same-length-2 c = search needs
 
-returns : tie.Need-returns Inv-loop μ-loop
-returns c =
-    filled-last _ _ _ _ _ _ _ _ _ _ (search needs) (search needs) (c .before .before .before .before .before .before .before .before .before .before .before .before .loop .inv) (omega (arith, c .before .before .before .before .before .before .before .before .before .before .before)) (c .before .before .before .before .before .before .before .before .before .next-blocks2 .ensures) refl (c .before .before .before .before .before .before .put-lanes2 .ensures) (c .before .before .put-part .ensures)
+returns-2 : tie.Need-returns-2 Inv-loop μ-loop
+returns-2 c =
+    filled-last _ _ _ _ _ _ _ _ _ _ (search needs) (search needs) (c .before .before .before .before .before .before .before .before .before .before .before .before .before .loop .inv) (omega (arith, c .before .before .before .before .before .before .before .before .before .before .before .before)) (c .before .before .before .before .before .before .before .before .before .next-blocks2 .ensures) refl (c .before .before .before .before .before .before .put-lanes2 .ensures) (c .before .before .put-part .ensures)
 
 pub stream-spec : {M : Type 1} → statement M
 stream-spec =
@@ -71,9 +83,11 @@ stream-spec =
     add-at
     loop-less
     loop-again
+    same-length
+    returns
     next-blocks-requires-2
     slice-aggregate-put-lanes
     put-lanes-requires-2
     put-part-requires
-    same-length
-    returns)
+    same-length-2
+    returns-2)
