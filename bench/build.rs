@@ -1,0 +1,14 @@
+//! Tells the linker where `rt staticlib cipher_c` puts its archive. Which libraries there are to
+//! link stands in src/foreign.rs, beside their functions.
+
+use std::env;
+use std::path::Path;
+
+fn main() {
+    let bench = env::var("CARGO_MANIFEST_DIR").expect("cargo sets CARGO_MANIFEST_DIR");
+    let folder = Path::new(&bench).join("../target/staticlib");
+    println!("cargo:rustc-link-search=native={}", folder.display());
+    // Cargo does not look into archives: without this line a new one would not be linked.
+    let archive = folder.join("libcipher_c.a");
+    println!("cargo:rerun-if-changed={}", archive.display());
+}

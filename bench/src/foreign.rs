@@ -1,0 +1,330 @@
+//! The functions of C that are timed, each behind a safe one: the only unsafe code of the program.
+
+#![allow(unsafe_code)]
+
+use std::ffi::{c_char, CStr};
+
+pub type Key = [u8; 32];
+pub type Nonce = [u8; 12];
+pub type Tag = [u8; 16];
+
+/// The verified cipher: crates/cipher_c.
+pub mod ours {
+    use super::*;
+
+    #[link(name = "cipher_c", kind = "static")]
+    extern "C" {
+        fn cipher_stream(key: &Key, nonce: &Nonce, out: *mut u32, words: usize);
+        fn cipher_seal(
+            key: &Key,
+            nonce: &Nonce,
+            aad: *const u8,
+            aad_len: usize,
+            text: *mut u8,
+            text_len: usize,
+            tag: &mut Tag,
+        ) -> bool;
+        fn cipher_open(
+            key: &Key,
+            nonce: &Nonce,
+            aad: *const u8,
+            aad_len: usize,
+            text: *mut u8,
+            text_len: usize,
+            tag: &Tag,
+        ) -> bool;
+    }
+
+    pub fn stream(key: &Key, nonce: &Nonce, out: &mut [u32]) {
+        unsafe { cipher_stream(key, nonce, out.as_mut_ptr(), out.len()) }
+    }
+
+    pub fn seal(key: &Key, nonce: &Nonce, aad: &[u8], text: &mut [u8]) -> Tag {
+        let mut tag = [0; 16];
+        let (text, text_len) = (text.as_mut_ptr(), text.len());
+        let (aad, aad_len) = (aad.as_ptr(), aad.len());
+        let ok = unsafe { cipher_seal(key, nonce, aad, aad_len, text, text_len, &mut tag) };
+        assert!(ok, "cipher_seal");
+        tag
+    }
+
+    pub fn open(key: &Key, nonce: &Nonce, aad: &[u8], text: &mut [u8], tag: &Tag) -> bool {
+        let (text, text_len) = (text.as_mut_ptr(), text.len());
+        let (aad, aad_len) = (aad.as_ptr(), aad.len());
+        unsafe { cipher_open(key, nonce, aad, aad_len, text, text_len, tag) }
+    }
+}
+
+pub mod sodium {
+    use super::*;
+    use std::ptr::{null, null_mut};
+
+    #[link(name = "sodium")]
+    extern "C" {
+        fn sodium_init() -> i32;
+        fn sodium_version_string() -> *const c_char;
+        fn crypto_stream_chacha20_ietf(out: *mut u8, len: u64, nonce: &Nonce, key: &Key) -> i32;
+        fn crypto_aead_chacha20poly1305_ietf_encrypt_detached(
+            sealed: *mut u8,
+            tag: &mut Tag,
+            tag_len: *mut u64,
+            text: *const u8,
+            text_len: u64,
+            aad: *const u8,
+            aad_len: u64,
+            unused: *const u8,
+            nonce: &Nonce,
+            key: &Key,
+        ) -> i32;
+        fn crypto_aead_chacha20poly1305_ietf_decrypt_detached(
+            text: *mut u8,
+            unused: *mut u8,
+            sealed: *const u8,
+            sealed_len: u64,
+            tag: &Tag,
+            aad: *const u8,
+            aad_len: u64,
+            nonce: &Nonce,
+            key: &Key,
+        ) -> i32;
+    }
+
+    /// To be called first: libsodium then looks at the processor and takes its fastest code.
+    pub fn init() {
+        assert!(unsafe { sodium_init() } >= 0, "sodium_init");
+    }
+
+    pub fn version() -> String {
+        unsafe { string(sodium_version_string()) }
+    }
+
+    pub fn stream(key: &Key, nonce: &Nonce, out: &mut [u32]) {
+        let (out, len) = (out.as_mut_ptr().cast(), size_of_val(out) as u64);
+        let status = unsafe { crypto_stream_chacha20_ietf(out, len, nonce, key) };
+        assert_eq!(status, 0, "crypto_stream_chacha20_ietf");
+    }
+
+    pub fn seal(key: &Key, nonce: &Nonce, aad: &[u8], text: &mut [u8]) -> Tag {
+        let mut tag = [0; 16];
+        let (text, text_len) = (text.as_mut_ptr(), text.len() as u64);
+        let (aad, aad_len) = (aad.as_ptr(), aad.len() as u64);
+        let status = unsafe {
+            crypto_aead_chacha20poly1305_ietf_encrypt_detached(
+                text,
+                &mut tag,
+                null_mut(),
+                text,
+                text_len,
+                aad,
+                aad_len,
+                null(),
+                nonce,
+                key,
+            )
+        };
+        assert_eq!(status, 0, "encrypt_detached");
+        tag
+    }
+
+    pub fn open(key: &Key, nonce: &Nonce, aad: &[u8], text: &mut [u8], tag: &Tag) -> bool {
+        let (text, text_len) = (text.as_mut_ptr(), text.len() as u64);
+        let (aad, aad_len) = (aad.as_ptr(), aad.len() as u64);
+        let status = unsafe {
+            crypto_aead_chacha20poly1305_ietf_decrypt_detached(
+                text,
+                null_mut(),
+                text,
+                text_len,
+                tag,
+                aad,
+                aad_len,
+                nonce,
+                key,
+            )
+        };
+        status == 0
+    }
+}
+
+pub mod openssl {
+    use super::*;
+    use std::ffi::{c_int, c_void};
+    use std::ptr::{null, null_mut};
+
+    const GET_TAG: c_int = 0x10;
+    const SET_TAG: c_int = 0x11;
+    const DECRYPT: c_int = 0;
+    const ENCRYPT: c_int = 1;
+
+    /// Neither is ever seen from the inside: OpenSSL hands out pointers to them.
+    #[repr(C)]
+    struct Cipher([u8; 0]);
+    #[repr(C)]
+    struct CipherContext([u8; 0]);
+
+    #[link(name = "crypto")]
+    extern "C" {
+        fn OpenSSL_version(which: c_int) -> *const c_char;
+        fn EVP_chacha20() -> *const Cipher;
+        fn EVP_chacha20_poly1305() -> *const Cipher;
+        fn EVP_CIPHER_CTX_new() -> *mut CipherContext;
+        fn EVP_CIPHER_CTX_free(context: *mut CipherContext);
+        fn EVP_CIPHER_CTX_ctrl(
+            context: *mut CipherContext,
+            what: c_int,
+            len: c_int,
+            data: *mut c_void,
+        ) -> c_int;
+        fn EVP_CipherInit_ex(
+            context: *mut CipherContext,
+            cipher: *const Cipher,
+            engine: *mut c_void,
+            key: *const u8,
+            nonce: *const u8,
+            direction: c_int,
+        ) -> c_int;
+        fn EVP_CipherUpdate(
+            context: *mut CipherContext,
+            out: *mut u8,
+            out_len: &mut c_int,
+            text: *const u8,
+            text_len: c_int,
+        ) -> c_int;
+        fn EVP_CipherFinal_ex(
+            context: *mut CipherContext,
+            out: *mut u8,
+            out_len: &mut c_int,
+        ) -> c_int;
+    }
+
+    pub fn version() -> String {
+        unsafe { string(OpenSSL_version(0)) }
+    }
+
+    /// A context of one cipher and one direction, made once and used for every call, since making
+    /// one takes longer than a call.
+    struct Context(*mut CipherContext, c_int);
+
+    impl Context {
+        fn new(cipher: *const Cipher, direction: c_int) -> Context {
+            let context = Context(unsafe { EVP_CIPHER_CTX_new() }, direction);
+            assert!(!context.0.is_null(), "EVP_CIPHER_CTX_new");
+            let status = unsafe {
+                EVP_CipherInit_ex(context.0, cipher, null_mut(), null(), null(), direction)
+            };
+            assert_eq!(status, 1, "EVP_CipherInit_ex: the cipher");
+            context
+        }
+
+        /// `nonce` must be as long as the cipher reads.
+        unsafe fn start(&mut self, key: &Key, nonce: *const u8) {
+            let key = key.as_ptr();
+            let status = EVP_CipherInit_ex(self.0, null(), null_mut(), key, nonce, self.1);
+            assert_eq!(status, 1, "EVP_CipherInit_ex: key and nonce");
+        }
+
+        /// `out` must have room for as many bytes, or be null: `text` is then additional data.
+        unsafe fn update(&mut self, out: *mut u8, text: *const u8, len: usize) {
+            let mut done = 0;
+            let status = EVP_CipherUpdate(self.0, out, &mut done, text, len as c_int);
+            assert_eq!((status, done), (1, len as c_int), "EVP_CipherUpdate");
+        }
+
+        /// Whether the tag fits, where there is one to compare.
+        fn finish(&mut self) -> bool {
+            // A cipher with no blocks writes nothing here.
+            let (mut nowhere, mut done) = ([0; 32], 0);
+            unsafe { EVP_CipherFinal_ex(self.0, nowhere.as_mut_ptr(), &mut done) == 1 }
+        }
+
+        /// Has OpenSSL write the tag, or read it. It writes none in SET_TAG.
+        unsafe fn tag(&mut self, what: c_int, tag: *mut Tag) {
+            let status = EVP_CIPHER_CTX_ctrl(self.0, what, 16, tag.cast());
+            assert_eq!(status, 1, "EVP_CIPHER_CTX_ctrl");
+        }
+    }
+
+    impl Drop for Context {
+        fn drop(&mut self) {
+            unsafe { EVP_CIPHER_CTX_free(self.0) }
+        }
+    }
+
+    /// OpenSSL has no key stream as such: it is what zeros are encrypted to.
+    pub struct Stream {
+        context: Context,
+        zeros: Vec<u32>,
+    }
+
+    impl Stream {
+        pub fn new(words: usize) -> Stream {
+            let context = Context::new(unsafe { EVP_chacha20() }, ENCRYPT);
+            let zeros = vec![0; words];
+            Stream { context, zeros }
+        }
+
+        pub fn stream(&mut self, key: &Key, nonce: &Nonce, out: &mut [u32]) {
+            assert_eq!(out.len(), self.zeros.len());
+            // The block counter, 0, and the nonce.
+            let mut counter_and_nonce = [0; 16];
+            counter_and_nonce[4..].copy_from_slice(nonce);
+            let (zeros, len) = (self.zeros.as_ptr().cast(), size_of_val(out));
+            unsafe {
+                self.context.start(key, counter_and_nonce.as_ptr());
+                self.context.update(out.as_mut_ptr().cast(), zeros, len);
+            }
+        }
+    }
+
+    pub struct Sealer(Context);
+
+    impl Sealer {
+        pub fn new() -> Sealer {
+            Sealer(Context::new(unsafe { EVP_chacha20_poly1305() }, ENCRYPT))
+        }
+
+        pub fn seal(&mut self, key: &Key, nonce: &Nonce, aad: &[u8], text: &mut [u8]) -> Tag {
+            let mut tag = [0; 16];
+            let (text, len) = (text.as_mut_ptr(), text.len());
+            unsafe {
+                self.0.start(key, nonce.as_ptr());
+                self.0.update(null_mut(), aad.as_ptr(), aad.len());
+                self.0.update(text, text, len);
+                assert!(self.0.finish(), "EVP_CipherFinal_ex");
+                self.0.tag(GET_TAG, &mut tag);
+            }
+            tag
+        }
+    }
+
+    pub struct Opener(Context);
+
+    impl Opener {
+        pub fn new() -> Opener {
+            Opener(Context::new(unsafe { EVP_chacha20_poly1305() }, DECRYPT))
+        }
+
+        pub fn open(
+            &mut self,
+            key: &Key,
+            nonce: &Nonce,
+            aad: &[u8],
+            text: &mut [u8],
+            tag: &Tag,
+        ) -> bool {
+            let (text, len) = (text.as_mut_ptr(), text.len());
+            unsafe {
+                self.0.start(key, nonce.as_ptr());
+                self.0.tag(SET_TAG, (tag as *const Tag).cast_mut());
+                self.0.update(null_mut(), aad.as_ptr(), aad.len());
+                self.0.update(text, text, len);
+            }
+            self.0.finish()
+        }
+    }
+}
+
+/// `text` must be a string of C.
+unsafe fn string(text: *const c_char) -> String {
+    CStr::from_ptr(text).to_string_lossy().into_owned()
+}

@@ -1,0 +1,198 @@
+//! Times rows: operations that several implementations can do, in short slices that take turns.
+
+use std::time::{Duration, Instant};
+
+/// A slice lasts from half of this to all of it, or one call where that takes longer: long beside
+/// a look at the clock, and short enough that nothing disturbs many of them.
+const SLICE: Duration = Duration::from_micros(100);
+
+/// How often each row has its turn; a row that takes long in a turn has fewer.
+const ROUNDS: usize = 3000;
+const LONG_TURN: Duration = Duration::from_millis(2);
+
+#[derive(Clone, Copy, PartialEq, Debug)]
+pub enum Who {
+    Ours,
+    Sodium,
+    OpenSsl,
+    Second,
+}
+
+/// How one implementation does the operation of a row: it leaves its answer in the buffer.
+pub struct Way<'a, T> {
+    who: Who,
+    run: Box<dyn FnMut(&mut T) + 'a>,
+}
+
+pub fn way<'a, T>(who: Who, run: impl FnMut(&mut T) + 'a) -> Way<'a, T> {
+    let run = Box::new(run);
+    Way { who, run }
+}
+
+/// An operation and the ways to do it. They share one buffer, so that none has a better place in
+/// memory than another.
+struct Operation<'a, T> {
+    name: String,
+    buffer: T,
+    ways: Vec<Way<'a, T>>,
+}
+
+/// An operation whatever its buffer is.
+pub trait Row {
+    fn name(&self) -> &str;
+    fn whos(&self) -> Vec<Who>;
+    /// Whether all ways leave the same answer.
+    fn check(&mut self) -> Result<(), String>;
+    /// The time of some calls of one way.
+    fn time(&mut self, way: usize, calls: u32) -> Duration;
+}
+
+/// A row. The buffer must not begin with the answer in it, or the check would be worth nothing.
+pub fn row<'a, T: Clone + PartialEq + 'a>(
+    name: &str,
+    buffer: T,
+    ways: Vec<Way<'a, T>>,
+) -> Box<dyn Row + 'a> {
+    let name = name.to_string();
+    Box::new(Operation { name, buffer, ways })
+}
+
+impl<T: Clone + PartialEq> Row for Operation<'_, T> {
+    fn name(&self) -> &str {
+        &self.name
+    }
+
+    fn whos(&self) -> Vec<Who> {
+        self.ways.iter().map(|way| way.who).collect()
+    }
+
+    fn check(&mut self) -> Result<(), String> {
+        let mut answers = Vec::new();
+        for way in &mut self.ways {
+            let mut buffer = self.buffer.clone();
+            (way.run)(&mut buffer);
+            if buffer == self.buffer {
+                return Err(format!("{}: {:?} did nothing", self.name, way.who));
+            }
+            answers.push((way.who, buffer));
+        }
+        let (first, expected) = &answers[0];
+        match answers.iter().find(|(_, answer)| answer != expected) {
+            None => Ok(()),
+            Some((who, _)) => Err(format!("{}: {first:?} and {who:?} differ", self.name)),
+        }
+    }
+
+    fn time(&mut self, way: usize, calls: u32) -> Duration {
+        let run = &mut self.ways[way].run;
+        // One call before the clock starts: another implementation has just been using the caches.
+        run(&mut self.buffer);
+        let start = Instant::now();
+        for _ in 0..calls {
+            run(&mut self.buffer);
+        }
+        start.elapsed()
+    }
+}
+
+/// How many calls of a way make a slice, and how long the best slice took.
+struct Clock {
+    calls: u32,
+    best: Duration,
+}
+
+impl Clock {
+    fn new(row: &mut dyn Row, way: usize) -> Clock {
+        let mut clock = Clock::with_calls(row, way, 1);
+        while clock.best < SLICE / 2 {
+            clock = Clock::with_calls(row, way, 2 * clock.calls);
+        }
+        clock
+    }
+
+    /// Several slices: a single one that was disturbed would make all that follow too short.
+    fn with_calls(row: &mut dyn Row, way: usize, calls: u32) -> Clock {
+        let best = Duration::MAX;
+        let mut clock = Clock { calls, best };
+        for _ in 0..5 {
+            clock.slice(row, way);
+        }
+        clock
+    }
+
+    fn slice(&mut self, row: &mut dyn Row, way: usize) {
+        self.best = self.best.min(row.time(way, self.calls));
+    }
+
+    fn nanoseconds(&self) -> f64 {
+        self.best.as_nanos() as f64 / f64::from(self.calls)
+    }
+}
+
+pub struct Timing {
+    pub name: String,
+    /// How many slices there were of each way.
+    pub slices: usize,
+    /// The time of a call in the best slice, in nanoseconds.
+    pub best: Vec<(Who, f64)>,
+}
+
+impl Timing {
+    pub fn of(&self, who: Who) -> Option<f64> {
+        let found = self.best.iter().find(|(name, _)| *name == who);
+        found.map(|(_, time)| *time)
+    }
+}
+
+/// A row being timed.
+struct Turns<'a, 'b> {
+    row: &'a mut (dyn Row + 'b),
+    clocks: Vec<Clock>,
+    /// The row has a turn in every so many rounds.
+    every: usize,
+    taken: usize,
+}
+
+impl<'a, 'b> Turns<'a, 'b> {
+    fn new(row: &'a mut (dyn Row + 'b)) -> Turns<'a, 'b> {
+        let ways = 0..row.whos().len();
+        let clocks: Vec<Clock> = ways.map(|way| Clock::new(row, way)).collect();
+        let turn: Duration = clocks.iter().map(|clock| clock.best).sum();
+        let every = turn.as_nanos().div_ceil(LONG_TURN.as_nanos()) as usize;
+        let taken = 0;
+        Turns {
+            row,
+            clocks,
+            every,
+            taken,
+        }
+    }
+
+    fn take(&mut self) {
+        for (way, clock) in self.clocks.iter_mut().enumerate() {
+            clock.slice(self.row, way);
+        }
+        self.taken += 1;
+    }
+
+    fn timing(&self) -> Timing {
+        let times = self.clocks.iter().map(Clock::nanoseconds);
+        Timing {
+            name: self.row.name().to_string(),
+            slices: self.taken,
+            best: self.row.whos().into_iter().zip(times).collect(),
+        }
+    }
+}
+
+/// Times all rows. Every row has its turns all over the run, and every implementation a slice in
+/// each of them, so that what disturbs for a while disturbs all alike.
+pub fn measure(rows: &mut [Box<dyn Row + '_>]) -> Vec<Timing> {
+    let mut turns: Vec<Turns> = rows.iter_mut().map(|row| Turns::new(&mut **row)).collect();
+    for round in 0..ROUNDS {
+        for row in turns.iter_mut().filter(|row| round % row.every == 0) {
+            row.take();
+        }
+    }
+    turns.iter().map(Turns::timing).collect()
+}

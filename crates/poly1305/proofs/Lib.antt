@@ -1,0 +1,4 @@
+pub mod Chain
+pub mod Limbs
+pub mod Bytes
+pub mod Pieces

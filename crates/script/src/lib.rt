@@ -1,0 +1,94 @@
+// Text scripts: lines of fields, read from a buffer, and answers written as hex and decimal
+// numbers. For the programs that run test vectors and records of calls.
+//
+// No public function has a `requires`: what can't be read is refused, and a position past the end
+// counts as the end. The contracts say where a part of a text lies and how many bytes a field gives;
+// no contract can say what a program writes.
+mod read;
+mod write;
+
+pub use read::Bytes;
+pub use read::Number;
+pub use read::Refusal;
+pub use read::Word;
+pub use read::fill;
+pub use read::read_bytes;
+pub use read::read_number;
+pub use read::read_word;
+pub use write::ROOM;
+pub use write::flush;
+pub use write::put_byte;
+pub use write::put_hex;
+pub use write::put_number;
+pub use write::put_text;
+ghost use Rattle.script.specs.Script.{NextPart};
+
+// The bytes from start to end, and where to look for what follows the mark at end: past the end of
+// the text if there is no mark.
+pub struct Span {
+    pub start: usize,
+    pub end: usize,
+    pub next: usize,
+}
+
+// What stands from a position on up to the next mark, or up to the end of the text.
+pub fn next_part(text: &[u8], from: usize, mark: u8) -> Span
+    ensures { λ r. ⌜ NextPart (now (text .entry)) from mark r ⌝ }
+{
+    let start = words::least(from, text.len());
+    let mut end = start;
+    while end < text.len() {
+        if text[end] == mark {
+            break;
+        }
+        end += 1;
+    }
+    Span {
+        start,
+        end,
+        next: end + 1,
+    }
+}
+
+pub fn next_line(text: &[u8], from: usize) -> Span
+    ensures { λ r. ⌜ NextPart (now (text .entry)) from 10 r ⌝ }
+{
+    next_part(text, from, b'\n')
+}
+
+// How many parts the marks divide a text into: one more than there are marks.
+pub fn part_count(text: &[u8], mark: u8) -> usize {
+    let mut count: usize = 0;
+    let mut at: usize = 0;
+    while at <= text.len() {
+        at = next_part(text, at, mark).next;
+        count += 1;
+    }
+    count
+}
+
+// The n-th part, counted from 0; no bytes if there are fewer parts.
+pub fn part(text: &[u8], mark: u8, n: usize) -> &[u8] {
+    let mut p = next_part(text, 0, mark);
+    let mut i: usize = 0;
+    while i < n {
+        p = next_part(text, p.next, mark);
+        i += 1;
+    }
+    let start = p.start;
+    let end = p.end;
+    &text[start..end]
+}
+
+// One space stands between two fields. Field 0 is the command's name.
+pub fn field(line: &[u8], n: usize) -> &[u8] {
+    part(line, b' ', n)
+}
+
+// Whether a line has the command's name, and as many fields in all.
+pub fn is_command(line: &[u8], name: &[u8], fields: usize) -> bool {
+    if part_count(line, b' ') != fields {
+        return false;
+    }
+    words::equal(field(line, 0), name)
+}

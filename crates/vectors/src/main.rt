@@ -1,0 +1,58 @@
+// Answers a script of test vectors, a line for each line: RFC 8439's own, and those that a second
+// implementation made. The output is compared with that implementation's.
+mod cipher;
+mod sealing;
+
+use script::ROOM;
+
+// One more than the longest script.
+const SIZE: usize = 262145;
+
+// The longest message in bytes.
+pub const MESSAGE: usize = 4096;
+
+// So that a mistake shows as a difference in the output.
+fn bad_line(out: &mut [u8; ROOM], at: usize) -> usize {
+    script::put_text(out, at, b"bad line")
+}
+
+fn answer(line: &[u8], out: &mut [u8; ROOM], at: usize) -> usize {
+    if script::is_command(line, b"quarter", 5) {
+        return cipher::quarter(line, out, at);
+    }
+    if script::is_command(line, b"block", 4) {
+        return cipher::block(line, out, at);
+    }
+    if script::is_command(line, b"stream", 4) {
+        return cipher::stream(line, out, at);
+    }
+    if script::is_command(line, b"xor", 5) {
+        return cipher::xor(line, out, at);
+    }
+    sealing::answer(line, out, at)
+}
+
+fn run(text: &[u8]) {
+    let mut out = [0u8; ROOM];
+    let mut at: usize = 0;
+    let mut from: usize = 0;
+    while from < text.len() {
+        let line = script::next_line(text, from);
+        let start = line.start;
+        let end = line.end;
+        at = answer(&text[start..end], &mut out, at);
+        at = script::put_byte(&mut out, at, b'\n');
+        from = line.next;
+    }
+    script::flush(&out, at);
+}
+
+fn main() {
+    let mut text = [0u8; SIZE];
+    let n = io::read_full(0, &mut text);
+    if n == SIZE {
+        io::write_all(1, b"script too long\n");
+        return;
+    }
+    run(&text[..n]);
+}

@@ -1,0 +1,141 @@
+// The commands on Poly1305, and on sealing and opening.
+use crate::MESSAGE;
+use crate::bad_line;
+use script::ROOM;
+
+// poly KEY MESSAGE
+fn poly(line: &[u8], out: &mut [u8; ROOM], at: usize) -> usize {
+    let mut key = [0u8; 32];
+    let mut text = [0u8; MESSAGE];
+    let ok = script::fill(script::field(line, 1), &mut key);
+    let t = script::read_bytes(script::field(line, 2), &mut text);
+    if !ok | t.refused() {
+        return bad_line(out, at);
+    }
+    let n = t.count;
+    script::put_hex(out, at, &poly1305::mac(&key, &text[..n]))
+}
+
+// polykey KEY NONCE
+fn poly_key(line: &[u8], out: &mut [u8; ROOM], at: usize) -> usize {
+    let mut key = [0u8; 32];
+    let mut nonce = [0u8; 12];
+    let ok = script::fill(script::field(line, 1), &mut key)
+        & script::fill(script::field(line, 2), &mut nonce);
+    if !ok {
+        return bad_line(out, at);
+    }
+    script::put_hex(out, at, &aead::poly_key(&key, &nonce))
+}
+
+fn put_sealed(
+    out: &mut [u8; ROOM],
+    at: usize,
+    key: &[u8; 32],
+    nonce: &[u8; 12],
+    aad: &[u8],
+    text: &mut [u8],
+    whole: bool,
+) -> usize {
+    let s = aead::seal(key, nonce, aad, text);
+    if !s.ok {
+        return bad_line(out, at);
+    }
+    let tag = s.tag;
+    let mut next = at;
+    if whole {
+        next = script::put_hex(out, next, text);
+        next = script::put_byte(out, next, b' ');
+    }
+    script::put_hex(out, next, &tag)
+}
+
+// seal KEY NONCE AAD DATA, answered by the ciphertext and the tag, or tag with the same fields,
+// answered by the tag alone.
+fn seal(line: &[u8], whole: bool, out: &mut [u8; ROOM], at: usize) -> usize {
+    let mut key = [0u8; 32];
+    let mut nonce = [0u8; 12];
+    let mut aad = [0u8; MESSAGE];
+    let mut text = [0u8; MESSAGE];
+    let ok = script::fill(script::field(line, 1), &mut key)
+        & script::fill(script::field(line, 2), &mut nonce);
+    let a = script::read_bytes(script::field(line, 3), &mut aad);
+    let t = script::read_bytes(script::field(line, 4), &mut text);
+    if !ok | a.refused() | t.refused() {
+        return bad_line(out, at);
+    }
+    let aad_len = a.count;
+    let text_len = t.count;
+    put_sealed(
+        out,
+        at,
+        &key,
+        &nonce,
+        &aad[..aad_len],
+        &mut text[..text_len],
+        whole,
+    )
+}
+
+fn put_opened(
+    out: &mut [u8; ROOM],
+    at: usize,
+    key: &[u8; 32],
+    nonce: &[u8; 12],
+    aad: &[u8],
+    text: &mut [u8],
+    tag: &[u8; 16],
+) -> usize {
+    if aead::open(key, nonce, aad, text, tag) {
+        script::put_hex(out, at, text)
+    } else {
+        script::put_text(out, at, b"refused")
+    }
+}
+
+// open KEY NONCE AAD CIPHERTEXT TAG
+fn unseal(line: &[u8], out: &mut [u8; ROOM], at: usize) -> usize {
+    let mut key = [0u8; 32];
+    let mut nonce = [0u8; 12];
+    let mut tag = [0u8; 16];
+    let mut aad = [0u8; MESSAGE];
+    let mut text = [0u8; MESSAGE];
+    let ok = script::fill(script::field(line, 1), &mut key)
+        & script::fill(script::field(line, 2), &mut nonce)
+        & script::fill(script::field(line, 5), &mut tag);
+    let a = script::read_bytes(script::field(line, 3), &mut aad);
+    let t = script::read_bytes(script::field(line, 4), &mut text);
+    if !ok | a.refused() | t.refused() {
+        return bad_line(out, at);
+    }
+    let aad_len = a.count;
+    let text_len = t.count;
+    put_opened(
+        out,
+        at,
+        &key,
+        &nonce,
+        &aad[..aad_len],
+        &mut text[..text_len],
+        &tag,
+    )
+}
+
+pub fn answer(line: &[u8], out: &mut [u8; ROOM], at: usize) -> usize {
+    if script::is_command(line, b"poly", 3) {
+        return poly(line, out, at);
+    }
+    if script::is_command(line, b"polykey", 3) {
+        return poly_key(line, out, at);
+    }
+    if script::is_command(line, b"seal", 5) {
+        return seal(line, true, out, at);
+    }
+    if script::is_command(line, b"tag", 5) {
+        return seal(line, false, out, at);
+    }
+    if script::is_command(line, b"open", 6) {
+        return unseal(line, out, at);
+    }
+    bad_line(out, at)
+}
