@@ -10,8 +10,9 @@ use lib.Pow.{field, mod-mod-pow, shr-shr}
 use Rattle.algebra.specs.Mod.{Mod}
 use Rattle.words.specs.List.{over, over-all}
 use Rattle.words.specs.Bytes.{le32, bytesOf, wordsAt}
-use Rattle.chacha20.specs.declared.State.{State}
-use Rattle.chacha20.specs.ChaCha20.{words, block, blockBytes}
+use Rattle.rounds.specs.declared.State.{State}
+use Rattle.rounds.specs.Rounds.{words}
+use Rattle.chacha20.specs.ChaCha20.{block, blockBytes}
 use Rattle.poly1305.specs.Poly1305.{bytes, prime, rOf, sOf, pieces, pad16, absorbAll, tagOf, mac}
 use Rattle.poly1305.specs.Limbs.{value, words4, modPrime}
 use Rattle.poly1305.specs.Laws.{absorbAll-then, pieces-append, padded-whole, length-bytes, value-zero, mac-law}

@@ -8,8 +8,9 @@ use lib.ListN.{length, getD, set}
 use Rattle.algebra.specs.Word.{add}
 use Rattle.words.specs.Spelt.{all}
 use Rattle.words.specs.List.{tab}
-use Rattle.chacha20.specs.declared.State.{State}
-use Rattle.chacha20.specs.ChaCha20.{words, added, rounds, doubleRound, blockFrom}
+use Rattle.rounds.specs.declared.State.{State}
+use Rattle.rounds.specs.Rounds.{words, doubleRound}
+use Rattle.chacha20.specs.ChaCha20.{added, rounds, blockFrom}
 use Rattle.lanes.specs.Lanes.{col, rows, upTo, row-more}
 
 -- its words, spelt out as the code reads them

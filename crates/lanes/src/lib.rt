@@ -7,9 +7,10 @@ ghost use lib.ListN.{length, getD, set};
 ghost use Prim.Native.Nat.{_<_};
 ghost use Rattle.algebra.specs.Word.{add};
 ghost use Rattle.words.specs.List.{tab};
-ghost use Rattle.chacha20.specs.ChaCha20.{words, doubleRound, blockFrom};
+ghost use Rattle.rounds.specs.Rounds.{words, doubleRound};
+ghost use Rattle.chacha20.specs.ChaCha20.{blockFrom};
 ghost use Rattle.lanes.specs.Lanes.{rows};
-use chacha20::State;
+use rounds::State;
 
 pub fn lane(x: &[u32; 64], l: usize) -> State
     requires { ⌜ l < 4 ⌝ }
@@ -64,7 +65,7 @@ fn double_rounds(x: &mut [u32; 64])
     let mut l: usize = 0;
     while l < 4 {
         let s = lane(x, l);
-        set_lane(x, l, chacha20::diagonal_round(chacha20::column_round(s)));
+        set_lane(x, l, rounds::diagonal_round(rounds::column_round(s)));
         l += 1;
     }
 }

@@ -6,8 +6,9 @@ use lib.ListN.{take, drop}
 use Rattle.algebra.specs.Word.{add}
 use Rattle.words.specs.List.{tab}
 use Rattle.words.specs.Bytes.{rotl, le32, bytesOf, wordAt, wordsAt}
-use Rattle.chacha20.specs.declared.Four.{Four}
-use Rattle.chacha20.specs.ChaCha20.{quarter, quarterAt, store, columnRound, diagonalRound, doubleRound, rounds, added, start, blockFrom, block, blockBytes}
+use Rattle.rounds.specs.declared.Four.{Four}
+use Rattle.rounds.specs.Rounds.{quarter, quarterAt, store, columnRound, diagonalRound, doubleRound}
+use Rattle.chacha20.specs.ChaCha20.{rounds, added, start, blockFrom, block, blockBytes}
 use Rattle.poly1305.specs.Poly1305.{number, bytes, clamp, piece, firstPieces, pieces, absorb, absorbAll, tagOf, rOf, sOf, mac, pad16}
 use Rattle.aead.specs.Aead.{polyKey, macData, tagFor}
 

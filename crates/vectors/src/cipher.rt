@@ -12,7 +12,7 @@ fn put_next(out: &mut [u8; ROOM], at: usize, w: u32) -> usize {
     script::put_number(out, next, w as u64)
 }
 
-fn put_four(out: &mut [u8; ROOM], at: usize, w: chacha20::Four) -> usize {
+fn put_four(out: &mut [u8; ROOM], at: usize, w: rounds::Four) -> usize {
     let mut next = script::put_number(out, at, w.a as u64);
     next = put_next(out, next, w.b);
     next = put_next(out, next, w.c);
@@ -33,7 +33,7 @@ pub fn quarter(line: &[u8], out: &mut [u8; ROOM], at: usize) -> usize {
     let Word::Value(d) = script::read_word(script::field(line, 4)) else {
         return bad_line(out, at);
     };
-    put_four(out, at, chacha20::quarter_round(a, b, c, d))
+    put_four(out, at, rounds::quarter_round(a, b, c, d))
 }
 
 fn put_word(out: &mut [u8; ROOM], at: usize, w: u32) -> usize {
@@ -56,7 +56,7 @@ fn put_words(out: &mut [u8; ROOM], at: usize, w: &[u32]) -> usize {
     next
 }
 
-fn put_state(out: &mut [u8; ROOM], at: usize, s: chacha20::State) -> usize {
+fn put_state(out: &mut [u8; ROOM], at: usize, s: rounds::State) -> usize {
     let w = [
         s.x0,
         s.x1,

@@ -1,7 +1,7 @@
-use Rattle.chacha20.specs.ChaCha20.{diagonalRound, quarterAt, store}
+use Rattle.rounds.specs.Rounds.{diagonalRound, quarterAt, store}
 use borrow.Author.Needs.{needs}
-use Rattle.chacha20.proofs.diagonal_round.Statement.{statement}
-use Rattle.chacha20.proofs.diagonal_round.Tie as tie
+use Rattle.rounds.proofs.diagonal_round.Statement.{statement}
+use Rattle.rounds.proofs.diagonal_round.Tie as tie
 
 quarter-round-requires : tie.Need-quarter-round-requires
 quarter-round-requires c κs = search needs

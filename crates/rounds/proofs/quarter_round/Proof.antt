@@ -1,7 +1,7 @@
-use Rattle.chacha20.specs.ChaCha20.{quarter}
+use Rattle.rounds.specs.Rounds.{quarter}
 use borrow.Author.Needs.{needs}
-use Rattle.chacha20.proofs.quarter_round.Statement.{statement}
-use Rattle.chacha20.proofs.quarter_round.Tie as tie
+use Rattle.rounds.proofs.quarter_round.Statement.{statement}
+use Rattle.rounds.proofs.quarter_round.Tie as tie
 
 add-requires : tie.Need-add-requires
 add-requires c κs = search needs
