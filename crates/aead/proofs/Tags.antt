@@ -13,8 +13,9 @@ use Rattle.words.specs.Bytes.{le32, bytesOf, wordsAt}
 use Rattle.rounds.specs.declared.State.{State}
 use Rattle.rounds.specs.Rounds.{words}
 use Rattle.chacha20.specs.ChaCha20.{block, blockBytes}
-use Rattle.poly1305.specs.Poly1305.{bytes, prime, rOf, sOf, pieces, pad16, absorbAll, tagOf, mac}
-use Rattle.poly1305.specs.Limbs.{value, words4, modPrime}
+use Rattle.limbs.specs.Limbs.{prime}
+use Rattle.poly1305.specs.Poly1305.{bytes, rOf, sOf, pieces, pad16, absorbAll, tagOf, mac}
+use Rattle.limbs.specs.Limbs.{value, words4, modPrime}
 use Rattle.poly1305.specs.Laws.{absorbAll-then, pieces-append, padded-whole, length-bytes, value-zero, mac-law}
 use Rattle.aead.specs.Aead.{polyKey, macData, within}
 

@@ -2,8 +2,8 @@
 // key_words and nonce_words read them from bytes.
 ghost use mathlib.Core.Path.{_≡_};
 ghost use Rattle.words.specs.Bytes.{wordsAt};
-ghost use Rattle.rounds.specs.Rounds.{words};
-ghost use Rattle.chacha20.specs.ChaCha20.{rounds, added, start as startOf, block as blockOf};
+ghost use Rattle.rounds.specs.Rounds.{words, rounds, added};
+ghost use Rattle.chacha20.specs.ChaCha20.{start as startOf, block as blockOf};
 use rounds::State;
 
 fn twenty_rounds(s: State) -> State

@@ -8,7 +8,8 @@ use Rattle.algebra.specs.Word.{add}
 use Rattle.words.specs.Spelt.{all}
 use Rattle.words.specs.List.{tab, over, over-next, over-all}
 use Rattle.words.specs.Bytes.{bytesOf, bytesOf-append, length-bytesOf}
-use Rattle.chacha20.specs.ChaCha20.{blockFrom, start, block, length-block}
+use Rattle.rounds.specs.Rounds.{blockFrom}
+use Rattle.chacha20.specs.ChaCha20.{start, block, length-block}
 use Rattle.lanes.specs.Lanes.{col, rows, flat, inOrder, length-col, length-inOrder, upTo, row-more}
 use Rattle.keystream.specs.Keystream.{starts, blocks, keyWord}
 

@@ -9,8 +9,7 @@ use Rattle.algebra.specs.Word.{add}
 use Rattle.words.specs.Spelt.{all}
 use Rattle.words.specs.List.{tab}
 use Rattle.rounds.specs.declared.State.{State}
-use Rattle.rounds.specs.Rounds.{words, doubleRound}
-use Rattle.chacha20.specs.ChaCha20.{added, rounds, blockFrom}
+use Rattle.rounds.specs.Rounds.{words, doubleRound, added, rounds, blockFrom}
 use Rattle.lanes.specs.Lanes.{col, rows, upTo, row-more}
 
 -- its words, spelt out as the code reads them

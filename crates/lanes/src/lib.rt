@@ -7,8 +7,7 @@ ghost use lib.ListN.{length, getD, set};
 ghost use Prim.Native.Nat.{_<_};
 ghost use Rattle.algebra.specs.Word.{add};
 ghost use Rattle.words.specs.List.{tab};
-ghost use Rattle.rounds.specs.Rounds.{words, doubleRound};
-ghost use Rattle.chacha20.specs.ChaCha20.{blockFrom};
+ghost use Rattle.rounds.specs.Rounds.{words, doubleRound, blockFrom};
 ghost use Rattle.lanes.specs.Lanes.{rows};
 use rounds::State;
 

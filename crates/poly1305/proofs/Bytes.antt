@@ -13,7 +13,7 @@ use Rattle.algebra.specs.Ring.{ring=, reify}
 use Rattle.words.specs.List.{over}
 use Rattle.words.specs.Bytes.{le32, wordAt}
 use Rattle.poly1305.specs.Poly1305.{number, bytes, clamp, rOf, sOf, tagOf}
-use Rattle.poly1305.specs.Limbs.{words4, low128}
+use Rattle.limbs.specs.Limbs.{words4, low128}
 
 -- ---- words out of bytes
 

@@ -1,4 +1,2 @@
-pub mod Chain
-pub mod Limbs
 pub mod Bytes
 pub mod Pieces

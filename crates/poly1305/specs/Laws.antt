@@ -8,8 +8,9 @@ use lib.Dec.{lit<}
 use lib.ListN.{length, take, drop, replicate, length-append, length-replicate, length-drop}
 use lib.Seq.{take-all, take-append-le, drop-append-le, drop-append-add}
 use Rattle.algebra.specs.Mod.{Mod, m-refl, m-eq, m-sym, m-trans, m-add, m-mul, m-mod}
-use Rattle.poly1305.specs.Limbs.{value, modPrime}
-use Rattle.poly1305.specs.Poly1305.{number, bytes, prime, piece, firstPieces, pieces, absorb, absorbAll, tagOf, rOf, sOf, mac, pad16}
+use Rattle.limbs.specs.Limbs.{value, modPrime}
+use Rattle.limbs.specs.Limbs.{prime}
+use Rattle.poly1305.specs.Poly1305.{number, bytes, piece, firstPieces, pieces, absorb, absorbAll, tagOf, rOf, sOf, mac, pad16}
 
 -- ---- the accumulator
 

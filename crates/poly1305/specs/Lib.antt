@@ -1,3 +1,3 @@
 pub mod Poly1305
-pub mod Limbs
+pub mod Blocks
 pub mod Laws

@@ -2,6 +2,7 @@
 use mathlib.Core.List.{List, [], _∷_, _++_}
 use Prim.Native.Nat.{ℕ, zero, suc, _+_, _*_, _-_, _/_, _%_, _^_}
 use lib.ListN.{length, getD, take, drop, replicate}
+use Rattle.limbs.specs.Limbs.{prime}
 
 -- le_bytes_to_num: the number whose bytes these are, lowest first
 unfoldable pub number : List ℕ → ℕ
@@ -12,10 +13,6 @@ number (b ∷ s) = b + 256 * number s
 unfoldable pub bytes : ℕ → ℕ → List ℕ
 bytes zero x = []
 bytes (suc n) x = x % 256 ∷ bytes n (x / 256)
-
--- "the constant prime "P""
-abbrev pub prime : ℕ
-prime = 2 ^ 130 - 5
 
 -- "r[3], r[7], r[11], and r[15] are required to have their top four bits clear (be smaller than 16)";
 -- "r[4], r[8], and r[12] are required to have their bottom two bits clear (be divisible by 4)"

@@ -1,14 +1,12 @@
 -- RFC 8439's worked examples of section 2, as theorems about the definitions, each by computation. Assumes nothing.
 use mathlib.Core.Path.{_≡_, refl}
-use mathlib.Core.List.{List, [], _∷_, _++_}
+use mathlib.Core.List.{List, [], _∷_}
 use Prim.Native.Nat.{ℕ}
-use lib.ListN.{take, drop}
 use Rattle.algebra.specs.Word.{add}
 use Rattle.words.specs.List.{tab}
 use Rattle.words.specs.Bytes.{rotl, le32, bytesOf, wordAt, wordsAt}
-use Rattle.rounds.specs.declared.Four.{Four}
-use Rattle.rounds.specs.Rounds.{quarter, quarterAt, store, columnRound, diagonalRound, doubleRound}
-use Rattle.chacha20.specs.ChaCha20.{rounds, added, start, blockFrom, block, blockBytes}
+use Rattle.rounds.specs.Rounds.{quarter, quarterAt, store, columnRound, diagonalRound, doubleRound, rounds, added, blockFrom}
+use Rattle.chacha20.specs.ChaCha20.{start, block, blockBytes}
 use Rattle.poly1305.specs.Poly1305.{number, bytes, clamp, piece, firstPieces, pieces, absorb, absorbAll, tagOf, rOf, sOf, mac, pad16}
 use Rattle.aead.specs.Aead.{polyKey, macData, tagFor}
 

@@ -1,7 +1,8 @@
 -- The definitions of RFC 8439, 2.1, 2.2 and the rounds of 2.3, on words, which are numbers below 2^32, and on states, which are lists of 16 words.
 -- Assumes nothing.
-use mathlib.Core.Path.{_≡_}
-use Prim.Native.Nat.{ℕ}
+use mathlib.Core.Path.{_≡_, refl, ap, _∙_}
+use Prim.Native.Nat.{ℕ, zero, suc}
+use native.Mathlib.Omega.{arith}
 use mathlib.Core.List.{List, [], _∷_}
 use lib.Bits.{bitXor}
 use lib.ListN.{length, getD, set, length-set}
@@ -42,6 +43,21 @@ diagonalRound s = quarterAt 3 4 9 14 (quarterAt 2 7 8 13 (quarterAt 1 6 11 12 (q
 unfoldable pub doubleRound : List ℕ → List ℕ
 doubleRound s = diagonalRound (columnRound s)
 
+-- 2.3: n double rounds
+unfoldable pub rounds : ℕ → List ℕ → List ℕ
+rounds zero s = s
+rounds (suc n) s = doubleRound (rounds n s)
+
+-- 2.3: two states, added word by word
+unfoldable pub added : List ℕ → List ℕ → List ℕ
+added [] t = []
+added (a ∷ s) [] = []
+added (a ∷ s) (b ∷ t) = add a b ∷ added s t
+
+-- 2.3: twenty rounds, and the sum of what they give and what they were given
+unfoldable pub blockFrom : List ℕ → List ℕ
+blockFrom s = added (rounds 10 s) s
+
 -- the words of a state
 abbrev pub words : State → List ℕ
 words s =
@@ -56,3 +72,19 @@ length-quarterAt x y z w s = simp length-set
 pub length-doubleRound : (s : List ℕ) → length (doubleRound s) ≡ length s
 unfolding doubleRound columnRound diagonalRound
 length-doubleRound s = simp length-quarterAt
+
+length-rounds : (n : ℕ) (s : List ℕ) → length (rounds n s) ≡ length s
+unfolding rounds
+length-rounds zero s = refl
+length-rounds (suc n) s = length-doubleRound (rounds n s) ∙ length-rounds n s
+
+length-added : (s t : List ℕ) → length s ≡ length t → length (added s t) ≡ length t
+unfolding added
+length-added [] [] h = refl
+length-added [] (b ∷ t) h = absurd (omega arith)
+length-added (a ∷ s) [] h = absurd (omega arith)
+length-added (a ∷ s) (b ∷ t) h = ap suc (length-added s t (omega arith))
+
+pub length-blockFrom : (s : List ℕ) → length (blockFrom s) ≡ length s
+unfolding blockFrom
+length-blockFrom s = length-added (rounds 10 s) s (length-rounds 10 s)

@@ -1,5 +1,5 @@
 use mathlib.Core.List.{[], _∷_}
-use Rattle.chacha20.specs.ChaCha20.{added}
+use Rattle.rounds.specs.Rounds.{added}
 use borrow.Author.Needs.{needs}
 use Rattle.chacha20.proofs.add_states.Statement.{statement}
 use Rattle.chacha20.proofs.add_states.Tie as tie

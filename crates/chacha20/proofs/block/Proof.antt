@@ -1,4 +1,5 @@
-use Rattle.chacha20.specs.ChaCha20.{block, blockFrom}
+use Rattle.rounds.specs.Rounds.{blockFrom}
+use Rattle.chacha20.specs.ChaCha20.{block}
 use borrow.Author.Needs.{needs}
 use Rattle.chacha20.proofs.block.Statement.{statement}
 use Rattle.chacha20.proofs.block.Tie as tie

@@ -1,5 +1,4 @@
-use Rattle.rounds.specs.Rounds.{words, columnRound, diagonalRound, doubleRound}
-use Rattle.chacha20.specs.ChaCha20.{rounds}
+use Rattle.rounds.specs.Rounds.{words, columnRound, diagonalRound, doubleRound, rounds}
 use borrow.Author.Needs.{needs}
 use mathlib.Core.Path.{_≡_, refl, ap, _∙_}
 use Prim.Native.Nat.{_≤_, _-_}

@@ -1,7 +1,7 @@
 use borrow.Author.Needs.{needs}
 use mathlib.Core.Path.{ap, _∙_}
 use mathlib.Core.List.{map}
-use Rattle.chacha20.specs.ChaCha20.{blockFrom}
+use Rattle.rounds.specs.Rounds.{blockFrom}
 use Rattle.keystream.proofs.Blocks.{blocks-of-starts}
 use Rattle.keystream.proofs.next_blocks.Statement.{statement}
 use Rattle.keystream.proofs.next_blocks.Tie as tie

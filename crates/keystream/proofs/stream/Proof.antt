@@ -1,17 +1,11 @@
 use borrow.Author.Needs.{needs}
-use mathlib.Core.Path.{_≡_, refl, sym}
+use mathlib.Core.Path.{refl}
 use Prim.Native.Nat.{_-_}
 use native.Mathlib.Omega.{arith}
 use lib.ListN.{length}
 use Rattle.keystream.proofs.Turns.{Filled, filled-none, filled-more, filled-all, filled-last}
 use Rattle.keystream.proofs.stream.Statement.{statement}
 use Rattle.keystream.proofs.stream.Tie as tie
-use Rattle.keystream.proofs.stream.Reads as reads
-use Rattle.keystream.proofs.stream.Lts as lts
-use Rattle.keystream.proofs.next_blocks.Reads as next-blocks-reads
-use Rattle.keystream.proofs.put_lanes.Reads as put-lanes-reads
-use Rattle.keystream.proofs.put_part.Reads as put-part-reads
-use Rattle.words.proofs.add.Reads as add-reads
 
 abbrev Inv-loop : tie.InvT-loop
 Inv-loop key nonce out₀ x₀ at₀ n₀ out x at n = Filled key nonce out₀ out at n

@@ -3,7 +3,7 @@ use mathlib.Core.Path.{_≡_, refl, ap, _∙_}
 use Prim.Native.Nat.{_≤_, _-_}
 use native.Mathlib.Omega.{arith}
 use mathlib.Core.List.{map}
-use Rattle.chacha20.specs.ChaCha20.{rounds}
+use Rattle.rounds.specs.Rounds.{rounds}
 use Rattle.lanes.specs.Lanes.{rows}
 use Rattle.lanes.proofs.Rows.{added-rows, rounds-more}
 use Rattle.lanes.proofs.four_blocks.Statement.{statement}

@@ -2,7 +2,7 @@ use Prim.Native.Nat.{_-_, _*_, _^_}
 use native.Mathlib.Omega.{arith}
 use lib.ListN.{length}
 use borrow.Author.Needs.{needs}
-use Rattle.poly1305.specs.Limbs.{value, Limbs}
+use Rattle.limbs.specs.Limbs.{value, Limbs}
 use Rattle.poly1305.proofs.Pieces.{Absorbed, absorbed-none, absorbed-more, absorbed-all}
 use Rattle.poly1305.proofs.absorb_blocks.Statement.{statement}
 use Rattle.poly1305.proofs.absorb_blocks.Tie as tie

@@ -1,6 +1,6 @@
 use mathlib.Core.Path.{_∙_}
 use borrow.Author.Needs.{needs}
-use Rattle.poly1305.proofs.Limbs.{weaken}
+use Rattle.limbs.proofs.Limbs.{weaken}
 use Rattle.poly1305.proofs.Bytes.{r-law}
 use Rattle.poly1305.proofs.clamped_r.Statement.{statement}
 use Rattle.poly1305.proofs.clamped_r.Tie as tie

@@ -2,9 +2,9 @@ use mathlib.Core.Path.{refl}
 use native.Mathlib.Nat.{mod-lt}
 use lib.Dec.{lit<}
 use borrow.Author.Needs.{needs}
-use Rattle.poly1305.proofs.Limbs.{sum0-fits, sum-fits, word0, word1, word2, word3, add-s-law}
-use Rattle.poly1305.proofs.add_s.Statement.{statement}
-use Rattle.poly1305.proofs.add_s.Tie as tie
+use Rattle.limbs.proofs.Limbs.{sum0-fits, sum-fits, word0, word1, word2, word3, add-s-law}
+use Rattle.limbs.proofs.add_s.Statement.{statement}
+use Rattle.limbs.proofs.add_s.Tie as tie
 
 array-read-t0 : tie.Need-array-read-t0
 array-read-t0 c = search needs

@@ -2,9 +2,9 @@ use mathlib.Core.Path.{refl}
 use Prim.Native.Nat.{_*_}
 use lib.Dec.{lit≤}
 use borrow.Author.Needs.{needs}
-use Rattle.poly1305.proofs.Limbs.{hand, fits62, start, small, limb, least, carried, remains}
-use Rattle.poly1305.proofs.remainder.Statement.{statement}
-use Rattle.poly1305.proofs.remainder.Tie as tie
+use Rattle.limbs.proofs.Limbs.{hand, fits62, start, small, limb, least, carried, remains}
+use Rattle.limbs.proofs.remainder.Statement.{statement}
+use Rattle.limbs.proofs.remainder.Tie as tie
 
 over-prime-requires : tie.Need-over-prime-requires
 over-prime-requires c κs = search needs

@@ -1,7 +1,7 @@
 use borrow.Author.Needs.{needs}
-use Rattle.poly1305.proofs.Limbs.{product}
-use Rattle.poly1305.proofs.multiply.Statement.{statement}
-use Rattle.poly1305.proofs.multiply.Tie as tie
+use Rattle.limbs.proofs.Limbs.{product}
+use Rattle.limbs.proofs.multiply.Statement.{statement}
+use Rattle.limbs.proofs.multiply.Tie as tie
 
 array-read-s1 : tie.Need-array-read-s1
 array-read-s1 c = search needs

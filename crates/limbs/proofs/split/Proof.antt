@@ -1,8 +1,8 @@
 use borrow.Author.Needs.{needs}
-use Rattle.poly1305.specs.Limbs.{value}
-use Rattle.poly1305.proofs.Limbs.{split-value}
-use Rattle.poly1305.proofs.split.Statement.{statement}
-use Rattle.poly1305.proofs.split.Tie as tie
+use Rattle.limbs.specs.Limbs.{value}
+use Rattle.limbs.proofs.Limbs.{split-value}
+use Rattle.limbs.proofs.split.Statement.{statement}
+use Rattle.limbs.proofs.split.Tie as tie
 
 mul-t9 : tie.Need-mul-t9
 mul-t9 c = search needs

@@ -1,8 +1,11 @@
 -- Numbers as the code has them: five limbs of 26 bits, or four words of 32, lowest first. Assumes nothing.
 use mathlib.Core.List.{List}
-use Prim.Native.Nat.{ℕ, zero, suc, _+_, _*_, _/_, _%_, _^_, _<_}
+use Prim.Native.Nat.{ℕ, _+_, _-_, _*_, _/_, _%_, _^_, _<_}
 use lib.ListN.{getD}
-use Rattle.poly1305.specs.Poly1305.{number, prime, piece}
+
+-- RFC 8439, 2.5: "the constant prime "P""
+abbrev pub prime : ℕ
+prime = 2 ^ 130 - 5
 
 -- the number of five limbs
 unfoldable pub value : List ℕ → ℕ
@@ -27,11 +30,6 @@ Limbs h = Below (2 ^ 26 + 2 ^ 13) h
 -- a column of a product
 unfoldable pub column : List ℕ → ℕ → ℕ → ℕ → ℕ → ℕ → ℕ
 column h b0 b1 b2 b3 b4 = getD h 0 0 * b0 + getD h 1 0 * b1 + getD h 2 0 * b2 + getD h 3 0 * b3 + getD h 4 0 * b4
-
--- the accumulator a after the first n blocks of m, with t added to each, before the remainder
-unfoldable pub blocks : ℕ → ℕ → ℕ → List ℕ → ℕ → ℕ
-blocks r t a m zero = a
-blocks r t a m (suc n) = (blocks r t a m n + (number (piece m n) + t)) * r
 
 -- (These have names because `omega` stops at numbers as large as theirs, and takes a name for an unknown.)
 -- how often x and 5 hold 2^130; x modulo the prime; the lowest 128 bits of x

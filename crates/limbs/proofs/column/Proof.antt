@@ -1,9 +1,9 @@
 use native.Mathlib.Omega.{arith}
 use borrow.Author.Needs.{needs}
-use Rattle.poly1305.specs.Limbs.{column}
-use Rattle.poly1305.proofs.Limbs.{fits}
-use Rattle.poly1305.proofs.column.Statement.{statement}
-use Rattle.poly1305.proofs.column.Tie as tie
+use Rattle.limbs.specs.Limbs.{column}
+use Rattle.limbs.proofs.Limbs.{fits}
+use Rattle.limbs.proofs.column.Statement.{statement}
+use Rattle.limbs.proofs.column.Tie as tie
 
 array-read-result : tie.Need-array-read-result
 array-read-result c = search needs

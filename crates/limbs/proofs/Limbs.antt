@@ -8,9 +8,8 @@ use lib.Dec.{lit<, lit≤}
 use lib.ListN.{getD}
 use Rattle.algebra.specs.Mod.{Mod, m-eq, m-by, m-exact}
 use Rattle.algebra.specs.Ring.{ring, ring=, reify}
-use Rattle.poly1305.specs.Poly1305.{prime}
-use Rattle.poly1305.specs.Limbs.{value, words4, Below, Limbs, column, overPrime, modPrime, low128}
-use Rattle.poly1305.proofs.Chain.{keeps, hands}
+use Rattle.limbs.specs.Limbs.{prime, value, words4, Below, Limbs, column, overPrime, modPrime, low128}
+use Rattle.limbs.proofs.Chain.{keeps, hands}
 
 -- ---- split
 

@@ -1,9 +1,9 @@
 use mathlib.Core.Path.{refl}
 use lib.Dec.{lit<, lit≤}
 use borrow.Author.Needs.{needs}
-use Rattle.poly1305.proofs.Limbs.{hand, fits62, start, limb, carried-out, over-is}
-use Rattle.poly1305.proofs.over_prime.Statement.{statement}
-use Rattle.poly1305.proofs.over_prime.Tie as tie
+use Rattle.limbs.proofs.Limbs.{hand, fits62, start, limb, carried-out, over-is}
+use Rattle.limbs.proofs.over_prime.Statement.{statement}
+use Rattle.limbs.proofs.over_prime.Tie as tie
 
 array-read-d0 : tie.Need-array-read-d0
 array-read-d0 c = search needs

@@ -1,7 +1,7 @@
 use borrow.Author.Needs.{needs}
-use Rattle.poly1305.proofs.Limbs.{plus-value}
-use Rattle.poly1305.proofs.plus.Statement.{statement}
-use Rattle.poly1305.proofs.plus.Tie as tie
+use Rattle.limbs.proofs.Limbs.{plus-value}
+use Rattle.limbs.proofs.plus.Statement.{statement}
+use Rattle.limbs.proofs.plus.Tie as tie
 
 array-read-t7 : tie.Need-array-read-t7
 array-read-t7 c = search needs

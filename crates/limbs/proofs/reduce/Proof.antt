@@ -1,9 +1,9 @@
 use mathlib.Core.Path.{refl}
 use lib.Dec.{lit≤}
 use borrow.Author.Needs.{needs}
-use Rattle.poly1305.proofs.Limbs.{hand, alone, fits62, five, first, second, reduced-below, reduced-value}
-use Rattle.poly1305.proofs.reduce.Statement.{statement}
-use Rattle.poly1305.proofs.reduce.Tie as tie
+use Rattle.limbs.proofs.Limbs.{hand, alone, fits62, five, first, second, reduced-below, reduced-value}
+use Rattle.limbs.proofs.reduce.Statement.{statement}
+use Rattle.limbs.proofs.reduce.Tie as tie
 
 array-read-d1 : tie.Need-array-read-d1
 array-read-d1 c = search needs

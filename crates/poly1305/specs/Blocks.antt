@@ -1,0 +1,9 @@
+-- What the loop over a message has absorbed. Assumes nothing.
+use mathlib.Core.List.{List}
+use Prim.Native.Nat.{ℕ, zero, suc, _+_, _*_}
+use Rattle.poly1305.specs.Poly1305.{number, piece}
+
+-- the accumulator a after the first n blocks of m, with t added to each, before the remainder
+unfoldable pub blocks : ℕ → ℕ → ℕ → List ℕ → ℕ → ℕ
+blocks r t a m zero = a
+blocks r t a m (suc n) = (blocks r t a m n + (number (piece m n) + t)) * r
