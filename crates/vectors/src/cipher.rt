@@ -1,39 +1,51 @@
 // The commands on ChaCha20 alone.
 use crate::MESSAGE;
 use crate::bad_line;
+use crate::read_keys;
 use script::ROOM;
 use script::Word;
 
 // The longest key stream, in words.
 const STREAM: usize = 600;
 
-fn put_next(out: &mut [u8; ROOM], at: usize, w: u32) -> usize {
-    let next = script::put_byte(out, at, b' ');
-    script::put_number(out, next, w as u64)
+fn wide(x: u32) -> u64 {
+    x as u64
 }
 
-fn put_four(out: &mut [u8; ROOM], at: usize, w: rounds::Four) -> usize {
-    let mut next = script::put_number(out, at, w.a as u64);
-    next = put_next(out, next, w.b);
-    next = put_next(out, next, w.c);
-    put_next(out, next, w.d)
+fn put_numbers(out: &mut [u8; ROOM], at: usize, w: &[u32]) -> usize {
+    let mut next = at;
+    let mut i: usize = 0;
+    while i < w.len() {
+        if 0 < i {
+            next = script::put_byte(out, next, b' ');
+        }
+        next = script::put_number(out, next, wide(w[i]));
+        i += 1;
+    }
+    next
+}
+
+// Whether the fields after the first are all words, and are then read.
+fn read_words(line: &[u8], w: &mut [u32]) -> bool {
+    let mut i: usize = 0;
+    while i < w.len() {
+        let Word::Value(x) = script::read_word(script::field(line, i + 1)) else {
+            return false;
+        };
+        w[i] = x;
+        i += 1;
+    }
+    true
 }
 
 // quarter A B C D
 pub fn quarter(line: &[u8], out: &mut [u8; ROOM], at: usize) -> usize {
-    let Word::Value(a) = script::read_word(script::field(line, 1)) else {
+    let mut w = [0u32; 4];
+    if !read_words(line, &mut w) {
         return bad_line(out, at);
-    };
-    let Word::Value(b) = script::read_word(script::field(line, 2)) else {
-        return bad_line(out, at);
-    };
-    let Word::Value(c) = script::read_word(script::field(line, 3)) else {
-        return bad_line(out, at);
-    };
-    let Word::Value(d) = script::read_word(script::field(line, 4)) else {
-        return bad_line(out, at);
-    };
-    put_four(out, at, rounds::quarter_round(a, b, c, d))
+    }
+    let q = rounds::quarter_round(w[0], w[1], w[2], w[3]);
+    put_numbers(out, at, &[q.a, q.b, q.c, q.d])
 }
 
 fn put_word(out: &mut [u8; ROOM], at: usize, w: u32) -> usize {
@@ -82,8 +94,7 @@ fn put_state(out: &mut [u8; ROOM], at: usize, s: rounds::State) -> usize {
 pub fn block(line: &[u8], out: &mut [u8; ROOM], at: usize) -> usize {
     let mut key = [0u8; 32];
     let mut nonce = [0u8; 12];
-    let ok = script::fill(script::field(line, 1), &mut key)
-        & script::fill(script::field(line, 3), &mut nonce);
+    let ok = read_keys(line, 1, 3, &mut key, &mut nonce);
     if !ok {
         return bad_line(out, at);
     }
@@ -119,8 +130,7 @@ pub fn stream(line: &[u8], out: &mut [u8; ROOM], at: usize) -> usize {
     let mut key = [0u8; 32];
     let mut nonce = [0u8; 12];
     let mut w = [0u32; STREAM];
-    let ok = script::fill(script::field(line, 1), &mut key)
-        & script::fill(script::field(line, 2), &mut nonce);
+    let ok = read_keys(line, 1, 2, &mut key, &mut nonce);
     if !ok {
         return bad_line(out, at);
     }
@@ -154,8 +164,7 @@ pub fn xor(line: &[u8], out: &mut [u8; ROOM], at: usize) -> usize {
     let mut key = [0u8; 32];
     let mut nonce = [0u8; 12];
     let mut text = [0u8; MESSAGE];
-    let ok = script::fill(script::field(line, 1), &mut key)
-        & script::fill(script::field(line, 3), &mut nonce);
+    let ok = read_keys(line, 1, 3, &mut key, &mut nonce);
     let t = script::read_bytes(script::field(line, 4), &mut text);
     if !ok | t.refused() {
         return bad_line(out, at);

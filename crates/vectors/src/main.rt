@@ -11,6 +11,18 @@ const SIZE: usize = 262145;
 // The longest message in bytes.
 pub const MESSAGE: usize = 4096;
 
+// Whether a line has a key and a nonce at two of its fields; they are then read.
+fn read_keys(
+    line: &[u8],
+    key_at: usize,
+    nonce_at: usize,
+    key: &mut [u8; 32],
+    nonce: &mut [u8; 12],
+) -> bool {
+    script::fill(script::field(line, key_at), key)
+        & script::fill(script::field(line, nonce_at), nonce)
+}
+
 // So that a mistake shows as a difference in the output.
 fn bad_line(out: &mut [u8; ROOM], at: usize) -> usize {
     script::put_text(out, at, b"bad line")

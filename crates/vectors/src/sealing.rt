@@ -1,6 +1,7 @@
 // The commands on Poly1305, and on sealing and opening.
 use crate::MESSAGE;
 use crate::bad_line;
+use crate::read_keys;
 use script::ROOM;
 
 // poly KEY MESSAGE
@@ -20,8 +21,7 @@ fn poly(line: &[u8], out: &mut [u8; ROOM], at: usize) -> usize {
 fn poly_key(line: &[u8], out: &mut [u8; ROOM], at: usize) -> usize {
     let mut key = [0u8; 32];
     let mut nonce = [0u8; 12];
-    let ok = script::fill(script::field(line, 1), &mut key)
-        & script::fill(script::field(line, 2), &mut nonce);
+    let ok = read_keys(line, 1, 2, &mut key, &mut nonce);
     if !ok {
         return bad_line(out, at);
     }
@@ -57,8 +57,7 @@ fn seal(line: &[u8], whole: bool, out: &mut [u8; ROOM], at: usize) -> usize {
     let mut nonce = [0u8; 12];
     let mut aad = [0u8; MESSAGE];
     let mut text = [0u8; MESSAGE];
-    let ok = script::fill(script::field(line, 1), &mut key)
-        & script::fill(script::field(line, 2), &mut nonce);
+    let ok = read_keys(line, 1, 2, &mut key, &mut nonce);
     let a = script::read_bytes(script::field(line, 3), &mut aad);
     let t = script::read_bytes(script::field(line, 4), &mut text);
     if !ok | a.refused() | t.refused() {
@@ -100,8 +99,7 @@ fn unseal(line: &[u8], out: &mut [u8; ROOM], at: usize) -> usize {
     let mut tag = [0u8; 16];
     let mut aad = [0u8; MESSAGE];
     let mut text = [0u8; MESSAGE];
-    let ok = script::fill(script::field(line, 1), &mut key)
-        & script::fill(script::field(line, 2), &mut nonce)
+    let ok = read_keys(line, 1, 2, &mut key, &mut nonce)
         & script::fill(script::field(line, 5), &mut tag);
     let a = script::read_bytes(script::field(line, 3), &mut aad);
     let t = script::read_bytes(script::field(line, 4), &mut text);
