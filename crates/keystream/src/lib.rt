@@ -26,7 +26,7 @@ fn next_blocks(x: &mut [u32; 64], key: [u32; 8], counter: u32, nonce: [u32; 3])
     ensures { λ _. ⌜ rows (now (x .exit)) ≡ blocks key counter nonce ⌝ }
 {
     four_starts(x, key, counter, nonce);
-    lanes::four_blocks(x);
+    pass::four_blocks(x);
 }
 
 fn put_lane(out: &mut [u32], at: usize, x: &[u32; 64], l: usize)

@@ -1,13 +1,10 @@
-// Four ChaCha20 blocks at a time. Word w of state l stands at 4 * w + l, so that LLVM makes one
-// vector operation of the four states' words: this is where nearly all of the time of a door check
-// goes.
+// Four ChaCha20 states side by side in 64 words: one read, one written. Word w of state l stands
+// at 4 * w + l, so that LLVM makes one vector operation of the four states' words.
 ghost use mathlib.Core.Path.{_≡_};
-ghost use mathlib.Core.List.{[], map};
+ghost use mathlib.Core.List.{[]};
 ghost use lib.ListN.{length, getD, set};
 ghost use Prim.Native.Nat.{_<_};
-ghost use Rattle.algebra.specs.Word.{add};
-ghost use Rattle.words.specs.List.{tab};
-ghost use Rattle.rounds.specs.Rounds.{words, doubleRound, blockFrom};
+ghost use Rattle.rounds.specs.Rounds.{words};
 ghost use Rattle.lanes.specs.Lanes.{rows};
 use rounds::State;
 
@@ -55,40 +52,4 @@ pub fn set_lane(x: &mut [u32], l: usize, t: State)
     x[52 + l] = t.x13;
     x[56 + l] = t.x14;
     x[60 + l] = t.x15;
-}
-
-// A double round on each of the four states. LLVM vectorises this loop.
-fn double_rounds(x: &mut [u32; 64])
-    ensures { λ _. ⌜ rows (now (x .exit)) ≡ map doubleRound (rows (now (x .entry))) ⌝ }
-{
-    let mut l: usize = 0;
-    while l < 4 {
-        let s = lane(x, l);
-        set_lane(x, l, rounds::diagonal_round(rounds::column_round(s)));
-        l += 1;
-    }
-}
-
-fn add_words(x: &mut [u32], y: &[u32; 64])
-    requires { ⌜ length (now x) ≡ 64 ⌝ }
-    ensures { λ _. ⌜ now (x .exit) ≡ tab (λ i. add (getD (now (x .entry)) i 0) (getD (now (y .entry)) i 0)) 64 ⌝ }
-{
-    let mut i: usize = 0;
-    while i < 64 {
-        x[i] = words::add(x[i], y[i]);
-        i += 1;
-    }
-}
-
-// Four starting states, of any keys, counters and nonces, become their blocks.
-pub fn four_blocks(x: &mut [u32; 64])
-    ensures { λ _. ⌜ rows (now (x .exit)) ≡ map blockFrom (rows (now (x .entry))) ⌝ }
-{
-    let y = *x;
-    let mut i: u32 = 0;
-    while i < 10 {
-        double_rounds(x);
-        i += 1;
-    }
-    add_words(x, &y);
 }

@@ -4,11 +4,11 @@ use Prim.Native.Nat.{_≤_, _-_}
 use native.Mathlib.Omega.{arith}
 use mathlib.Core.List.{map}
 use Rattle.rounds.specs.Rounds.{columnRound, diagonalRound, doubleRound}
 use Rattle.lanes.specs.Lanes.{rows}
 use Rattle.lanes.specs.Lanes.{upTo}
-use Rattle.lanes.proofs.Rows.{round-more}
-use Rattle.lanes.proofs.double_rounds.Statement.{statement}
-use Rattle.lanes.proofs.double_rounds.Tie as tie
+use Rattle.pass.proofs.Turns.{round-more}
+use Rattle.pass.proofs.double_rounds.Statement.{statement}
+use Rattle.pass.proofs.double_rounds.Tie as tie
 
 abbrev Inv-loop : tie.InvT-loop
 Inv-loop x₀ l₀ x l = (l ≤ 4) × (rows x ≡ upTo l (map doubleRound (rows x₀)) (rows x₀))

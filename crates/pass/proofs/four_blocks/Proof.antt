@@ -4,10 +4,10 @@ use Prim.Native.Nat.{_≤_, _-_}
 use native.Mathlib.Omega.{arith}
 use mathlib.Core.List.{map}
 use Rattle.rounds.specs.Rounds.{rounds}
 use Rattle.lanes.specs.Lanes.{rows}
-use Rattle.lanes.proofs.Rows.{added-rows, rounds-more}
-use Rattle.lanes.proofs.four_blocks.Statement.{statement}
-use Rattle.lanes.proofs.four_blocks.Tie as tie
+use Rattle.pass.proofs.Turns.{added-rows, rounds-more}
+use Rattle.pass.proofs.four_blocks.Statement.{statement}
+use Rattle.pass.proofs.four_blocks.Tie as tie
 
 abbrev Inv-loop : tie.InvT-loop
 Inv-loop x₀ y i₀ x i = (i ≤ 10) × (rows x ≡ map (rounds i) (rows y))
