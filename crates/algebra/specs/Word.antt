@@ -28,10 +28,6 @@ mul a b = a * b % 2 ^ 32
 unfoldable pub signed : ℕ → ℤ
 signed w = cond (ltb w (2 ^ 31)) (pos w) (pos w -ℤ pos (2 ^ 32))
 
--- the word that stands for an integer
-unfoldable pub wordOf : ℤ → ℕ
-wordOf z = residue (2 ^ 32) z % 2 ^ 32
-
 infix 50 _≈_
 abbrev pub _≈_ : ℕ → ℕ → Type 0
 a ≈ b = Mod (2 ^ 32) a b
