@@ -1,5 +1,6 @@
-//! The published vectors of RFC 8439. Inputs and outputs are both typed from the
-//! RFC: nothing here is computed by this implementation.
+//! The published vectors of RFC 8439, inputs and outputs. They were typed from
+//! memory and confirmed by a third implementation: nothing here is computed by
+//! this one.
 
 use crate::field;
 use crate::script::Case;
