@@ -207,15 +207,19 @@ module _ (k m : ℕ) (u : Under k m) (ρ : List ℕ) where
   nothing p n x y h = rw h
       (m-trans (m-add (m-mul (cv-same n) (m-refl {a = x})) (m-refl {a = y})) (m-eq (ap (λ (z : ℕ). z + y) (zero-mul x) ∙ zero-add y)))
 
-  put-ok : (p n : ℕ) (l : List ℕ) (q : Poly) → Mod m (poly (put k p n l q)) (cv p n * mono ρ l + poly q)
-  unfolding poly
-  put-ok p n l q = m-trans (go (eqb (plus k p n) (minus k p n)) (λ t. eqb→eq (plus k p n) (minus k p n) t))
+  -- a term whose coefficient is cut, and that is left out where it is 0
+  cut-term : (p n : ℕ) (l : List ℕ) (q r : Poly) → Mod m (poly r) (cv (plus k p n) (minus k p n) * mono ρ l + poly q)
+      → Mod m (poly (elim (eqb (plus k p n) (minus k p n)) [ true ↦ q | false ↦ r ])) (cv p n * mono ρ l + poly q)
+  cut-term p n l q r whole = m-trans (go (eqb (plus k p n) (minus k p n)) (λ t. eqb→eq (plus k p n) (minus k p n) t))
       (m-add (m-mul (cut-ok p n) (m-refl {a = mono ρ l})) (m-refl {a = poly q}))
     where
-      go : (b : Bool) → (T b → plus k p n ≡ minus k p n)
-          → Mod m (poly (elim b [ true ↦ q | false ↦ tm (plus k p n) (minus k p n) l q ])) (cv (plus k p n) (minus k p n) * mono ρ l + poly q)
+      go : (b : Bool) → (T b → plus k p n ≡ minus k p n) → Mod m (poly (elim b [ true ↦ q | false ↦ r ])) (cv (plus k p n) (minus k p n) * mono ρ l + poly q)
       go true h = m-sym (nothing (plus k p n) (minus k p n) (mono ρ l) (poly q) (h tt))
-      go false h = m-refl
+      go false h = whole
+
+  put-ok : (p n : ℕ) (l : List ℕ) (q : Poly) → Mod m (poly (put k p n l q)) (cv p n * mono ρ l + poly q)
+  unfolding poly
+  put-ok p n l q = cut-term p n l q (tm (plus k p n) (minus k p n) l q) m-refl
 
   ins-ok : (p n : ℕ) (l : List ℕ) (q : Poly) → Mod m (poly (ins k p n l q)) (cv p n * mono ρ l + poly q)
   unfolding poly
@@ -229,13 +233,7 @@ module _ (k m : ℕ) (u : Under k m) (ρ : List ℕ) where
       go Ordering·gt e h = m-trans (m-add (m-refl {a = cv p′ n′ * mono ρ l′}) h) (m-eq (add-left-comm (cv p′ n′ * mono ρ l′) (cv p n * mono ρ l) (poly q)))
 
   add1-ok : (p n : ℕ) (l : List ℕ) (q : Poly) → Mod m (poly (add1 k p n l q)) (cv p n * mono ρ l + poly q)
-  add1-ok p n l q = m-trans (go (eqb (plus k p n) (minus k p n)) (λ t. eqb→eq (plus k p n) (minus k p n) t))
-      (m-add (m-mul (cut-ok p n) (m-refl {a = mono ρ l})) (m-refl {a = poly q}))
-    where
-      go : (b : Bool) → (T b → plus k p n ≡ minus k p n)
-          → Mod m (poly (elim b [ true ↦ q | false ↦ ins k (plus k p n) (minus k p n) l q ])) (cv (plus k p n) (minus k p n) * mono ρ l + poly q)
-      go true h = m-sym (nothing (plus k p n) (minus k p n) (mono ρ l) (poly q) (h tt))
-      go false h = ins-ok (plus k p n) (minus k p n) l q
+  add1-ok p n l q = cut-term p n l q (ins k (plus k p n) (minus k p n) l q) (ins-ok (plus k p n) (minus k p n) l q)
 
   padd-ok : (p q : Poly) → Mod m (poly (padd k p q)) (poly p + poly q)
   unfolding poly

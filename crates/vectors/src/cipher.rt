@@ -8,10 +8,6 @@ use script::Word;
 // The longest key stream, in words.
 const STREAM: usize = 600;
 
-fn wide(x: u32) -> u64 {
-    x as u64
-}
-
 fn put_numbers(out: &mut [u8; ROOM], at: usize, w: &[u32]) -> usize {
     let mut next = at;
     let mut i: usize = 0;
@@ -19,7 +15,7 @@ fn put_numbers(out: &mut [u8; ROOM], at: usize, w: &[u32]) -> usize {
         if 0 < i {
             next = script::put_byte(out, next, b' ');
         }
-        next = script::put_number(out, next, wide(w[i]));
+        next = script::put_number(out, next, limbs::wide(w[i]));
         i += 1;
     }
     next

@@ -1,14 +1,8 @@
 use borrow.Author.Needs.{needs}
 use Prim.Native.Nat.{_-_}
 use lib.ListN.{length}
-use native.Mathlib.Omega.{arith}
 use Rattle.vectors.proofs.cipher.put_numbers.Statement.{statement}
 use Rattle.vectors.proofs.cipher.put_numbers.Tie as tie
-use Rattle.vectors.proofs.cipher.put_numbers.Reads as reads
-use Rattle.vectors.proofs.cipher.put_numbers.Lts as lts
-use Rattle.script.proofs.put_byte.Reads as put-byte-reads
-use Rattle.script.proofs.put_number.Reads as put-number-reads
-use Rattle.vectors.proofs.cipher.wide.Reads as wide-reads
 
 abbrev Inv-loop : tie.InvT-loop
 Inv-loop out₀ at w next₀ i₀ out next i = Unit {0}

@@ -1,14 +1,9 @@
 use borrow.Author.Needs.{needs}
 use Prim.Native.Nat.{_-_}
 use mathlib.Core.Path.{_≡_}
-use lib.ListN.{length, length-set}
-use native.Mathlib.Omega.{arith}
+use lib.ListN.{length}
 use Rattle.vectors.proofs.cipher.read_words.Statement.{statement}
 use Rattle.vectors.proofs.cipher.read_words.Tie as tie
-use Rattle.vectors.proofs.cipher.read_words.Reads as reads
-use Rattle.vectors.proofs.cipher.read_words.Lts as lts
-use Rattle.script.proofs.field.Reads as field-reads
-use Rattle.script.proofs.read_word.Reads as read-word-reads
 
 abbrev Inv-loop : tie.InvT-loop
 Inv-loop line w₀ i₀ w i = length w ≡ length w₀
