@@ -1,0 +1,3 @@
+pub mod Dcf
+pub mod Comparison
+pub mod Interval

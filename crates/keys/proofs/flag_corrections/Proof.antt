@@ -1,0 +1,21 @@
+use Rattle.keys.proofs.Levels.{flags-made}
+use borrow.Author.Needs.{needs}
+use Rattle.keys.proofs.flag_corrections.Statement.{statement}
+use Rattle.keys.proofs.flag_corrections.Tie as tie
+use Rattle.keys.proofs.flag_corrections.Reads as reads
+use Rattle.keys.proofs.flag_corrections.Lts as lts
+
+-- src/lib.rt:70:29
+mul-result : tie.Need-mul-result
+mul-result c = search needs
+
+-- src/lib.rt:70:5
+add-result : tie.Need-add-result
+add-result c = search needs
+
+-- src/lib.rt:67:1
+returns : tie.Need-returns
+returns c =
+    flags-made (c .args .l0) (c .args .l1) (c .args .r0) (c .args .r1) (c .args .b)
+pub flag-corrections-spec : {M : Type 1} → statement M
+flag-corrections-spec = tie.close (tie.spec mul-result add-result returns)
