@@ -1,0 +1,38 @@
+-- A level of a walk, from what the code's calls answer, and its end. Assumes nothing.
+use mathlib.Core.Path.{_≡_, refl, _∙_, ap}
+use mathlib.Core.List.{List, [], _∷_}
+use Prim.Native.Nat.{ℕ, _+_, _≤_}
+use native.Mathlib.Omega.{arith}
+use native.Mathlib.Numerals.{add-one}
+use lib.ListN.{getD}
+use Rattle.algebra.specs.Bit.{only, odd, odd-only}
+use Rattle.words.specs.Xor.{xors}
+use Rattle.chacha20.specs.ChaCha20.{block}
+use Rattle.dcf.specs.Dcf as D
+use Rattle.dcf.specs.Dcf.{bySign, bits, taken}
+use Rattle.node.specs.Node.{child, node, first, none, unpacked, correctionAt, asWalk, walkOf, valueAt}
+use Rattle.node.specs.declared.Correction.{Correction}
+use Rattle.node.specs.declared.Key.{Key}
+use Rattle.node.specs.declared.Walk.{Walk}
+
+module _ (p : ℕ) (key : Key) (seed : List ℕ) (u : ℕ) where
+  pub starts : asWalk (record { seed = seed; flag = p; total = 0 }) ≡ walkOf p key seed u 0
+  unfolding asWalk walkOf D.walk
+  starts = refl
+
+  pub one-more : (i d : ℕ) (w x : Walk) (c : Correction) (b : List ℕ) → asWalk w ≡ walkOf p key seed u i → c ≡ getD (key .corrections) i none
+      → d ≡ only (bits 32 u i) 1 → b ≡ block (w .seed) d (0 ∷ 0 ∷ 0 ∷ []) → asWalk x ≡ taken xors (unpacked c) (odd d) (child b) (asWalk w)
+      → asWalk x ≡ walkOf p key seed u (i + 1)
+  unfolding walkOf D.walk D.nextWalk correctionAt node asWalk
+  one-more i d w x c b ew ec ed eb ex =
+      let bit : odd d ≡ bits 32 u i = ap odd ed ∙ odd-only (bits 32 u i) in
+      let at : child b ≡ node i (w .seed) (bits 32 u i) = ap child (eb ∙ ap (λ (k : ℕ). block (w .seed) k (0 ∷ 0 ∷ 0 ∷ [])) ed) in
+      ex ∙ (λ j. taken xors (unpacked (ec j)) (bit j) (at j) (asWalk w))
+      ∙ ap (λ (y : D.Walk (List ℕ)). taken xors (correctionAt (key .corrections) i) (bits 32 u i) (node i (y .seed) (bits 32 u i)) y) ew ∙ rw (add-one i) refl
+
+  pub ends : (i r : ℕ) (w : Walk) → i ≤ 32 → 32 ≤ i → asWalk w ≡ walkOf p key seed u i
+      → r ≡ bySign (odd p) (D.total xors node first (key .last) (asWalk w)) → r ≡ valueAt p key seed u
+  unfolding walkOf valueAt D.value
+  ends i r w h k ew er =
+      let e : i ≡ 32 = omega arith in
+      er ∙ ap (λ (y : D.Walk (List ℕ)). bySign (odd p) (D.total xors node first (key .last) y)) (rw e at ew)
