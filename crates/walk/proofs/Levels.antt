@@ -1,5 +1,6 @@
 -- A level of a walk, from what the code's calls answer, and its end. Assumes nothing.
 use mathlib.Core.Path.{_≡_, refl, _∙_, ap}
+use mathlib.Core.Bool.{Bool}
 use mathlib.Core.List.{List, [], _∷_}
 use Prim.Native.Nat.{ℕ, _+_, _≤_}
 use native.Mathlib.Omega.{arith}
@@ -7,13 +8,20 @@ use native.Mathlib.Numerals.{add-one}
 use lib.ListN.{getD}
 use Rattle.algebra.specs.Bit.{only, odd, odd-only}
 use Rattle.words.specs.Xor.{xors}
-use Rattle.chacha20.specs.ChaCha20.{block}
+use Rattle.rounds.specs.Rounds.{blockFrom}
+use Rattle.chacha20.specs.ChaCha20.{start, block}
 use Rattle.dcf.specs.Dcf as D
 use Rattle.dcf.specs.Dcf.{bySign, bits, taken}
 use Rattle.node.specs.Node.{child, node, first, none, unpacked, correctionAt, asWalk, walkOf, valueAt}
 use Rattle.node.specs.declared.Correction.{Correction}
 use Rattle.node.specs.declared.Key.{Key}
 use Rattle.node.specs.declared.Walk.{Walk}
+
+-- a level, by a block made from its starting state
+pub from-start : (c : D.Correction (List ℕ)) (e : Bool) (w x : D.Walk (List ℕ)) (seed nonce s b : List ℕ) (d : ℕ) → s ≡ start seed d nonce → b ≡ blockFrom s
+    → x ≡ taken xors c e (child b) w → x ≡ taken xors c e (child (block seed d nonce)) w
+unfolding block
+from-start c e w x seed nonce s b d es eb ex = ex ∙ ap (λ (k : List ℕ). taken xors c e (child k) w) (eb ∙ ap blockFrom es)
 
 module _ (p : ℕ) (key : Key) (seed : List ℕ) (u : ℕ) where
   pub starts : asWalk (record { seed = seed; flag = p; total = 0 }) ≡ walkOf p key seed u 0

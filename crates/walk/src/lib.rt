@@ -2,11 +2,15 @@
 // opening only the side taken.
 ghost use mathlib.Core.Path.{_≡_};
 ghost use Rattle.algebra.specs.Bit.{odd};
+ghost use mathlib.Core.List.{[], _∷_};
+ghost use Rattle.chacha20.specs.ChaCha20.{block as blockOf};
 ghost use Rattle.words.specs.Xor.{xors};
-ghost use Rattle.dcf.specs.Dcf.{bySign, total as totalOf};
-ghost use Rattle.node.specs.Node.{node as nodeOf, first, asWalk, valueAt};
+ghost use Rattle.dcf.specs.Dcf.{bySign, taken as takenBy, total as totalOf};
+ghost use Rattle.node.specs.Node.{child, node as nodeOf, first, unpacked, asWalk, valueAt};
+use node::Correction;
 use node::Key;
 use node::Walk;
+use pair::Two;
 
 // What a walk ends with: the first word of its seed, and the final word if its flag is set. Party 1
 // negates the total.
@@ -16,6 +20,12 @@ fn finished(w: Walk, last: u32, party: u32) -> u32
     let s = w.seed;
     let total = words::add(words::add(w.total, s[0]), node::only(w.flag, last));
     node::by_sign(party, total)
+}
+
+// The values at two inputs.
+pub struct Both {
+    pub first: u32,
+    pub second: u32,
 }
 
 // The value at u of the party whose key seed is `seed`.
@@ -37,4 +47,57 @@ pub fn value(key: Key, seed: [u32; 8], party: u32, u: u32) -> u32
         i += 1;
     }
     finished(w, key.last, party)
+}
+
+// Two walks side by side.
+pub struct Walks {
+    pub a: Walk,
+    pub b: Walk,
+}
+
+// A level of both walks, to side d and to side e: two blocks at once.
+fn both_taken(w: Walks, c: Correction, d: u32, e: u32) -> Walks
+    ensures { λ r. ⌜ asWalk (r .a) ≡ takenBy xors (unpacked c) (odd d) (child (blockOf (w .a .seed) d (0 ∷ 0 ∷ 0 ∷ []))) (asWalk (w .a)) ⌝ }
+    ensures { λ r. ⌜ asWalk (r .b) ≡ takenBy xors (unpacked c) (odd e) (child (blockOf (w .b .seed) e (0 ∷ 0 ∷ 0 ∷ []))) (asWalk (w .b)) ⌝ }
+{
+    let a = w.a;
+    let b = w.b;
+    let s = a.seed;
+    let t = b.seed;
+    let blocks = pair::two_blocks(Two {
+        a: chacha20::start(s, d, [0; 3]),
+        b: chacha20::start(t, e, [0; 3]),
+    });
+    Walks {
+        a: node::taken(a, c, d, blocks.a),
+        b: node::taken(b, c, e, blocks.b),
+    }
+}
+
+// The values at u and at v, in one walk.
+pub fn values(key: Key, seed: [u32; 8], party: u32, u: u32, v: u32) -> Both
+    ensures { λ r. ⌜ r .first ≡ valueAt party key seed u ⌝ }
+    ensures { λ r. ⌜ r .second ≡ valueAt party key seed v ⌝ }
+{
+    let corrections = key.corrections;
+    let start = Walk {
+        seed: seed,
+        flag: party,
+        total: 0,
+    };
+    let mut w = Walks { a: start, b: start };
+    let mut i: usize = 0;
+    while i < 32 {
+        let c = corrections[i];
+        let d = node::level_bit(u, i);
+        let e = node::level_bit(v, i);
+        w = both_taken(w, c, d, e);
+        i += 1;
+    }
+    let a = w.a;
+    let b = w.b;
+    Both {
+        first: finished(a, key.last, party),
+        second: finished(b, key.last, party),
+    }
 }

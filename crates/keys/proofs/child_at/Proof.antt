@@ -17,5 +17,6 @@ returns : tie.Need-returns
 unfolding child asChild
 returns c =
     ap child (c .lane .ensures)
+
 pub child-at-spec : {M : Type 1} → statement M
 child-at-spec = tie.close (tie.spec lane-requires returns)

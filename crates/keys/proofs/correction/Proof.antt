@@ -65,6 +65,7 @@ returns c =
     (c .before .before .before .before .before .before .before .before .before .before .child-at .result) (c .before .before .before .before .before .before .before .before .before .child-at2 .result) (c .before .before .before .before .before .before .before .before .child-at3 .result) (c .before .before .before .before .before .before .before .child-at4 .result) (c .before .before .before .before .before .before .child-at5 .result) (c .before .before .before .before .before .child-at6 .result) _ _ _
     (c .before .before .before .before .before .before .before .before .before .before .child-at .ensures) (c .before .before .before .before .before .before .before .before .before .child-at2 .ensures) (c .before .before .before .before .before .before .before .before .child-at3 .ensures) (c .before .before .before .before .before .before .before .child-at4 .ensures) (c .before .before .before .before .before .before .child-at5 .ensures) (c .before .before .before .before .before .child-at6 .ensures)
     (c .before .before .corrected .ensures) (c .before .word-correction .ensures) (c .flag-corrections .ensures)
+
 pub correction-spec : {M : Type 1} → statement M
 correction-spec =
     tie.close

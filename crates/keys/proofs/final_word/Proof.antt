@@ -36,6 +36,7 @@ returns : tie.Need-returns
 unfolding first
 returns c =
     c .by-sign .ensures ∙ ap (bySign (odd (c .before .before .before .before .before .args .g .t1))) (c .before .sub2 .ensures ∙ ap (λ y. sub y (c .before .before .before .before .before .args .g .v)) (c .before .before .sub .ensures))
+
 pub final-word-spec : {M : Type 1} → statement M
 final-word-spec =
     tie.close

@@ -17,5 +17,6 @@ add-result c = search needs
 returns : tie.Need-returns
 returns c =
     flags-made (c .args .l0) (c .args .l1) (c .args .r0) (c .args .r1) (c .args .b)
+
 pub flag-corrections-spec : {M : Type 1} → statement M
 flag-corrections-spec = tie.close (tie.spec mul-result add-result returns)

@@ -51,6 +51,7 @@ returns c =
     kept-made _ (c .before .before .before .before .before .before .before .before .before .before .args .g) (c .before .before .before .before .before .before .before .before .before .before .args .b) (c .before .before .before .before .before .before .before .before .before .before .pre) (c .before .before .before .before .before .before .before .before .before .before .args .c)
     (c .before .before .before .before .before .before .before .before .before .child-at .result) (c .before .before .before .before .before .before .before .before .child-at2 .result) _ _ _ _ _ (c .before .before .before .before .before .before .before .before .before .child-at .ensures) (c .before .before .before .before .before .before .before .before .child-at2 .ensures)
     (c .before .before .before .before .corrected .ensures) (c .before .before .before .corrected2 .ensures) (c .before .before .next-flag .ensures) (c .before .next-flag2 .ensures) (c .next-v .ensures)
+
 pub kept-spec : {M : Type 1} → statement M
 kept-spec =
     tie.close

@@ -29,6 +29,7 @@ add-requires-2 c κs = search needs
 returns : tie.Need-returns
 returns c =
     c .add2 .ensures ∙ ap₂ add (c .before .before .add .ensures ∙ ap (λ y. add y (c .before .before .before .before .args .v0)) (c .before .before .before .sub .ensures)) (c .before .by-sign .ensures)
+
 pub next-v-spec : {M : Type 1} → statement M
 next-v-spec =
     tie.close (tie.spec sub-requires add-requires by-sign-requires add-requires-2 returns)

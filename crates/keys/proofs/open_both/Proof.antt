@@ -49,6 +49,7 @@ returns : tie.Need-returns
 returns c =
     opened-both _ _ _ _ _ _ (c .before .before .before .before .before .before .before .before .before .before .before .before .before .before .args .s0) (c .before .before .before .before .before .before .before .before .before .before .before .before .before .before .args .s1) _ _ _ _ (c .before .before .before .before .before .before .before .before .before .before .before .before .start .ensures) (c .before .before .before .before .before .before .before .before .before .before .before .set-lane .ensures) (c .before .before .before .before .before .before .before .before .before .start2 .ensures) (c .before .before .before .before .before .before .before .before .set-lane2 .ensures)
     (c .before .before .before .before .before .before .start3 .ensures) (c .before .before .before .before .before .set-lane3 .ensures) (c .before .before .before .start4 .ensures) (c .before .before .set-lane4 .ensures) (c .four-blocks .ensures)
+
 pub open-both-spec : {M : Type 1} → statement M
 open-both-spec =
     tie.close

@@ -42,6 +42,7 @@ returns c =
     c .add .ensures
     ∙ ap₂ add (c .before .by-sign2 .ensures ∙ ap (bySign (odd (c .before .before .before .before .before .before .args .t1))) (c .before .before .before .before .sub2 .ensures ∙ ap (λ y. sub y (c .before .before .before .before .before .before .args .v)) (c .before .before .before .before .before .sub .ensures)))
     (c .before .before .only .ensures ∙ ap (only (odd (c .before .before .before .before .before .before .args .b))) (c .before .before .before .by-sign .ensures))
+
 pub word-correction-spec : {M : Type 1} → statement M
 word-correction-spec =
     tie.close

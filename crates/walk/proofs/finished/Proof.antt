@@ -37,6 +37,7 @@ returns : tie.Need-returns
 unfolding total first asWalk
 returns c =
     c .by-sign .ensures ∙ ap (bySign (odd (c .before .before .before .before .before .args .party))) (c .before .add2 .ensures ∙ ap₂ add (c .before .before .before .add .ensures) (c .before .before .only .ensures))
+
 pub finished-spec : {M : Type 1} → statement M
 finished-spec =
     tie.close

@@ -1,0 +1,57 @@
+-- The rows of the table as code makes them: the range test on words, every element of a slice, and the own term. Assumes nothing.
+use mathlib.Core.Path.{_≡_, refl, sym, ap, ap₂, _∙_}
+use mathlib.Core.Bool.{Bool, true, false, cond, _&&_, and-true, and-assoc}
+use mathlib.Core.List.{List, [], _∷_}
+use Prim.Native.Nat.{ℕ, zero, suc, _+_, _^_, _<_}
+use native.Mathlib.Numerals.{add-one}
+use native.Mathlib.Omega.{arith}
+use lib.Dec.{leb}
+use lib.ListN.{length, take, getD}
+use lib.Seq.{take-all}
+use Rattle.algebra.specs.Word.{add, mul, signed}
+use Rattle.algebra.specs.Sum.{sum}
+use Rattle.measure.specs.Measure.{scalarProduct, squaredEuclid, hamming, row, within, inRange, allInRange, ownWord}
+use Rattle.measure.proofs.Signed.{signed-order}
+
+-- the row of each code
+pub row-0 : (code : ℕ) → code ≡ 0 → row code ≡ scalarProduct
+unfolding row
+row-0 code e = rw e
+
+pub row-1 : (code : ℕ) → code ≡ 1 → row code ≡ squaredEuclid
+unfolding row
+row-1 code e = rw e
+
+pub row-2 : (code : ℕ) → (code ≡ 0 → ⊥) → (code ≡ 1 → ⊥) → row code ≡ hamming
+unfolding row
+row-2 zero n m = absurd (n refl)
+row-2 (suc zero) n m = absurd (m refl)
+row-2 (suc (suc code)) n m = refl
+
+pub within-words : (w low high : ℕ) → w < 2 ^ 32 → low < 2 ^ 32 → high < 2 ^ 32
+    → leb (add low (2 ^ 31)) (add w (2 ^ 31)) && leb (add w (2 ^ 31)) (add high (2 ^ 31)) ≡ within (signed low) (signed high) (signed w)
+unfolding within
+within-words w low high lw ll lh = ap₂ _&&_ (signed-order low w ll lw) (signed-order w high lw lh)
+
+-- one element more
+pub all-more : (code : ℕ) (v : List ℕ) (i : ℕ) → i < length v → allInRange code (take (i + 1) v) ≡ allInRange code (take i v) && inRange code (getD v i 0)
+unfolding allInRange
+all-more code v i h = rw (add-one i) (go v i h)
+  where
+    go : (v : List ℕ) (i : ℕ) → i < length v → allInRange code (take (suc i) v) ≡ allInRange code (take i v) && inRange code (getD v i 0)
+    go [] i h = absurd (omega arith)
+    go (w ∷ v) zero h = and-true (inRange code w)
+    go (w ∷ v) (suc i) h = ap (λ (c : Bool). inRange code w && c) (go v i (omega arith)) ∙ sym (and-assoc (inRange code w) (allInRange code (take i v)) (inRange code (getD v i 0)))
+
+pub all-whole : (code : ℕ) (v : List ℕ) (i : ℕ) → i ≡ length v → allInRange code (take i v) ≡ allInRange code v
+all-whole code v i h = ap (allInRange code) (take-all i v (omega arith))
+
+-- ---- the own term
+
+pub own-squares : (code : ℕ) (v : List ℕ) (b : Bool) (r : ℕ) → b ≡ true → b ≡ row code .squares → r ≡ sum (λ i. mul (getD v i 0) (getD v i 0)) (length v) → r ≡ ownWord code (length v) v
+unfolding ownWord
+own-squares code v b r t e h = h ∙ ap (λ (c : Bool). cond c (sum (λ i. mul (getD v i 0) (getD v i 0)) (length v)) 0) (sym t ∙ e)
+
+pub own-none : (code : ℕ) (v : List ℕ) (b : Bool) → b ≡ false → b ≡ row code .squares → 0 ≡ ownWord code (length v) v
+unfolding ownWord
+own-none code v b f e = ap (λ (c : Bool). cond c (sum (λ i. mul (getD v i 0) (getD v i 0)) (length v)) 0) (sym f ∙ e)

@@ -1,0 +1,4 @@
+pub mod Measure
+pub mod Order
+pub mod Laws
+pub mod Cases

@@ -1,0 +1,153 @@
+// The three measures (01, "Measures"): what the table says of each code, as words, and what a box
+// computes of its own vector. Elements and thresholds are words; a negative number stands for
+// itself plus 2^32. No public function asks anything of its caller. (1073741824 is 2^30, and
+// 2147483648 is 2^31.)
+ghost use mathlib.Core.Path.{_≡_};
+ghost use lib.ListN.{length, getD};
+ghost use lib.IntN.{natAbs};
+ghost use Rattle.algebra.specs.Word.{mul as mulOf, signed};
+ghost use Rattle.algebra.specs.Sum.{sum};
+ghost use Rattle.measure.specs.Measure.{row, isCode, inRange, allInRange, thresholdFits, kWord, ownWord, within};
+
+mod squares;
+
+// -2, -1024 and -2^30
+const MINUS_2: u32 = 4294967294;
+
+const MINUS_1024: u32 = 4294966272;
+
+const MINUS_2_30: u32 = 3221225472;
+
+// A row of the table. `squares`: own is the sum of squares, else 0. An element lies from `low` to
+// `high`, a threshold from `least` to `most`.
+pub struct Row {
+    pub squares: bool,
+    pub k: u32,
+    pub low: u32,
+    pub high: u32,
+    pub least: u32,
+    pub most: u32,
+}
+
+impl Row {
+    // The columns in the order of 01's table.
+    fn new(squares: bool, k: u32, low: u32, high: u32, least: u32, most: u32) -> Row
+        ensures { λ r. ⌜ (r .squares ≡ squares) × (r .k ≡ k) × (r .low ≡ low) × (r .high ≡ high) × (r .least ≡ least) × (r .most ≡ most) ⌝ }
+    {
+        Row {
+            squares,
+            k,
+            low,
+            high,
+            least,
+            most,
+        }
+    }
+}
+
+// The table, a row for each code. A code above 2 reads as 2: is_code refuses it.
+pub fn row_of(code: u32) -> Row
+    ensures { λ r. ⌜ (r .squares ≡ row code .squares) × (r .k ≡ kWord code)
+        × (signed (r .low) ≡ row code .low) × (signed (r .high) ≡ row code .high)
+        × (signed (r .least) ≡ row code .least) × (signed (r .most) ≡ row code .most) ⌝ }
+{
+    if code == 0 {
+        Row::new(false, 1, MINUS_1024, 1023, MINUS_2_30, 1073741824)
+    } else if code == 1 {
+        Row::new(true, MINUS_2, MINUS_1024, 1023, 0, 2147483647)
+    } else {
+        Row::new(true, MINUS_2, 0, 1, 0, 513)
+    }
+}
+
+pub fn is_code(code: u32) -> bool
+    ensures { λ r. ⌜ r ≡ isCode code ⌝ }
+{
+    code < 3
+}
+
+// Whether w lies from low to high, all read as signed: 2^31 more, and the order is that of words.
+fn between(w: u32, low: u32, high: u32) -> bool
+    ensures { λ r. ⌜ r ≡ within (signed low) (signed high) (signed w) ⌝ }
+{
+    let at = words::add(w, 2147483648);
+    (words::add(low, 2147483648) <= at) & (at <= words::add(high, 2147483648))
+}
+
+pub fn in_range(code: u32, w: u32) -> bool
+    ensures { λ r. ⌜ r ≡ inRange code w ⌝ }
+{
+    let row = row_of(code);
+    between(w, row.low, row.high)
+}
+
+pub fn threshold_fits(code: u32, t: u32) -> bool
+    ensures { λ r. ⌜ r ≡ thresholdFits code t ⌝ }
+{
+    let row = row_of(code);
+    between(t, row.least, row.most)
+}
+
+// Every element is looked at, so that how long it takes tells nothing of where one is out of range.
+pub fn all_in_range(code: u32, v: &[u32]) -> bool
+    ensures { λ r. ⌜ r ≡ allInRange code (now (v .entry)) ⌝ }
+{
+    let mut all = true;
+    let mut at: usize = 0;
+    while at < v.len() {
+        all = all & in_range(code, v[at]);
+        at += 1;
+    }
+    all
+}
+
+pub fn k(code: u32) -> u32
+    ensures { λ r. ⌜ r ≡ kWord code ⌝ }
+{
+    let row = row_of(code);
+    row.k
+}
+
+// Without its sign, the number that a word stands for.
+fn magnitude(x: u32) -> u32
+    ensures { λ r. ⌜ r ≡ natAbs (signed x) ⌝ }
+{
+    if x < 2147483648 {
+        x
+    } else {
+        4294967295 - x + 1
+    }
+}
+
+// A word times itself. The square of what any measure takes is looked up; a word outside every
+// range is multiplied, so that no word is turned down.
+pub fn square(x: u32) -> u32
+    ensures { λ r. ⌜ r ≡ mulOf x x ⌝ }
+{
+    let m = magnitude(x);
+    if m <= 1024 {
+        squares::entry(m as usize)
+    } else {
+        words::mul(x, x)
+    }
+}
+
+fn sum_of_squares(v: &[u32]) -> u32
+    ensures { λ r. ⌜ r ≡ sum (λ i. mulOf (getD (now (v .entry)) i 0) (getD (now (v .entry)) i 0)) (length (now (v .entry))) ⌝ }
+{
+    let mut total: u32 = 0;
+    let mut i: usize = 0;
+    while i < v.len() {
+        total = words::add(total, square(v[i]));
+        i += 1;
+    }
+    total
+}
+
+// The own term of a vector.
+pub fn own(code: u32, v: &[u32]) -> u32
+    ensures { λ r. ⌜ r ≡ ownWord code (length (now (v .entry))) (now (v .entry)) ⌝ }
+{
+    let row = row_of(code);
+    if row.squares { sum_of_squares(v) } else { 0 }
+}

@@ -1,0 +1,35 @@
+use mathlib.Core.Path.{_∙_, ap}
+use Rattle.algebra.specs.Word.{add, mul}
+use Rattle.share.specs.Share.{word}
+use borrow.Author.Needs.{needs}
+use Rattle.share.proofs.word.Statement.{statement}
+use Rattle.share.proofs.word.Tie as tie
+use Rattle.share.proofs.word.Reads as reads
+use Rattle.share.proofs.word.Lts as lts
+use Rattle.measure.proofs.k.Reads as k-reads
+use Rattle.words.proofs.add.Reads as add-reads
+use Rattle.words.proofs.mul.Reads as mul-reads
+
+-- src/lib.rt:72:38
+k-requires : tie.Need-k-requires
+k-requires c κs = search needs
+
+-- src/lib.rt:72:27
+mul-requires : tie.Need-mul-requires
+mul-requires c κs = search needs
+
+-- src/lib.rt:72:16
+add-requires : tie.Need-add-requires
+add-requires c κs = search needs
+
+-- src/lib.rt:72:5
+add-requires-2 : tie.Need-add-requires-2
+add-requires-2 c κs = search needs
+
+-- src/lib.rt:69:1
+returns : tie.Need-returns
+unfolding word
+returns c =
+    c .add2 .ensures ∙ ap (λ y. add y (c .before .before .before .before .args .r)) (c .before .add .ensures ∙ ap (λ y. add y (c .before .before .before .before .args .own)) (c .before .before .mul .ensures ∙ ap (λ y. mul y (c .before .before .before .before .args .share)) (c .before .before .before .k .ensures)))
+pub word-spec : {M : Type 1} → statement M
+word-spec = tie.close (tie.spec k-requires mul-requires add-requires add-requires-2 returns)

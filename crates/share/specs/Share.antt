@@ -1,0 +1,41 @@
+-- What a box computes in one check, and what the dealer computes for it, over free words (01, "Dealing a set" and "One check at a box").
+-- A party is its number: 0 the camera box, 1 the office box. Assumes nothing.
+use mathlib.Core.List.{List}
+use Prim.Native.Nat.{ℕ, _^_}
+use lib.ListN.{getD}
+use Rattle.algebra.specs.Word.{add, sub, mul}
+use Rattle.algebra.specs.Bit.{only, less, odd}
+use Rattle.algebra.specs.Sum.{sum}
+use Rattle.words.specs.List.{tab}
+use Rattle.node.specs.declared.Key.{Key}
+use Rattle.node.specs.Node.{valueAt}
+use Rattle.measure.specs.Measure.{kWord}
+
+-- two vectors of n words added element by element: "X's mask is x0 + x1, element by element", and call 2's "element plus mask, as words"
+unfoldable pub plus : ℕ → List ℕ → List ℕ → List ℕ
+plus n a b = tab (λ i. add (getD a i 0) (getD b i 0)) n
+
+-- the sum of products over the first n places
+unfoldable pub inner : ℕ → List ℕ → List ℕ → ℕ
+inner n a b = sum (λ i. mul (getD a i 0) (getD b i 0)) n
+
+-- "c1 = (sum of X-mask × Y-mask) - c0"
+unfoldable pub otherC : ℕ → List ℕ → List ℕ → ℕ → ℕ
+otherC n maskX maskY c0 = sub (inner n maskX maskY) c0
+
+-- "r1 = r - T - r0"
+unfoldable pub otherR : ℕ → ℕ → ℕ → ℕ
+otherR r t r0 = sub (sub r t) r0
+
+-- call 3: "share = its c - sum(MX × its Y share) - sum(MY × its X share), plus sum(MX × MY) at party 1"
+unfoldable pub share : ℕ → ℕ → ℕ → List ℕ → List ℕ → List ℕ → List ℕ → ℕ
+share party n c maskedX maskedY shareX shareY =
+    add (sub (sub c (inner n maskedX shareY)) (inner n maskedY shareX)) (only (odd party) (inner n maskedX maskedY))
+
+-- call 3: "its word: k × (share) + own + its r"
+unfoldable pub word : ℕ → ℕ → ℕ → ℕ → ℕ
+word code s own r = add (add (mul (kWord code) s) own) r
+
+-- call 4: "its answer is value at Z + 2^31 minus value at Z, and party 1 adds 1 if Z < 2^31"
+unfoldable pub answer : ℕ → Key → List ℕ → ℕ → ℕ
+answer party key seed z = add (sub (valueAt party key seed (add z (2 ^ 31))) (valueAt party key seed z)) (only (odd party) (less z (2 ^ 31)))

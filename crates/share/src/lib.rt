@@ -1,0 +1,90 @@
+// What a box computes in one check (01, "One check at a box"), and what the dealer computes for it,
+// over words: the masked vector, the share of the product, the word, and the answer.
+ghost use mathlib.Core.Path.{_≡_};
+ghost use lib.ListN.{length};
+ghost use Prim.Native.Nat.{_≤_, _^_};
+ghost use Rattle.algebra.specs.Bit.{less};
+ghost use Rattle.words.specs.List.{over};
+ghost use Rattle.share.specs.Share.{plus, inner as innerOf, otherC, otherR, share as shareOf, word as wordOf, answer as answerOf};
+use node::Key;
+
+// The first n words of a and of b, added element by element, from the start of out: an element and
+// its mask, or the two shares of a mask.
+pub fn add_vectors(n: usize, a: &[u32], b: &[u32], out: &mut [u32])
+    requires { ⌜ (n ≤ length (now a)) × (n ≤ length (now b)) × (n ≤ length (now out)) ⌝ }
+    ensures { λ _. ⌜ now (out .exit) ≡ over 0 (plus n (now (a .entry)) (now (b .entry))) (now (out .entry)) ⌝ }
+{
+    let mut i: usize = 0;
+    while i < n {
+        out[i] = words::add(a[i], b[i]);
+        i += 1;
+    }
+}
+
+// The sum of products over the first n places.
+pub fn inner(n: usize, a: &[u32], b: &[u32]) -> u32
+    requires { ⌜ (n ≤ length (now a)) × (n ≤ length (now b)) ⌝ }
+    ensures { λ r. ⌜ r ≡ innerOf n (now (a .entry)) (now (b .entry)) ⌝ }
+{
+    let mut total: u32 = 0;
+    let mut i: usize = 0;
+    while i < n {
+        total = words::add(total, words::mul(a[i], b[i]));
+        i += 1;
+    }
+    total
+}
+
+// Party 1's c word, from the two masks and party 0's.
+pub fn other_c(n: usize, x: &[u32], y: &[u32], c0: u32) -> u32
+    requires { ⌜ (n ≤ length (now x)) × (n ≤ length (now y)) ⌝ }
+    ensures { λ r. ⌜ r ≡ otherC n (now (x .entry)) (now (y .entry)) c0 ⌝ }
+{
+    words::sub(inner(n, x, y), c0)
+}
+
+// Party 1's r word, from r, the threshold and party 0's.
+pub fn other_r(r: u32, t: u32, r0: u32) -> u32
+    ensures { λ x. ⌜ x ≡ otherR r t r0 ⌝ }
+{
+    words::sub(words::sub(r, t), r0)
+}
+
+// A party's share of the product, from the masked vectors mx and my and its shares sx and sy of the
+// two masks. Only party 1 adds the product of the masked vectors.
+pub fn share_of(party: u32, n: usize, c: u32, mx: &[u32], my: &[u32], sx: &[u32], sy: &[u32]) -> u32
+    requires { ⌜ (n ≤ length (now mx)) × (n ≤ length (now my)) × (n ≤ length (now sx)) × (n ≤ length (now sy)) ⌝ }
+    ensures { λ r. ⌜ r ≡ shareOf party n c (now (mx .entry)) (now (my .entry)) (now (sx .entry)) (now (sy .entry)) ⌝ }
+{
+    let p = inner(n, mx, sy);
+    let q = inner(n, my, sx);
+    let s = words::sub(words::sub(c, p), q);
+    if party % 2 == 0 {
+        return s;
+    }
+    words::add(s, inner(n, mx, my))
+}
+
+// A box's word, from its share, its own term and its r word.
+pub fn word(code: u32, share: u32, own: u32, r: u32) -> u32
+    ensures { λ w. ⌜ w ≡ wordOf code share own r ⌝ }
+{
+    words::add(words::add(words::mul(measure::k(code), share), own), r)
+}
+
+// A box's answer, from the sum of both words: whether it lies less than 2^31 above the point, as a
+// share.
+pub fn answer(party: u32, key: Key, seed: [u32; 8], z: u32) -> u32
+    ensures { λ r. ⌜ r ≡ answerOf party key seed z ⌝ }
+{
+    let at = walk::values(key, seed, party, words::add(z, 2147483648), z);
+    let difference = words::sub(at.first, at.second);
+    words::add(difference, node::only(party, below_half(z)))
+}
+
+// 1 if z is below 2^31, else 0.
+fn below_half(z: u32) -> u32
+    ensures { λ r. ⌜ r ≡ less z (2 ^ 31) ⌝ }
+{
+    1 - (z >> 31)
+}
