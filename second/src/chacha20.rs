@@ -30,17 +30,27 @@ fn quarter_round_at(state: &mut [u32; BLOCK_WORDS], x: usize, y: usize, z: usize
         quarter_round(state[x], state[y], state[z], state[w]);
 }
 
-/// The state before the rounds (2.3).
-fn initial_state(key: &[u8; 32], counter: u32, nonce: &[u8; 12]) -> [u32; BLOCK_WORDS] {
+/// The state before the rounds (2.3), key and nonce as little-endian words.
+#[inline]
+fn initial_words(key: &[u32; 8], counter: u32, nonce: &[u32; 3]) -> [u32; BLOCK_WORDS] {
     let mut state = [0; BLOCK_WORDS];
     state[..4].copy_from_slice(&CONSTANTS);
+    state[4..12].copy_from_slice(key);
     state[COUNTER] = counter;
-    load_words(&mut state[4..12], key);
-    load_words(&mut state[13..], nonce);
+    state[13..].copy_from_slice(nonce);
     state
 }
 
-fn load_words(words: &mut [u32], bytes: &[u8]) {
+/// The same from bytes.
+fn initial_state(key: &[u8; 32], counter: u32, nonce: &[u8; 12]) -> [u32; BLOCK_WORDS] {
+    let (mut key_words, mut nonce_words) = ([0; 8], [0; 3]);
+    load_words(&mut key_words, key);
+    load_words(&mut nonce_words, nonce);
+    initial_words(&key_words, counter, &nonce_words)
+}
+
+/// Little-endian words from bytes (2.3).
+pub fn load_words(words: &mut [u32], bytes: &[u8]) {
     for (word, bytes) in words.iter_mut().zip(bytes.chunks_exact(4)) {
         *word = u32::from_le_bytes(bytes.try_into().unwrap());
     }
@@ -78,6 +88,13 @@ fn serialize(words: &[u32; BLOCK_WORDS]) -> [u8; BLOCK_BYTES] {
 /// The block function (2.3).
 pub fn block(key: &[u8; 32], counter: u32, nonce: &[u8; 12]) -> [u8; BLOCK_BYTES] {
     serialize(&block_words(&initial_state(key, counter, nonce)))
+}
+
+/// The block function from words to words, for callers who keep theirs as words:
+/// the serialized block is these sixteen, little-endian (2.3).
+#[inline]
+pub fn block_of_words(key: &[u32; 8], counter: u32, nonce: &[u32; 3]) -> [u32; BLOCK_WORDS] {
+    block_words(&initial_words(key, counter, nonce))
 }
 
 /// The key stream from counter 0 as words, before they are laid out as

@@ -1,14 +1,24 @@
-//! The bytes fields of test scripts: lowercase hex, `-` for no bytes, or `@N:S`
-//! for N bytes generated from the seed S.
+//! The bytes fields of test scripts: lowercase hex, `-` for no bytes, `@N:S` for
+//! N bytes generated from the seed S, or `~N:S:LOW:MASK` for N generated words,
+//! 4 N bytes, each LOW plus some of the bits of MASK.
+
+/// The states of the generator after its seed.
+fn states(seed: u32) -> impl Iterator<Item = u32> {
+    let next = |state: &u32| Some(state.wrapping_mul(1664525).wrapping_add(1013904223));
+    std::iter::successors(next(&seed), next)
+}
 
 /// The bytes that `@count:seed` stands for.
 pub fn generate(count: usize, seed: u32) -> Vec<u8> {
-    let mut state = seed;
-    let mut next = || {
-        state = state.wrapping_mul(1664525).wrapping_add(1013904223);
-        (state >> 24) as u8
-    };
-    (0..count).map(|_| next()).collect()
+    let bytes = states(seed).map(|state| (state >> 24) as u8);
+    bytes.take(count).collect()
+}
+
+/// The bytes that `~count:seed:low:mask` stands for: words in little-endian. The
+/// low bits of a state repeat too soon to be of use.
+pub fn generate_words(count: usize, seed: u32, low: u32, mask: u32) -> Vec<u8> {
+    let words = states(seed).map(|state| low.wrapping_add(state >> 16 & mask));
+    words.take(count).flat_map(u32::to_le_bytes).collect()
 }
 
 /// The bytes as hex, `-` if there are none.
@@ -19,12 +29,15 @@ pub fn format(bytes: &[u8]) -> String {
     bytes.iter().map(|byte| format!("{byte:02x}")).collect()
 }
 
-/// The bytes of a field in any of the three formats.
+/// The bytes of a field in any of the four formats.
 pub fn parse(field: &str) -> Result<Vec<u8>, String> {
     let bytes = if field == "-" {
         Some(Vec::new())
-    } else if let Some(generator) = field.strip_prefix('@') {
-        parse_generator(generator)
+    } else if let Some(numbers) = field.strip_prefix('@') {
+        parse_numbers(numbers).map(|[count, seed]| generate(count as usize, seed))
+    } else if let Some(numbers) = field.strip_prefix('~') {
+        parse_numbers(numbers)
+            .map(|[count, seed, low, mask]| generate_words(count as usize, seed, low, mask))
     } else {
         parse_hex(field)
     };
@@ -38,9 +51,9 @@ pub fn parse_array<const N: usize>(field: &str) -> Result<[u8; N], String> {
         .map_err(|_| format!("{N} bytes wanted: {field}"))
 }
 
-fn parse_generator(text: &str) -> Option<Vec<u8>> {
-    let (count, seed) = text.split_once(':')?;
-    Some(generate(count.parse().ok()?, seed.parse().ok()?))
+fn parse_numbers<const N: usize>(text: &str) -> Option<[u32; N]> {
+    let numbers: Result<Vec<u32>, _> = text.split(':').map(str::parse).collect();
+    numbers.ok()?.try_into().ok()
 }
 
 fn parse_hex(text: &str) -> Option<Vec<u8>> {
@@ -63,12 +76,18 @@ mod tests {
     use super::*;
 
     #[test]
-    fn the_three_formats() {
+    fn the_four_formats() {
         assert_eq!(parse("-"), Ok(vec![]));
         assert_eq!(parse("00ff7a"), Ok(vec![0, 255, 0x7a]));
         // 1013904223 = 0x3c6ef35f, and one more step gives 0x47502932.
         assert_eq!(parse("@2:0"), Ok(vec![0x3c, 0x47]));
+        assert_eq!(parse("~2:0:0:255"), Ok(vec![0x6e, 0, 0, 0, 0x50, 0, 0, 0]));
+        assert_eq!(parse("~1:7:4294966272:0"), Ok(vec![0, 0xfc, 0xff, 0xff]));
+        assert_eq!(parse("~1:0:4294967295:1"), Ok(vec![0xff; 4]));
         for bad in ["", "0", "0G", "AB", "@", "@1", "@1:4294967296", "@:1"] {
+            assert!(parse(bad).is_err(), "{bad}");
+        }
+        for bad in ["~", "~1:0:0", "~1:0:0:0:0", "@1:2:3", "~1::0:0"] {
             assert!(parse(bad).is_err(), "{bad}");
         }
         assert!(parse_array::<3>("0011").is_err());

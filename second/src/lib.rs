@@ -1,12 +1,19 @@
-//! ChaCha20-Poly1305 written from RFC 8439 and from nothing else, so that its
-//! answers are worth comparing with those of another implementation.
+//! ChaCha20-Poly1305 written from RFC 8439, and the two boxes' check written from
+//! the scope document 01, both from nothing else, so that their answers are worth
+//! comparing with those of another implementation.
 
 #![forbid(unsafe_code)]
 
 pub mod aead;
+pub mod cases;
 pub mod chacha20;
+pub mod check_cases;
+pub mod checks;
+pub mod dcf;
 pub mod field;
 pub mod generated;
+pub mod measure;
 pub mod poly1305;
 pub mod rfc8439;
 pub mod script;
+pub mod share;

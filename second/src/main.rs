@@ -1,18 +1,20 @@
-//! Prints the test script, or the answers that it must get.
+//! Prints a test script, or the answers that it must get.
 
-use second::script::{Case, MAX_LINE};
-use second::{generated, rfc8439};
+use second::script::{self, Case, Runner, MAX_LINE};
+use second::{check_cases, checks, generated, rfc8439};
 use std::io::Write;
 use std::process::ExitCode;
 
-const USAGE: &str = "usage: second vectors-stdin | vectors-stdout";
+const USAGE: &str = "usage: second vectors-stdin | vectors-stdout | checks-stdin | checks-stdout";
 
 fn main() -> ExitCode {
     let arguments: Vec<String> = std::env::args().skip(1).collect();
     let names: Vec<&str> = arguments.iter().map(String::as_str).collect();
     let result = match names[..] {
-        ["vectors-stdin"] => print(|case| &case.line),
-        ["vectors-stdout"] => print(|case| &case.expected),
+        ["vectors-stdin"] => print(&vectors(), script::run, |case| &case.line),
+        ["vectors-stdout"] => print(&vectors(), script::run, |case| &case.expected),
+        ["checks-stdin"] => print(&check_cases::cases(), checks::run, |case| &case.line),
+        ["checks-stdout"] => print(&check_cases::cases(), checks::run, |case| &case.expected),
         _ => Err(USAGE.to_string()),
     };
     match result {
@@ -24,11 +26,18 @@ fn main() -> ExitCode {
     }
 }
 
+/// The cases of the program `vectors`.
+fn vectors() -> Vec<Case> {
+    let mut cases = rfc8439::cases();
+    cases.extend(generated::cases());
+    cases
+}
+
 /// Prints one side of every case, and nothing at all if a case is wrong.
-fn print(side: fn(&Case) -> &str) -> Result<(), String> {
+fn print(cases: &[Case], run: Runner, side: fn(&Case) -> &str) -> Result<(), String> {
     let mut text = String::new();
-    for case in rfc8439::cases().iter().chain(&generated::cases()) {
-        case.check()?;
+    for case in cases {
+        case.check(run)?;
         if case.line.len() > MAX_LINE {
             return Err(format!("line too long: {}", case.line));
         }

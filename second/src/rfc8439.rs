@@ -323,6 +323,6 @@ pub fn check_section(section: &str) {
         .peekable();
     assert!(found.peek().is_some(), "no vector of {section}");
     for case in found {
-        case.check().unwrap();
+        case.check(crate::script::run).unwrap();
     }
 }

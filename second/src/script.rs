@@ -1,5 +1,5 @@
-//! The commands of the test script, one a line, and what this implementation
-//! answers to them.
+//! The commands of the script of the program `vectors`, one a line, and what this
+//! implementation answers to them.
 
 use crate::{aead, chacha20, field, poly1305};
 
@@ -14,9 +14,12 @@ pub struct Case {
     pub expected: String,
 }
 
+/// What answers the lines of a script.
+pub type Runner = fn(&str) -> Result<String, String>;
+
 impl Case {
     /// Whether this implementation answers as expected.
-    pub fn check(&self) -> Result<(), String> {
+    pub fn check(&self, run: Runner) -> Result<(), String> {
         let answer = run(&self.line)?;
         if answer == self.expected {
             return Ok(());
@@ -92,6 +95,7 @@ fn key_and_nonce(key: &str, nonce: &str) -> Result<([u8; 32], [u8; 12]), String>
     Ok((field::parse_array(key)?, field::parse_array(nonce)?))
 }
 
-fn number(text: &str) -> Result<u32, String> {
+/// A number field.
+pub fn number(text: &str) -> Result<u32, String> {
     text.parse().map_err(|_| format!("bad number: {text}"))
 }

@@ -1,0 +1,275 @@
+//! The cases of the program `checks`: keys, values and whole checks at the edges
+//! of every range and at inputs without a pattern.
+
+use crate::cases::Cases;
+use crate::checks::{edges, run, vector};
+use crate::field;
+use crate::measure::{Measure, MAX_LENGTH};
+use crate::script::Case;
+
+/// Points, and values of r, where something wraps or turns over.
+const EDGES: [u32; 5] = [0, 1, (1 << 31) - 1, 1 << 31, u32::MAX];
+
+const LENGTHS: [usize; 5] = [1, 2, 128, MAX_LENGTH - 1, MAX_LENGTH];
+
+/// How many more pairs of vectors it takes until every element has been squared.
+const MORE_SQUARES: usize = 8;
+
+const ZERO_SEED: &str = "0000000000000000000000000000000000000000000000000000000000000000";
+const FULL_SEED: &str = "ffffffffffffffffffffffffffffffffffffffffffffffffffffffffffffffff";
+
+/// The vectors of a check.
+#[derive(Clone, Copy)]
+enum Vectors {
+    Generated,
+    LowAndHigh,
+    BothLow,
+    BothHigh,
+}
+
+/// A threshold, by where it lies.
+#[derive(Clone, Copy)]
+enum Threshold {
+    Measure,
+    OneAbove,
+    OneBelow,
+    Lowest,
+    Highest,
+}
+
+/// Which thresholds each pair of vectors is checked with: the first pair of them
+/// lies on both sides of where the answer turns.
+const CHECKS: [(Vectors, [Threshold; 2]); 4] = [
+    (
+        Vectors::Generated,
+        [Threshold::Measure, Threshold::OneAbove],
+    ),
+    (
+        Vectors::LowAndHigh,
+        [Threshold::Measure, Threshold::OneAbove],
+    ),
+    (Vectors::BothLow, [Threshold::OneBelow, Threshold::Lowest]),
+    (Vectors::BothHigh, [Threshold::Measure, Threshold::Highest]),
+];
+
+impl Threshold {
+    /// As a number, if it is one that the measure allows.
+    fn of(self, measure: Measure, x: &str, y: &str) -> Option<i32> {
+        let [x, y] = [x, y].map(|field| vector(field).expect("a vector field"));
+        let value = measure.of(&x, &y) as i32;
+        let (lowest, highest) = measure.thresholds().into_inner();
+        let threshold = match self {
+            Threshold::Measure => value,
+            Threshold::OneAbove => value + 1,
+            Threshold::OneBelow => value - 1,
+            Threshold::Lowest => lowest,
+            Threshold::Highest => highest,
+        };
+        measure
+            .thresholds()
+            .contains(&threshold)
+            .then_some(threshold)
+    }
+
+    /// Whether the measure reaches it: no measure has its highest threshold.
+    fn reached(self) -> bool {
+        match self {
+            Threshold::Measure | Threshold::OneBelow | Threshold::Lowest => true,
+            Threshold::OneAbove | Threshold::Highest => false,
+        }
+    }
+}
+
+impl Cases {
+    /// A word without a pattern.
+    fn number(&mut self) -> u32 {
+        let bytes = field::generate(4, self.seed());
+        u32::from_le_bytes(bytes.try_into().expect("four bytes"))
+    }
+
+    /// The points: every edge and some more.
+    fn points(&mut self) -> Vec<u32> {
+        let more = [self.number(), self.number()];
+        [&EDGES[..], &more].concat()
+    }
+
+    /// The key for a point, and both values at every input worth a look.
+    fn key_and_values(&mut self, seed0: &str, seed1: &str, point: u32) {
+        self.add(format!("key {seed0} {seed1} {point}"));
+        let elsewhere = self.number();
+        for u in edges(point).into_iter().chain([elsewhere]) {
+            for party in [0, 1] {
+                self.add(format!("value {party} {seed0} {seed1} {point} {u}"));
+            }
+        }
+    }
+
+    /// Keys under seeds of zeros and ones, and under one seed for both parties.
+    fn odd_seeds(&mut self) {
+        let seed = self.bytes(32);
+        for (seed0, seed1, point) in [
+            (ZERO_SEED, ZERO_SEED, 0),
+            (FULL_SEED, FULL_SEED, u32::MAX),
+            (ZERO_SEED, FULL_SEED, 0x5555_5555),
+            (FULL_SEED, ZERO_SEED, 0xaaaa_aaaa),
+            (&seed, &seed, 1 << 31),
+        ] {
+            self.add(format!("key {seed0} {seed1} {point}"));
+            for party in [0, 1] {
+                self.add(format!("value {party} {seed0} {seed1} {point} {point}"));
+            }
+        }
+    }
+
+    /// The fields of X and Y.
+    fn vectors(&mut self, vectors: Vectors, measure: Measure, length: usize) -> [String; 2] {
+        let (low, high) = measure.elements().into_inner();
+        let mask = high - low;
+        let all = |element: i32| format!("~{length}:0:{}:0", element as u32);
+        let mut some = || format!("~{length}:{}:{}:{mask}", self.seed(), low as u32);
+        match vectors {
+            Vectors::Generated => [some(), some()],
+            Vectors::LowAndHigh => [all(low), all(high)],
+            Vectors::BothLow => [all(low), all(low)],
+            Vectors::BothHigh => [all(high), all(high)],
+        }
+    }
+
+    /// The six fields after the vectors. Masks, r, c0 and r0 go through their
+    /// kinds in turns of 3, 7, 5 and 4, so that each meets each.
+    fn draws(&mut self, length: usize) -> String {
+        let turn = self.list.len();
+        let masks = match turn % 3 {
+            0 => format!("~{}:0:0:0", 4 * length),
+            1 => format!("~{}:0:4294967295:0", 4 * length),
+            _ => self.bytes(16 * length),
+        };
+        let r = self.points()[turn % 7];
+        let c0 = [0, u32::MAX].get(turn % 5).copied();
+        let c0 = c0.unwrap_or_else(|| self.number());
+        let r0 = [0, u32::MAX].get(turn % 4).copied();
+        let r0 = r0.unwrap_or_else(|| self.number());
+        let (seed0, seed1) = (self.bytes(32), self.bytes(32));
+        format!("{masks} {c0} {r} {r0} {seed0} {seed1}")
+    }
+
+    /// A check, which must end in `reached`.
+    fn check(&mut self, measure: Measure, threshold: i32, x: &str, y: &str, reached: bool) {
+        let length = vector(x).expect("a vector field").len();
+        let draws = self.draws(length);
+        let (code, threshold) = (measure.code(), threshold as u32);
+        self.add(format!("run {code} {threshold} {x} {y} {draws}"));
+        let end = format!(" {}", u32::from(reached));
+        let case = self.list.last().expect("the case just added");
+        assert!(case.expected.ends_with(&end), "{}", case.line);
+    }
+
+    /// One pair of vectors with some thresholds, those that are allowed.
+    fn checks(
+        &mut self,
+        measure: Measure,
+        length: usize,
+        vectors: Vectors,
+        thresholds: &[Threshold],
+    ) {
+        let [x, y] = self.vectors(vectors, measure, length);
+        for threshold in thresholds {
+            if let Some(number) = threshold.of(measure, &x, &y) {
+                self.check(measure, number, &x, &y, threshold.reached());
+            }
+        }
+    }
+
+    /// The lines of 01, "The proved cases", that are whole checks.
+    fn proved_cases(&mut self) {
+        let (x, y) = ("03000000fcffffff", "0200000005000000");
+        let (bits, others) = (
+            "01000000000000000100000001000000",
+            "01000000010000000000000001000000",
+        );
+        let (low, high) = ("~512:1:4294966272:0", "~512:1:1023:0");
+        for (measure, value, x, y) in [
+            (Measure::Scalar, -14, x, y),
+            (Measure::Euclid, 82, x, y),
+            (Measure::Hamming, 2, bits, others),
+            (Measure::Euclid, 2_145_387_008, low, high),
+        ] {
+            self.check(measure, value, x, y, true);
+            self.check(measure, value + 1, x, y, false);
+        }
+        // Element -4 under the mask 4294967295, 3 under 4294967294.
+        let masks = "ffffffff00000000ffffffffffffffff";
+        let seeds = [self.bytes(32), self.bytes(32)].join(" ");
+        self.add(format!("run 0 0 fcffffff 03000000 {masks} 5 6 7 {seeds}"));
+        let case = self.list.last().expect("the case just added");
+        assert!(case.expected.starts_with("4294967291 4294967291 1 1 "));
+    }
+}
+
+/// Every case of the program `checks`, the same ones at each call.
+pub fn cases() -> Vec<Case> {
+    let mut cases = Cases::new(run);
+    for point in cases.points() {
+        let (seed0, seed1) = (cases.bytes(32), cases.bytes(32));
+        cases.key_and_values(&seed0, &seed1, point);
+    }
+    cases.odd_seeds();
+    cases.proved_cases();
+    for length in LENGTHS {
+        for measure in Measure::ALL {
+            for (vectors, thresholds) in CHECKS {
+                cases.checks(measure, length, vectors, &thresholds);
+            }
+        }
+    }
+    for _ in 0..MORE_SQUARES {
+        let thresholds = [Threshold::Measure];
+        cases.checks(Measure::Euclid, MAX_LENGTH, Vectors::Generated, &thresholds);
+    }
+    cases.list
+}
+
+#[cfg(test)]
+mod tests {
+    use super::*;
+    use crate::script::MAX_LINE;
+    use std::collections::HashSet;
+
+    #[test]
+    fn cases_are_right_short_and_not_repeated() {
+        let mut lines = HashSet::new();
+        for case in &cases() {
+            case.check(run).unwrap();
+            assert!(case.line.len() <= MAX_LINE);
+            assert!(lines.insert(case.line.clone()), "repeated: {}", case.line);
+        }
+    }
+
+    /// Every code meets every edge of r, every length both answers, and every
+    /// element's absolute value has been squared.
+    #[test]
+    fn checks_cover_what_they_should() {
+        let cases = cases();
+        let (mut code_and_r, mut length_and_answer) = (HashSet::new(), HashSet::new());
+        let mut squared = HashSet::new();
+        for case in cases.iter().filter(|case| case.line.starts_with("run ")) {
+            let fields: Vec<&str> = case.line.split(' ').collect();
+            let elements = [vector(fields[3]).unwrap(), vector(fields[4]).unwrap()];
+            code_and_r.insert((fields[1], fields[7]));
+            length_and_answer.insert((elements[0].len(), case.expected.ends_with(" 1")));
+            if fields[1] == "1" {
+                squared.extend(elements.concat().iter().map(|x| x.unsigned_abs()));
+            }
+        }
+        for r in EDGES.map(|r| r.to_string()) {
+            for code in ["0", "1", "2"] {
+                assert!(code_and_r.contains(&(code, &r)), "{code} {r}");
+            }
+        }
+        for length in LENGTHS {
+            assert!(length_and_answer.contains(&(length, false)));
+            assert!(length_and_answer.contains(&(length, true)));
+        }
+        assert!((0..=1024).all(|element| squared.contains(&element)));
+    }
+}

@@ -1,0 +1,274 @@
+//! Comparison keys: 01, "Dealing a set", from "Node" to "Value of a key at u".
+//! Two parties hold one key and a seed each, and their values at u add up to 1
+//! if u is below the key's point, else to 0.
+
+use crate::chacha20;
+
+/// One level for each bit of a point.
+pub const LEVELS: usize = 32;
+
+/// The bytes of a stored correction: seed, word, flag byte (01, "The sealed half").
+pub const CORRECTION_BYTES: usize = 37;
+
+/// The bytes of a stored key: every correction, then the final word.
+pub const KEY_BYTES: usize = LEVELS * CORRECTION_BYTES + 4;
+
+/// The 32 bytes of a seed as words, which is how the cipher takes and gives them.
+pub type Seed = [u32; 8];
+
+/// The sides of a node, each the bit that leads there and the block's counter.
+const LEFT: usize = 0;
+const RIGHT: usize = 1;
+
+/// Where a party stands in the tree.
+#[derive(Clone, Copy)]
+struct Node {
+    seed: Seed,
+    flag: bool,
+}
+
+/// What a seed holds on one side.
+struct Child {
+    seed: Seed,
+    word: u32,
+    flag: bool,
+}
+
+/// What both parties apply at one level ("Key for a point").
+#[derive(Clone, Copy, Debug, PartialEq, Eq)]
+pub struct Correction {
+    pub seed: Seed,
+    pub word: u32,
+    pub left: bool,
+    pub right: bool,
+}
+
+/// A key for a point, without the two parties' seeds.
+#[derive(Clone, Debug, PartialEq, Eq)]
+pub struct Key {
+    pub corrections: [Correction; LEVELS],
+    pub final_word: u32,
+}
+
+/// The seed of 32 bytes.
+pub fn seed(bytes: &[u8; 32]) -> Seed {
+    let mut words = [0; 8];
+    chacha20::load_words(&mut words, bytes);
+    words
+}
+
+/// One child of a seed ("Node"): words 0 to 7 of the block are bytes 0 to 31,
+/// word 8 is bytes 32 to 35, and word 9 begins with byte 36.
+#[inline]
+fn open(seed: &Seed, side: usize) -> Child {
+    let block = chacha20::block_of_words(seed, side as u32, &[0; 3]);
+    Child {
+        seed: block[..8].try_into().unwrap(),
+        word: block[8],
+        flag: block[9] & 1 == 1,
+    }
+}
+
+/// The bit of a level, counted from the highest: the side it leads to.
+fn bit(number: u32, level: usize) -> usize {
+    (number >> (LEVELS - 1 - level) & 1) as usize
+}
+
+/// Sign × word.
+fn signed(negative: bool, word: u32) -> u32 {
+    if negative {
+        word.wrapping_neg()
+    } else {
+        word
+    }
+}
+
+/// The word if the flag is 1, else 0. By a mask: the flags are as good as random,
+/// so a branch on one would be mispredicted half of the time.
+fn if_flag(flag: bool, word: u32) -> u32 {
+    word & u32::from(flag).wrapping_neg()
+}
+
+fn xor(one: &Seed, other: &Seed) -> Seed {
+    std::array::from_fn(|i| one[i] ^ other[i])
+}
+
+/// The two nodes that every key starts with: flag 0 for party 0, 1 for party 1.
+fn start(party: usize, seed: &Seed) -> Node {
+    Node {
+        seed: *seed,
+        flag: party == 1,
+    }
+}
+
+impl Child {
+    /// Where a party goes on: seed and flag, each xored with its correction if
+    /// the party's old flag was 1.
+    #[inline]
+    fn corrected(&self, correction: &Correction, side: usize, old_flag: bool) -> Node {
+        let seed = correction.seed.map(|word| if_flag(old_flag, word));
+        let flag = [correction.left, correction.right][side];
+        Node {
+            seed: xor(&self.seed, &seed),
+            flag: self.flag ^ (old_flag & flag),
+        }
+    }
+}
+
+/// One level of "Key for a point": the correction, with both parties moved to
+/// the Keep side and V brought up to date.
+fn make_level(nodes: &mut [Node; 2], v: &mut u32, bit: usize) -> Correction {
+    let [party0, party1] = nodes.map(|node| [open(&node.seed, LEFT), open(&node.seed, RIGHT)]);
+    let (keep, lose) = (bit, 1 - bit);
+    let negative = nodes[1].flag;
+
+    let lost = party1[lose].word.wrapping_sub(party0[lose].word);
+    let mut word = signed(negative, lost.wrapping_sub(*v));
+    if lose == LEFT {
+        word = word.wrapping_add(signed(negative, 1));
+    }
+    *v = v
+        .wrapping_sub(party1[keep].word)
+        .wrapping_add(party0[keep].word)
+        .wrapping_add(signed(negative, word));
+    let correction = Correction {
+        seed: xor(&party0[lose].seed, &party1[lose].seed),
+        word,
+        left: party0[LEFT].flag ^ party1[LEFT].flag ^ (bit == 1) ^ true,
+        right: party0[RIGHT].flag ^ party1[RIGHT].flag ^ (bit == 1),
+    };
+
+    *nodes = [
+        party0[keep].corrected(&correction, keep, nodes[0].flag),
+        party1[keep].corrected(&correction, keep, nodes[1].flag),
+    ];
+    correction
+}
+
+impl Key {
+    /// The key for a point under the key seeds of party 0 and 1 ("Key for a point").
+    pub fn new(seeds: &[Seed; 2], point: u32) -> Key {
+        let mut nodes = [start(0, &seeds[0]), start(1, &seeds[1])];
+        let mut v = 0;
+        let corrections =
+            std::array::from_fn(|level| make_level(&mut nodes, &mut v, bit(point, level)));
+        let [s0, s1] = nodes.map(|node| node.seed[0]);
+        Key {
+            corrections,
+            final_word: signed(nodes[1].flag, s1.wrapping_sub(s0).wrapping_sub(v)),
+        }
+    }
+
+    /// The value at u of the party, 0 or 1, that has this seed ("Value of a key at u").
+    pub fn value(&self, party: usize, seed: &Seed, u: u32) -> u32 {
+        let mut node = start(party, seed);
+        let mut total = 0u32;
+        for (level, correction) in self.corrections.iter().enumerate() {
+            let side = bit(u, level);
+            let child = open(&node.seed, side);
+            total = total
+                .wrapping_add(child.word)
+                .wrapping_add(if_flag(node.flag, correction.word));
+            node = child.corrected(correction, side, node.flag);
+        }
+        total = total
+            .wrapping_add(node.seed[0])
+            .wrapping_add(if_flag(node.flag, self.final_word));
+        signed(party == 1, total)
+    }
+
+    /// The corrections and the final word as a sealed half stores them.
+    pub fn to_bytes(&self) -> Vec<u8> {
+        let mut bytes = Vec::with_capacity(KEY_BYTES);
+        for correction in &self.corrections {
+            bytes.extend(correction.seed.iter().flat_map(|word| word.to_le_bytes()));
+            bytes.extend(correction.word.to_le_bytes());
+            bytes.push(u8::from(correction.left) | u8::from(correction.right) << 1);
+        }
+        bytes.extend(self.final_word.to_le_bytes());
+        bytes
+    }
+}
+
+#[cfg(test)]
+mod tests {
+    use super::*;
+    use crate::checks::edges;
+    use crate::field;
+
+    const POINTS: [u32; 5] = [0, 1, (1 << 31) - 1, 1 << 31, u32::MAX];
+
+    fn test_seed(number: u32) -> Seed {
+        seed(&field::generate(32, number).try_into().unwrap())
+    }
+
+    /// Some words without a pattern.
+    fn numbers(count: usize, number: u32) -> Vec<u32> {
+        let mut words = vec![0; count];
+        chacha20::load_words(&mut words, &field::generate(4 * count, number));
+        words
+    }
+
+    fn check_sum(seeds: &[Seed; 2], key: &Key, point: u32, u: u32) {
+        let [value0, value1] = [0, 1].map(|party| key.value(party, &seeds[party], u));
+        let sum = value0.wrapping_add(value1);
+        assert_eq!(sum, u32::from(u < point), "point {point} at {u}");
+    }
+
+    #[test]
+    fn values_add_up_to_whether_the_input_is_below_the_point() {
+        for (i, point) in POINTS.into_iter().chain(numbers(60, 5)).enumerate() {
+            let seeds = [test_seed(2 * i as u32), test_seed(2 * i as u32 + 1)];
+            let key = Key::new(&seeds, point);
+            for u in edges(point).into_iter().chain(numbers(20, i as u32)) {
+                check_sum(&seeds, &key, point, u);
+            }
+            // Inputs that leave the point's path at each of the levels.
+            for level in 0..LEVELS {
+                check_sum(&seeds, &key, point, point ^ 1 << level);
+            }
+        }
+    }
+
+    #[test]
+    fn any_two_seeds_will_do() {
+        let seeds = [[0; 8], [u32::MAX; 8], test_seed(1)];
+        for seeds in seeds.iter().flat_map(|a| seeds.map(|b| [*a, b])) {
+            for point in POINTS {
+                let key = Key::new(&seeds, point);
+                for u in edges(point) {
+                    check_sum(&seeds, &key, point, u);
+                }
+            }
+        }
+    }
+
+    /// The block under key 0, nonce 0 and counters 0 and 1 is printed in RFC 8439,
+    /// A.1 #1 and #2.
+    #[test]
+    fn a_seed_opens_into_the_published_blocks() {
+        let left = open(&[0; 8], LEFT);
+        assert_eq!((left.seed[0], left.word), (0xade0b876, 0x7c5941da));
+        assert_eq!((left.seed[7], left.flag), (0xc70d778b, true));
+        let right = open(&[0; 8], RIGHT);
+        assert_eq!((right.seed[0], right.word), (0xbee7079f, 0x7621b729));
+        assert_eq!((right.seed[7], right.flag), (0xed7aee32, false));
+    }
+
+    #[test]
+    fn a_key_is_stored_as_the_sealed_half_wants_it() {
+        let mut key = Key::new(&[test_seed(1), test_seed(2)], 77);
+        key.corrections[31] = Correction {
+            seed: [0x04030201; 8],
+            word: 0x08070605,
+            left: false,
+            right: true,
+        };
+        key.final_word = 0x0c0b0a09;
+        let bytes = key.to_bytes();
+        assert_eq!(bytes.len(), KEY_BYTES);
+        let last = &bytes[31 * CORRECTION_BYTES..];
+        assert_eq!(last[..32], [1, 2, 3, 4].repeat(8));
+        assert_eq!(last[32..], [5, 6, 7, 8, 2, 9, 10, 11, 12]);
+    }
+}
