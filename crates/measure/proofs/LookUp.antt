@@ -1,4 +1,4 @@
--- The square of a word by that of its magnitude. Assumes nothing.
+-- The square of a word is that of its magnitude; and the rule of the table of squares. Assumes nothing.
 use mathlib.Core.Path.{_≡_, refl, sym, ap, _∙_}
 use mathlib.Core.Bool.{Bool, true, false}
 use mathlib.Core.List.{List, [], _∷_}
@@ -40,7 +40,7 @@ square-sign x m k e = go (ltb x (2 ^ 31)) refl
         let same : m ≡ suc (2 ^ 32 - suc x) = e ∙ ap natAbs (signed-high x l k) in
         same-word (turned x m (m-eq (away l same))) (mul-lt m m) (mul-lt x x)
 
--- n squares from that of i on
+-- the table's rule: n squares from that of i on. The proof of `entry` has the checker compute this list and hold the constant to it, entry by entry.
 unfoldable pub squares : ℕ → ℕ → List ℕ
 squares i zero = []
 squares i (suc n) = i * i ∷ squares (suc i) n

@@ -6,11 +6,12 @@ use Prim.Native.Nat.{ℕ, zero, suc, _+_, _^_, _<_}
 use native.Mathlib.Numerals.{add-one}
 use native.Mathlib.Omega.{arith}
 use lib.Dec.{leb}
+use lib.IntN.{ℤ}
 use lib.ListN.{length, take, getD}
 use lib.Seq.{take-all}
 use Rattle.algebra.specs.Word.{add, mul, signed}
 use Rattle.algebra.specs.Sum.{sum}
-use Rattle.measure.specs.Measure.{scalarProduct, squaredEuclid, hamming, row, within, inRange, allInRange, ownWord}
+use Rattle.measure.specs.Measure.{scalarProduct, squaredEuclid, hamming, row, within, inRange, allInRange, thresholdFits, ownWord}
 use Rattle.measure.proofs.Signed.{signed-order}
 
 -- the row of each code
@@ -32,6 +33,16 @@ pub within-words : (w low high : ℕ) → w < 2 ^ 32 → low < 2 ^ 32 → high <
     → leb (add low (2 ^ 31)) (add w (2 ^ 31)) && leb (add w (2 ^ 31)) (add high (2 ^ 31)) ≡ within (signed low) (signed high) (signed w)
 unfolding within
 within-words w low high lw ll lh = ap₂ _&&_ (signed-order low w ll lw) (signed-order w high lw lh)
+
+pub element-range : (code w low high : ℕ) (r : Bool) → signed low ≡ row code .low → signed high ≡ row code .high
+    → r ≡ within (signed low) (signed high) (signed w) → r ≡ inRange code w
+unfolding inRange
+element-range code w low high r l h e = e ∙ ap₂ (λ (a b : ℤ). within a b (signed w)) l h
+
+pub threshold-range : (code t least most : ℕ) (r : Bool) → signed least ≡ row code .least → signed most ≡ row code .most
+    → r ≡ within (signed least) (signed most) (signed t) → r ≡ thresholdFits code t
+unfolding thresholdFits
+threshold-range code t least most r l m e = e ∙ ap₂ (λ (a b : ℤ). within a b (signed t)) l m
 
 -- one element more
 pub all-more : (code : ℕ) (v : List ℕ) (i : ℕ) → i < length v → allInRange code (take (i + 1) v) ≡ allInRange code (take i v) && inRange code (getD v i 0)

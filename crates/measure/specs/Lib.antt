@@ -1,4 +1,3 @@
 pub mod Measure
 pub mod Order
 pub mod Laws
-pub mod Cases

@@ -11,7 +11,7 @@ use Rattle.algebra.specs.Mod.{m-eq, m-refl, m-sym, m-trans, m-add}
 use Rattle.algebra.specs.Integer.{residue}
 use Rattle.algebra.specs.Ring.{ring}
 use Rattle.algebra.specs.Word.{words, add, sub, mul, signed, _≈_, signed≈, add-lt, sub-lt, same-word}
-use Rattle.algebra.specs.Bit.{only, less, odd, less-le}
+use Rattle.algebra.specs.Bit.{only, less, odd}
 use Rattle.algebra.specs.Sum.{sum, sum-ext}
 use Rattle.words.specs.List.{tab, getD-tab}
 use Rattle.dcf.specs.Interval.{interval}
@@ -19,7 +19,7 @@ use Rattle.node.specs.Node.{keyFor, valueAt}
 use Rattle.node.specs.Claims.{shares}
 use Rattle.measure.specs.Measure.{measure, reached, allInRange, thresholdFits, kWord, ownWord}
 use Rattle.measure.specs.Laws.{measure≈, reached-sign}
-use Rattle.share.specs.Share.{plus, inner, otherC, otherR, share, word, answer}
+use Rattle.share.specs.Share.{plus, inner, otherC, otherR, share, word, answer, idealGate}
 
 -- ---- the products: X · Y = MX · MY + mx · my - MX · my - MY · mx, where MX = X + mx and mx = x0 + x1
 
@@ -126,21 +126,23 @@ half : (z : ℕ) → add z (2 ^ 31) ≡ sub z (2 ^ 31)
 unfolding add sub
 half z = omega arith
 
--- Over any key seeds, any point r and any z, the two answers sum to whether z - r lies below 2^31: the sign test.
-pub sign-test : (k0 k1 : List ℕ) (r z : ℕ) → r < 2 ^ 32 → z < 2 ^ 32
-    → add (answer 0 (keyFor k0 k1 r) k0 z) (answer 1 (keyFor k0 k1 r) k1 z) ≡ less (sub z r) (2 ^ 31)
-unfolding answer only odd
-sign-test k0 k1 r z hr hz =
+-- Over any key seeds, any point r and any z, the two answers sum to what the ideal gate gives ..
+pub ideal : (k0 k1 : List ℕ) (r z : ℕ) → r < 2 ^ 32 → z < 2 ^ 32
+    → add (answer 0 (keyFor k0 k1 r) k0 z) (answer 1 (keyFor k0 k1 r) k1 z) ≡ idealGate r z
+unfolding answer idealGate only odd
+ideal k0 k1 r z hr hz =
     let key = keyFor k0 k1 r in
     let u : ℕ = add z (2 ^ 31) in
-    same-word
-    (m-trans
-    (apart (valueAt 0 key k0 u) (valueAt 0 key k0 z) (valueAt 1 key k1 u) (valueAt 1 key k1 z) (less z (2 ^ 31)))
-    (m-eq (rw (shares k0 k1 r u hr (add-lt z (2 ^ 31)), shares k0 k1 r z hr hz, half z) (interval r z (2 ^ 31 - 1) hr hz (omega arith)))))
-    (add-lt _ _) (omega (arith, less-le (sub z r) (2 ^ 31)))
+    same-word (apart (valueAt 0 key k0 u) (valueAt 0 key k0 z) (valueAt 1 key k1 u) (valueAt 1 key k1 z) (less z (2 ^ 31))) (add-lt _ _) (add-lt _ _)
+    ∙ rw (shares k0 k1 r u hr (add-lt z (2 ^ 31)), shares k0 k1 r z hr hz) refl
   where
     apart : (a0 b0 a1 b1 c : ℕ) → add (add (sub a0 b0) 0) (add (sub a1 b1) c) ≈ add (sub (add a0 a1) (add b0 b1)) c
     apart a0 b0 a1 b1 c = ring (a0 ∷ b0 ∷ a1 ∷ b1 ∷ c ∷ []) (search words depth 40 fits 5000) refl
+
+-- .. which is whether z - r lies below 2^31: the sign test
+pub sign-test : (r z : ℕ) → r < 2 ^ 32 → z < 2 ^ 32 → idealGate r z ≡ less (sub z r) (2 ^ 31)
+unfolding idealGate
+sign-test r z hr hz = rw (half z) (interval r z (2 ^ 31 - 1) hr hz (omega arith))
 
 -- Claim join law: for every vector in range, every threshold in range, every mask, every r and every two key seeds
 pub join-law : (code n t : ℕ) (x y x0 x1 y0 y1 : List ℕ) (c0 r r0 : ℕ) (k0 k1 : List ℕ) → n ≤ 512 → allInRange code x ≡ true → allInRange code y ≡ true
@@ -150,7 +152,7 @@ pub join-law : (code n t : ℕ) (x y x0 x1 y0 y1 : List ℕ) (c0 r r0 : ℕ) (k0
     ≡ only (reached code (measure code n x y) (signed t)) 1
 join-law code n t x y x0 x1 y0 y1 c0 r r0 k0 k1 hn hx hy ht hr =
     let z : ℕ = add (word0 code n t x y x0 x1 y0 y1 c0 r r0) (word1 code n t x y x0 x1 y0 y1 c0 r r0) in
-    sign-test k0 k1 r z hr (add-lt _ _)
+    ideal k0 k1 r z hr (add-lt _ _) ∙ sign-test r z hr (add-lt _ _)
     ∙ reached-sign code n t (sub z r) x y hn hx hy ht (sub-lt z r) (less-r z _ r (opened-sum code n t x y x0 x1 y0 y1 c0 r r0))
   where
     less-r : (z d r : ℕ) → z ≈ d + r → sub z r ≈ d

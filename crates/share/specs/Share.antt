@@ -39,3 +39,7 @@ word code s own r = add (add (mul (kWord code) s) own) r
 -- call 4: "its answer is value at Z + 2^31 minus value at Z, and party 1 adds 1 if Z < 2^31"
 unfoldable pub answer : ℕ → Key → List ℕ → ℕ → ℕ
 answer party key seed z = add (sub (valueAt party key seed (add z (2 ^ 31))) (valueAt party key seed z)) (only (odd party) (less z (2 ^ 31)))
+
+-- the gate of call 4 with ideal values: the value of a key for r at u is [u < r]
+unfoldable pub idealGate : ℕ → ℕ → ℕ
+idealGate r z = add (sub (less (add z (2 ^ 31)) r) (less z r)) (less z (2 ^ 31))

@@ -10,14 +10,14 @@ use Rattle.measure.proofs.all_in_range.Statement.{statement}
 use Rattle.measure.proofs.all_in_range.Tie as tie
 
 abbrev Inv-loop : tie.InvT-loop
-Inv-loop code v all₀ at₀ all at = (at ≤ length v) × (all ≡ allInRange code (take at v))
+Inv-loop code v all₀ at₀ all at = (all ≡ allInRange code (take at v)) × (at ≤ length v)
 
 abbrev μ-loop : tie.MeasureT-loop
 μ-loop code v all₀ at₀ all at = length v - at
 
 loop-holds : tie.Need-loop-holds Inv-loop μ-loop
 unfolding allInRange
-loop-holds c = (search needs, refl)
+loop-holds c = (refl, search needs)
 
 mul-in-range : tie.Need-mul-in-range Inv-loop μ-loop
 mul-in-range c = search needs
@@ -38,12 +38,12 @@ loop-again : tie.Need-loop-again Inv-loop μ-loop
 loop-again c =
     let at-loop = c .before .before .before in
     let args = at-loop .before .before .args in
-    (search needs, ap₂ _&&_ (at-loop .loop .inv .1) (c .in-range .ensures) ∙ sym (all-more (args .code) (args .v .now) (at-loop .loop .at) (omega arith)))
+    (ap₂ _&&_ (at-loop .loop .inv .0) (c .in-range .ensures) ∙ sym (all-more (args .code) (args .v .now) (at-loop .loop .at) (omega arith)), search needs)
 
 returns : tie.Need-returns Inv-loop μ-loop
 returns c =
     let all : c .before .loop .at ≡ length (c .before .before .before .args .v .now) = omega arith in
-    c .before .loop .inv .1 ∙ all-whole _ _ _ all
+    c .before .loop .inv .0 ∙ all-whole _ _ _ all
 
 pub all-in-range-spec : {M : Type 1} → statement M
 all-in-range-spec =

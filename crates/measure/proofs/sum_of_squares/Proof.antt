@@ -9,14 +9,14 @@ use Rattle.measure.proofs.sum_of_squares.Statement.{statement}
 use Rattle.measure.proofs.sum_of_squares.Tie as tie
 
 abbrev Inv-loop : tie.InvT-loop
-Inv-loop v total₀ i₀ total i = (i ≤ length v) × (total ≡ sum (λ i. mul (getD v i 0) (getD v i 0)) i)
+Inv-loop v total₀ i₀ total i = (total ≡ sum (λ i. mul (getD v i 0) (getD v i 0)) i) × (i ≤ length v)
 
 abbrev μ-loop : tie.MeasureT-loop
 μ-loop v total₀ i₀ total i = length v - i
 
 loop-holds : tie.Need-loop-holds Inv-loop μ-loop
 unfolding sum
-loop-holds c = (search needs, refl)
+loop-holds c = (refl, search needs)
 
 mul-square : tie.Need-mul-square Inv-loop μ-loop
 mul-square c = search needs
@@ -39,12 +39,12 @@ loop-less c = search needs
 loop-again : tie.Need-loop-again Inv-loop μ-loop
 loop-again c =
     let at-loop = c .before .before .before .before in
-    (search needs, c .add .ensures ∙ ap₂ add (at-loop .loop .inv .1) (c .before .square .ensures) ∙ sym (sum-more _ (at-loop .loop .i)))
+    (c .add .ensures ∙ ap₂ add (at-loop .loop .inv .0) (c .before .square .ensures) ∙ sym (sum-more _ (at-loop .loop .i)), search needs)
 
 returns : tie.Need-returns Inv-loop μ-loop
 returns c =
     let all : c .before .loop .i ≡ length (c .before .before .before .args .v .now) = omega arith in
-    rw all at (c .before .loop .inv .1)
+    rw all at (c .before .loop .inv .0)
 
 pub sum-of-squares-spec : {M : Type 1} → statement M
 sum-of-squares-spec =

@@ -16,68 +16,81 @@ use Rattle.words.proofs.add.Reads as add-reads
 abbrev Inv-loop : tie.InvT-loop
 Inv-loop n a b out₀ i₀ out i =
     (i ≤ n) × (length out ≡ length out₀) × (out ≡ over 0 (tab (λ j. add (getD a j 0) (getD b j 0)) i) out₀)
+
 abbrev μ-loop : tie.MeasureT-loop
 μ-loop n a b out₀ i₀ out i =
     n - i
+
 -- src/lib.rt:18:5
 loop-holds : tie.Need-loop-holds Inv-loop μ-loop
 unfolding over tab
 loop-holds c =
     (search needs, refl, refl)
+
 -- src/lib.rt:19:29
 mul-add : tie.Need-mul-add Inv-loop μ-loop
 mul-add c =
     search needs
+
 -- src/lib.rt:19:29
 shared-slice-read-add : tie.Need-shared-slice-read-add Inv-loop μ-loop
 shared-slice-read-add c =
     search needs
+
 -- src/lib.rt:19:35
 mul-add-2 : tie.Need-mul-add-2 Inv-loop μ-loop
 mul-add-2 c =
     search needs
+
 -- src/lib.rt:19:35
 shared-slice-read-add-2 : tie.Need-shared-slice-read-add-2 Inv-loop μ-loop
 shared-slice-read-add-2 c =
     search needs
+
 -- src/lib.rt:19:18
 add-requires : tie.Need-add-requires Inv-loop μ-loop
 add-requires c κs =
     search needs
+
 -- src/lib.rt:19:9
 mul-out : tie.Need-mul-out Inv-loop μ-loop
 mul-out c =
     search needs
+
 -- src/lib.rt:19:9
 slice-write-out : tie.Need-slice-write-out Inv-loop μ-loop
 slice-write-out c =
     search needs
+
 -- src/lib.rt:20:9
 add-i : tie.Need-add-i Inv-loop μ-loop
 add-i c =
     search needs
+
 -- src/lib.rt:18:5
 loop-less : tie.Need-loop-less Inv-loop μ-loop
 loop-less c =
     search needs
+
 -- src/lib.rt:18:5
 loop-again : tie.Need-loop-again Inv-loop μ-loop
-loop-again c =
-    (
-      search needs,
-      length-set (c .before .before .before .before .loop .out) (c .before .before .before .before .loop .i) (c .add .result) ∙ c .before .before .before .before .loop .inv .1,
-      add-more (c .before .before .before .before .before .before .before .before .args .a .now) (c .before .before .before .before .before .before .before .before .args .b .now) (c .before .before .before .before .before .before .before .before .args .out .now) (c .before .before .before .before .loop .out) (c .before .before .before .before .loop .i) (c .add .result) (c .before .before .before .before .loop .inv .2) (c .add .ensures),
-    )
+loop-again c = (
+  search needs,
+  length-set (c .before .before .before .before .loop .out) (c .before .before .before .before .loop .i) (c .add .result) ∙ c .before .before .before .before .loop .inv .1,
+  add-more (c .before .before .before .before .before .before .before .before .args .a .now) (c .before .before .before .before .before .before .before .before .args .b .now) (c .before .before .before .before .before .before .before .before .args .out .now) (c .before .before .before .before .loop .out) (c .before .before .before .before .loop .i) (c .add .result) (c .before .before .before .before .loop .inv .2) (c .add .ensures),
+)
 
 -- src/lib.rt:13:1
 same-length : tie.Need-same-length Inv-loop μ-loop
 same-length c =
     search needs
+
 -- src/lib.rt:13:1
 returns : tie.Need-returns Inv-loop μ-loop
 unfolding plus
 returns c =
     let done : c .before .loop .i ≡ c .before .before .before .before .before .args .n = omega arith in rw done at (c .before .loop .inv .2)
+
 pub add-vectors-spec : {M : Type 1} → statement M
 add-vectors-spec =
     tie.close

@@ -45,6 +45,7 @@ returns c =
     c .add2 .ensures
     ∙ ap₂ add (c .before .before .before .sub .ensures ∙ ap₂ sub (c .before .before .before .before .values .ensures .0 ∙ ap (valueAt (c .before .before .before .before .before .before .args .party) (c .before .before .before .before .before .before .args .key) (c .before .before .before .before .before .before .args .seed)) (c .before .before .before .before .before .add .ensures)) (c .before .before .before .before .values .ensures .1))
     (c .before .only .ensures ∙ ap (only (odd (c .before .before .before .before .before .before .args .party))) (c .before .before .below-half .ensures))
+
 pub answer-spec : {M : Type 1} → statement M
 answer-spec =
     tie.close

@@ -13,5 +13,6 @@ sub-result c = search needs
 returns : tie.Need-returns
 returns c =
     below-half (c .args .z) (search needs)
+
 pub below-half-spec : {M : Type 1} → statement M
 below-half-spec = tie.close (tie.spec sub-result returns)

@@ -22,5 +22,6 @@ returns : tie.Need-returns
 unfolding otherC
 returns c =
     c .sub .ensures ∙ ap (λ y. sub y (c .before .before .before .before .args .c0)) (c .before .inner .ensures)
+
 pub other-c-spec : {M : Type 1} → statement M
 other-c-spec = tie.close (tie.spec inner-requires sub-requires returns)

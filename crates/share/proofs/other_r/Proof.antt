@@ -21,5 +21,6 @@ returns : tie.Need-returns
 unfolding otherR
 returns c =
     c .sub2 .ensures ∙ ap (λ y. sub y (c .before .before .args .r0)) (c .before .sub .ensures)
+
 pub other-r-spec : {M : Type 1} → statement M
 other-r-spec = tie.close (tie.spec sub-requires sub-requires-2 returns)

@@ -28,6 +28,7 @@ sub-requires-2 c κs = search needs
 returns : tie.Need-returns
 returns c =
     share-even (c .before .before .before .before .before .before .before .before .before .args .party) (c .before .before .before .before .before .before .before .before .before .args .n) (c .before .before .before .before .before .before .before .before .before .args .c) _ _ _ _ _ _ _ _ (c .before .before .before .before .inner .ensures) (c .before .before .before .inner2 .ensures) (c .before .before .sub .ensures) (c .before .sub2 .ensures) (c .if1 .taken)
+
 -- src/lib.rt:65:19
 inner-requires-3 : tie.Need-inner-requires-3
 inner-requires-3 c κs = search needs
@@ -40,6 +41,7 @@ add-requires c κs = search needs
 returns-2 : tie.Need-returns-2
 returns-2 c =
     share-odd (c .before .before .before .before .before .before .before .before .before .before .before .args .party) (c .before .before .before .before .before .before .before .before .before .before .before .args .n) (c .before .before .before .before .before .before .before .before .before .before .before .args .c) _ _ _ _ _ _ _ _ (c .before .before .before .before .before .before .inner .ensures) (c .before .before .before .before .before .inner2 .ensures) (c .before .before .before .before .sub .ensures) (c .before .before .before .sub2 .ensures) _ _ (c .before .before .if1 .left) (c .before .inner3 .ensures) (c .add .ensures)
+
 pub share-of-spec : {M : Type 1} → statement M
 share-of-spec =
     tie.close

@@ -31,5 +31,6 @@ returns : tie.Need-returns
 unfolding word
 returns c =
     c .add2 .ensures ∙ ap (λ y. add y (c .before .before .before .before .args .r)) (c .before .add .ensures ∙ ap (λ y. add y (c .before .before .before .before .args .own)) (c .before .before .mul .ensures ∙ ap (λ y. mul y (c .before .before .before .before .args .share)) (c .before .before .before .k .ensures)))
+
 pub word-spec : {M : Type 1} → statement M
 word-spec = tie.close (tie.spec k-requires mul-requires add-requires add-requires-2 returns)

@@ -1,0 +1,82 @@
+-- 01, "The proved cases": the lines marked *, as one table with one theorem. Assumes nothing.
+use mathlib.Core.Path.{_≡_, refl}
+use mathlib.Core.Bool.{Bool, true, false, _&&_, Bool·beq}
+use mathlib.Core.List.{List, [], _∷_, map}
+use Prim.Native.Nat.{ℕ, _+_, _*_, _/_, _-_, _^_}
+use lib.Dec.{eqb}
+use lib.IntN.{ℤ, pos, negsuc, negℤ}
+use lib.ListN.{length, getD}
+use lib.Signed.{leZ}
+use Rattle.algebra.specs.Word.{add, sub}
+use Rattle.algebra.specs.Sum.{sum, sumℤ}
+use Rattle.algebra.specs.Bit.{only, less}
+use Rattle.algebra.specs.Word as W
+use Rattle.words.specs.List.{tab, same}
+use Rattle.measure.specs.Measure.{Row, row, scalarProduct, squaredEuclid, hamming, element, own, measure, reached, word}
+use Rattle.share.specs.Share.{plus, idealGate}
+
+-- "1,248 + 12 × L bytes, zero-filled to whole blocks of 484" ("The sealed half")
+unfoldable pub blocks : ℕ → ℕ
+blocks n = (1248 + 12 * n + 483) / 484
+
+-- a line: what is given, and what it comes to
+pub data Line : Type 0 where
+  -- code, X, Y: the measure
+  measured : ℕ → List ℤ → List ℤ → ℤ → Line
+  -- code, X, Y, T: whether it is reached
+  reaches : ℕ → List ℤ → List ℤ → ℤ → Bool → Line
+  -- an element and its mask: the masked element
+  masked : ℤ → ℕ → ℕ → Line
+  -- r and a difference: Z, and what the ideal gate gives
+  gated : ℕ → ℤ → ℕ → ℕ → Line
+  -- L: how many blocks
+  filled : ℕ → ℕ → Line
+
+unfoldable pub sameℤ : ℤ → ℤ → Bool
+sameℤ a b = leZ a b && leZ b a
+
+-- whether a line holds
+unfoldable pub holds : Line → Bool
+holds (measured code x y m) = sameℤ (measure code (length x) (map word x) (map word y)) m
+holds (reaches code x y t b) = Bool·beq (reached code (measure code (length x) (map word x) (map word y)) t) b
+holds (masked x m r) = same (plus 1 (word x ∷ []) (m ∷ [])) (r ∷ [])
+holds (gated r d z g) = eqb (add (word d) r) z && eqb (idealGate r z) g
+holds (filled n b) = eqb (blocks n) b
+
+unfoldable pub table : List Line
+table =
+    -- scalar (3, -4) with (2, 5): -14. T = -14 reached, T = -13 not
+    measured 0 (pos 3 ∷ negℤ (pos 4) ∷ []) (pos 2 ∷ pos 5 ∷ []) (negℤ (pos 14))
+    ∷ reaches 0 (pos 3 ∷ negℤ (pos 4) ∷ []) (pos 2 ∷ pos 5 ∷ []) (negℤ (pos 14)) true
+    ∷ reaches 0 (pos 3 ∷ negℤ (pos 4) ∷ []) (pos 2 ∷ pos 5 ∷ []) (negℤ (pos 13)) false
+    -- squared Euclid of the same: 82
+    ∷ measured 1 (pos 3 ∷ negℤ (pos 4) ∷ []) (pos 2 ∷ pos 5 ∷ []) (pos 82)
+    -- Hamming (1,0,1,1) with (1,1,0,1): 2
+    ∷ measured 2 (pos 1 ∷ pos 0 ∷ pos 1 ∷ pos 1 ∷ []) (pos 1 ∷ pos 1 ∷ pos 0 ∷ pos 1 ∷ []) (pos 2)
+    -- element -4, mask 4,294,967,295: 4,294,967,291; element 3, mask 4,294,967,294: 1
+    ∷ masked (negℤ (pos 4)) 4294967295 4294967291
+    ∷ masked (pos 3) 4294967294 1
+    -- ideal gate with r = 0: difference 0 gives 1; -2^31 gives 0
+    ∷ gated 0 (pos 0) 0 1
+    ∷ gated 0 (negℤ (pos (2 ^ 31))) (2 ^ 31) 0
+    -- r = 1, difference -1: Z = 0, gives 0
+    ∷ gated 1 (negℤ (pos 1)) 0 0
+    -- r = 2^32 - 1, difference 0: Z = 2^32 - 1, gives 1
+    ∷ gated (2 ^ 32 - 1) (pos 0) (2 ^ 32 - 1) 1
+    -- r = 2^31: difference 2^31 - 1 gives 1; -2^31 gives 0
+    ∷ gated (2 ^ 31) (pos (2 ^ 31 - 1)) (2 ^ 32 - 1) 1
+    ∷ gated (2 ^ 31) (negℤ (pos (2 ^ 31))) 0 0
+    -- blocks: L = 1: 3; 17: 3; 18: 4; 512: 16
+    ∷ filled 1 3
+    ∷ filled 17 3
+    ∷ filled 18 4
+    ∷ filled 512 16
+    ∷ []
+
+unfoldable pub all : List Line → Bool
+all [] = true
+all (l ∷ t) = holds l && all t
+
+pub the-cases : all table ≡ true
+unfolding all table holds sameℤ blocks idealGate measure own element reached row scalarProduct squaredEuclid hamming word plus tab same sum sumℤ add sub W.neg W.signed only less
+the-cases = refl

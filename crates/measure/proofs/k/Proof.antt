@@ -1,0 +1,12 @@
+use borrow.Author.Needs.{needs}
+use Rattle.measure.proofs.k.Statement.{statement}
+use Rattle.measure.proofs.k.Tie as tie
+
+row-of-requires : tie.Need-row-of-requires
+row-of-requires c κs = search needs
+
+returns : tie.Need-returns
+returns c = c .row-of .ensures .1
+
+pub k-spec : {M : Type 1} → statement M
+k-spec = tie.close (tie.spec row-of-requires returns)
