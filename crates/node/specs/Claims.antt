@@ -6,14 +6,15 @@ use mathlib.Core.List.{List, [], _∷_, _++_}
 use Prim.Native.Nat.{ℕ, zero, suc, _+_, _*_, _/_, _%_, _^_, _<_, _≤_}
 use native.Mathlib.Omega.{arith}
 use lib.ListN.{length, getD, take, length-append, List·getD-append}
-use lib.Seq.{length-take-le, take-at, getD-at, getD-take, getD-append-add}
-use lib.Dec.{ltb}
+use lib.Seq.{length-take-le, getD-at}
+use lib.Dec.{eqb, ltb}
 use borrow.Author.Tests.{ltb-true, ltb-false}
-use Rattle.algebra.specs.Word.{add}
+use Rattle.algebra.specs.Word.{add, add-lt}
 use Rattle.algebra.specs.Bit.{only, odd, less, odd-only}
+use Rattle.words.specs.Bytes.{le32, bytesOf, wordAt, getD-bytesOf, take-bytesOf, wordAt-bytesOf}
 use Rattle.words.specs.Xor.{xors, xors-back, xors-other}
-use Rattle.rounds.specs.Rounds.{length-blockFrom}
-use Rattle.chacha20.specs.ChaCha20.{block, start}
+use Rattle.rounds.specs.Rounds.{added, blockFrom, length-blockFrom}
+use Rattle.chacha20.specs.ChaCha20.{block, start, length-block}
 use Rattle.dcf.specs.Dcf as D
 use Rattle.dcf.specs.Comparison.{comparison, all-bits, walk-ext}
 use Rattle.node.specs.declared.Correction.{Correction}
@@ -84,3 +85,30 @@ shares k0 k1 r u hr hu =
       walk-ext xors node first (correctionAt (corrections k0 k1 r 32)) (D.keyCorrection xors node first k0 k1 (D.bits 32 r)) (D.bits 32 u) k1 true 32 (at-level k0 k1 r 32),
     )
     (comparison xors node first back0 back1 k0 k1 (D.bits 32 r) (D.bits 32 u) 32 ∙ ap₂ less (all-bits 32 u hu) (all-bits 32 r hr))
+
+-- ---- a node in bytes: "Bytes 0 to 31 are the child seed, 32 to 35 its word v, the lowest bit of byte 36 its flag"
+
+blockword-lt : (s t : List ℕ) (i : ℕ) → getD (added s t) i 0 < 2 ^ 32
+unfolding added
+blockword-lt [] t i = omega arith
+blockword-lt (a ∷ s) [] i = omega arith
+blockword-lt (a ∷ s) (b ∷ t) zero = add-lt a b
+blockword-lt (a ∷ s) (b ∷ t) (suc i) = blockword-lt s t i
+
+pub in-bytes : (level : ℕ) (s : List ℕ) (d : Bool) → length s ≡ 8
+    → (let b : List ℕ = bytesOf (block s (only d 1) (0 ∷ 0 ∷ 0 ∷ [])) in
+    (bytesOf ((node level s d) .seed) ≡ take 32 b) × (wordAt b 32 ≡ (node level s d) .word) × (odd (getD b 36 0) ≡ (node level s d) .flag))
+unfolding node child block blockFrom odd le32
+in-bytes level s d h =
+    let w : List ℕ = block s (only d 1) (0 ∷ 0 ∷ 0 ∷ []) in
+    let l : length w ≡ 16 = length-block s (only d 1) (0 ∷ 0 ∷ 0 ∷ []) h refl in
+    (take-bytesOf 8 w, wordAt-bytesOf w 8 (omega arith) (bounded 8), low-bit)
+  where
+    bounded : (i : ℕ) → getD (block s (only d 1) (0 ∷ 0 ∷ 0 ∷ [])) i 0 < 2 ^ 32
+    bounded i = blockword-lt _ _ i
+
+    low : (x : ℕ) → odd (x % 256) ≡ odd x
+    low x = ap (λ (y : ℕ). eqb y 1) (let e : x % 256 % 2 ≡ x % 2 = omega arith in e)
+
+    low-bit : odd (getD (bytesOf (block s (only d 1) (0 ∷ 0 ∷ 0 ∷ []))) 36 0) ≡ odd (getD (block s (only d 1) (0 ∷ 0 ∷ 0 ∷ [])) 9 0)
+    low-bit = ap odd (getD-bytesOf (block s (only d 1) (0 ∷ 0 ∷ 0 ∷ [])) 36 (omega (arith, length-block s (only d 1) (0 ∷ 0 ∷ 0 ∷ []) h refl))) ∙ low (getD (block s (only d 1) (0 ∷ 0 ∷ 0 ∷ [])) 9 0)

@@ -4,7 +4,9 @@ use mathlib.Core.List.{List, [], _∷_, _++_, append-assoc, append-nil}
 use Prim.Native.Nat.{ℕ, zero, suc, _+_, _-_, _*_, _/_, _%_, _^_, _<_}
 use native.Mathlib.Omega.{arith}
 use native.Mathlib.Numerals.{add-one}
-use lib.ListN.{length, getD}
+use lib.ListN.{length, getD, take}
+use lib.Pow.{shr-shr}
+use lib.Seq.{take-nil}
 use Rattle.words.specs.List.{tab, length-tab, over, over-next}
 
 -- a word rotated left by n bits
@@ -60,3 +62,31 @@ unfolding tab bytesOf
 over-word g s t u at i e f =
     let l : length (bytesOf (tab g i)) ≡ 4 * i = length-bytesOf (tab g i) ∙ ap (λ (k : ℕ). 4 * k) (length-tab g i) in
     rw (add-one i, bytesOf-append (tab g i) (g i ∷ []), append-nil (le32 (g i))) (over-next (bytesOf (tab g i)) (le32 (g i)) s t u at (4 * i) l e f)
+
+-- the bytes of the first k words
+pub take-bytesOf : (k : ℕ) (w : List ℕ) → bytesOf (take k w) ≡ take (4 * k) (bytesOf w)
+unfolding bytesOf le32
+take-bytesOf zero w = refl
+take-bytesOf (suc k) [] = sym (take-nil (4 * suc k))
+take-bytesOf (suc k) (x ∷ w) =
+    let e : 4 * suc k ≡ suc (suc (suc (suc (4 * k)))) = omega arith in
+    rw e (ap (λ (l : List ℕ). le32 x ++ l) (take-bytesOf k w))
+
+-- a word's bytes make the word
+pub wordAt-bytesOf : (w : List ℕ) (i : ℕ) → i < length w → getD w i 0 < 2 ^ 32 → wordAt (bytesOf w) (4 * i) ≡ getD w i 0
+unfolding wordAt le32
+wordAt-bytesOf w i l h =
+    let b0 = byte (4 * i) 0 (omega arith) (omega arith) in
+    let b1 = byte (4 * i + 1) 1 (omega arith) (omega arith) in
+    let b2 = byte (4 * i + 2) 2 (omega arith) (omega arith) in
+    let b3 = byte (4 * i + 3) 3 (omega arith) (omega arith) in
+    (λ k. b0 k + b1 k * 2 ^ 8 + b2 k * 2 ^ 16 + b3 k * 2 ^ 24) ∙ sum (getD w i 0) h
+  where
+    byte : (k j : ℕ) → k ≡ 4 * i + j → j < 4 → getD (bytesOf w) k 0 ≡ getD (le32 (getD w i 0)) j 0
+    byte k j e hj =
+        let q : k / 4 ≡ i = omega arith in
+        let r : k % 4 ≡ j = omega arith in
+        getD-bytesOf w k (omega arith) ∙ rw (q, r) refl
+
+    sum : (x : ℕ) → x < 2 ^ 32 → x % 256 + x / 2 ^ 8 % 256 * 2 ^ 8 + x / 2 ^ 16 % 256 * 2 ^ 16 + x / 2 ^ 24 % 256 * 2 ^ 24 ≡ x
+    sum x h = rw (← (shr-shr x 16 8), ← (shr-shr x 8 8)) (omega arith)
