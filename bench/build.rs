@@ -1,4 +1,4 @@
-//! Tells the linker where `rt staticlib cipher_c` puts its archive. Which libraries there are to
+//! Tells the linker where `rt staticlib` puts its archives. Which libraries there are to
 //! link stands in src/foreign.rs, beside their functions.
 
 use std::env;
@@ -9,6 +9,8 @@ fn main() {
     let folder = Path::new(&bench).join("../target/staticlib");
     println!("cargo:rustc-link-search=native={}", folder.display());
     // Cargo does not look into archives: without this line a new one would not be linked.
-    let archive = folder.join("libcipher_c.a");
-    println!("cargo:rerun-if-changed={}", archive.display());
+    for name in ["libcipher_c.a", "libcheck_c.a"] {
+        let archive = folder.join(name);
+        println!("cargo:rerun-if-changed={}", archive.display());
+    }
 }

@@ -8,9 +8,46 @@ pub type Key = [u8; 32];
 pub type Nonce = [u8; 12];
 pub type Tag = [u8; 16];
 
-/// The verified cipher: crates/cipher_c.
+/// The verified cipher and the verified check: crates/cipher_c and crates/check_c.
 pub mod ours {
     use super::*;
+    use second::dcf::{self, Seed};
+
+    /// A level's correction, as crates/node has it: of the flags, bit 0 is the left one and bit 1
+    /// the right one.
+    #[repr(C)]
+    #[derive(Clone, Copy)]
+    pub struct Correction {
+        seed: Seed,
+        word: u32,
+        flags: u32,
+    }
+
+    #[repr(C)]
+    #[derive(Clone, Copy)]
+    pub struct ComparisonKey {
+        corrections: [Correction; dcf::LEVELS],
+        last: u32,
+    }
+
+    impl ComparisonKey {
+        /// The same key as the second implementation has it.
+        pub fn plain(&self) -> dcf::Key {
+            let plain = |c: Correction| {
+                assert!(c.flags < 4, "there are two flags");
+                dcf::Correction {
+                    seed: c.seed,
+                    word: c.word,
+                    left: c.flags & 1 == 1,
+                    right: c.flags & 2 == 2,
+                }
+            };
+            dcf::Key {
+                corrections: self.corrections.map(plain),
+                final_word: self.last,
+            }
+        }
+    }
 
     #[link(name = "cipher_c", kind = "static")]
     extern "C" {
@@ -33,6 +70,84 @@ pub mod ours {
             text_len: usize,
             tag: &Tag,
         ) -> bool;
+    }
+
+    #[link(name = "check_c", kind = "static")]
+    extern "C" {
+        fn check_key(k0: &Seed, k1: &Seed, point: u32) -> ComparisonKey;
+        fn check_value(key: ComparisonKey, seed: &Seed, party: u32, u: u32) -> u32;
+        fn check_answer(key: ComparisonKey, seed: &Seed, party: u32, z: u32) -> u32;
+        fn check_mask(
+            v: *const u32,
+            v_len: usize,
+            m: *const u32,
+            m_len: usize,
+            out: *mut u32,
+            out_len: usize,
+        ) -> bool;
+        fn check_word(
+            code: u32,
+            party: u32,
+            c: u32,
+            r: u32,
+            v: *const u32,
+            v_len: usize,
+            mx: *const u32,
+            mx_len: usize,
+            my: *const u32,
+            my_len: usize,
+            sx: *const u32,
+            sx_len: usize,
+            sy: *const u32,
+            sy_len: usize,
+        ) -> u32;
+    }
+
+    pub fn key(seeds: &[Seed; 2], point: u32) -> ComparisonKey {
+        unsafe { check_key(&seeds[0], &seeds[1], point) }
+    }
+
+    pub fn value(key: &ComparisonKey, seed: &Seed, party: u32, u: u32) -> u32 {
+        unsafe { check_value(*key, seed, party, u) }
+    }
+
+    pub fn answer(key: &ComparisonKey, seed: &Seed, party: u32, z: u32) -> u32 {
+        unsafe { check_answer(*key, seed, party, z) }
+    }
+
+    pub fn mask(v: &[u32], m: &[u32], out: &mut [u32]) {
+        let (v, v_len) = (v.as_ptr(), v.len());
+        let (m, m_len) = (m.as_ptr(), m.len());
+        let (out, out_len) = (out.as_mut_ptr(), out.len());
+        let ok = unsafe { check_mask(v, v_len, m, m_len, out, out_len) };
+        assert!(ok, "check_mask");
+    }
+
+    /// What a party's word is made of: its own vector, both masked vectors, and its shares of the
+    /// two masks.
+    pub struct Word<'a> {
+        pub code: u32,
+        pub party: u32,
+        pub c: u32,
+        pub r: u32,
+        pub v: &'a [u32],
+        pub mx: &'a [u32],
+        pub my: &'a [u32],
+        pub sx: &'a [u32],
+        pub sy: &'a [u32],
+    }
+
+    pub fn word(w: &Word) -> u32 {
+        let (v, v_len) = (w.v.as_ptr(), w.v.len());
+        let (mx, mx_len) = (w.mx.as_ptr(), w.mx.len());
+        let (my, my_len) = (w.my.as_ptr(), w.my.len());
+        let (sx, sx_len) = (w.sx.as_ptr(), w.sx.len());
+        let (sy, sy_len) = (w.sy.as_ptr(), w.sy.len());
+        unsafe {
+            check_word(
+                w.code, w.party, w.c, w.r, v, v_len, mx, mx_len, my, my_len, sx, sx_len, sy, sy_len,
+            )
+        }
     }
 
     pub fn stream(key: &Key, nonce: &Nonce, out: &mut [u32]) {

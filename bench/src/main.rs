@@ -1,7 +1,8 @@
-//! Times the verified cipher beside libsodium, OpenSSL and the second implementation.
+//! Times the verified cipher and check beside libsodium, OpenSSL and the second implementation.
 
 #![deny(unsafe_code)]
 
+mod check;
 mod foreign;
 mod measure;
 mod report;

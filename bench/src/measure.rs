@@ -8,6 +8,11 @@ const SLICE: Duration = Duration::from_micros(100);
 
 /// How often each row has its turn; a row that takes long in a turn has fewer.
 const ROUNDS: usize = 3000;
+
+/// Code of libsodium and OpenSSL may use AVX-512, after which the processor's clock is slower for
+/// most of a millisecond: so long nothing is timed.
+const WIDE_PAUSE: Duration = Duration::from_micros(1000);
+
 const LONG_TURN: Duration = Duration::from_millis(2);
 
 #[derive(Clone, Copy, PartialEq, Debug)]
@@ -169,8 +174,13 @@ impl<'a, 'b> Turns<'a, 'b> {
     }
 
     fn take(&mut self) {
+        let whos = self.row.whos();
         for (way, clock) in self.clocks.iter_mut().enumerate() {
             clock.slice(self.row, way);
+            if matches!(whos[way], Who::Sodium | Who::OpenSsl) {
+                let start = Instant::now();
+                while start.elapsed() < WIDE_PAUSE {}
+            }
         }
         self.taken += 1;
     }

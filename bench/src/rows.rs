@@ -1,20 +1,29 @@
 //! What is timed: a row for each operation, with a way for each implementation that has it.
 
+use crate::check::{self, Check};
 use crate::foreign::{openssl, ours, sodium, Key, Nonce, Tag};
 use crate::measure::{row, way, Row, Way, Who};
+use second::measure::Measure;
 use second::{aead, chacha20};
 use std::hint::black_box;
 
 /// What is done with the buffers, for the reader of the table.
-pub const BUFFERS: [&str; 2] = [
+pub const BUFFERS: [&str; 4] = [
     "key stream: the buffer is not cleared before a call; libsodium clears it itself, and OpenSSL \
      encrypts a second buffer, of zeros, into it",
     "seal and open: in place; before each call the text is copied into the buffer, in the same way \
      for all, and the copy is in the times; nothing is cleared",
+    "make a key: the key is written to the buffer; value and answer: ours takes its key by value, \
+     and the copy of 1284 bytes is in its time",
+    "mask: into the buffer, which is not cleared, and nothing is allocated; word: with the own term, \
+     at party 1",
 ];
 
 const TEXT: usize = 484;
 type Text = [u8; TEXT];
+
+/// The vectors of a check.
+const LENGTHS: [usize; 2] = [128, 512];
 
 /// The input of every row and every implementation.
 pub struct Input {
@@ -24,6 +33,8 @@ pub struct Input {
     plain: Text,
     sealed: Text,
     tag: Tag,
+    scalar: [Check; 2],
+    euclid: [Check; 2],
 }
 
 impl Input {
@@ -41,6 +52,8 @@ impl Input {
             plain,
             sealed,
             tag,
+            scalar: LENGTHS.map(|length| Check::new(Measure::Scalar, length)),
+            euclid: LENGTHS.map(|length| Check::new(Measure::Euclid, length)),
         };
         // The compiler must not know the key: it could do a part of the rounds beforehand.
         black_box(input)
@@ -71,11 +84,21 @@ const EMPTY: Block = Block {
 
 /// All rows, in the order of the table.
 pub fn rows(input: &Input) -> Vec<Box<dyn Row + '_>> {
+    let Input { scalar, euclid, .. } = input;
     vec![
         stream::<256>("key stream, 1 KB", input),
         stream::<4096>("key stream, 16 KB", input),
         seal("seal 484 bytes", input),
         open("open 484 bytes", input),
+        check::key("make a key", &euclid[0]),
+        check::value("one value", &euclid[0]),
+        check::answer("an answer", &euclid[0]),
+        check::mask("mask, L 128", &euclid[0]),
+        check::mask("mask, L 512", &euclid[1]),
+        check::word("word, L 128, code 0", &scalar[0]),
+        check::word("word, L 512, code 0", &scalar[1]),
+        check::word("word, L 128, code 1", &euclid[0]),
+        check::word("word, L 512, code 1", &euclid[1]),
     ]
 }
 

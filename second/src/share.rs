@@ -69,8 +69,17 @@ pub fn deal(measure: Measure, threshold: i32, draws: &Draws) -> [Half; 2] {
 impl Half {
     /// Call 2: element plus mask, as words.
     pub fn masked(&self, vector: &[i32]) -> Vec<u32> {
+        let mut words = vec![0; vector.len()];
+        self.masked_into(vector, &mut words);
+        words
+    }
+
+    /// The same into words that are there already, as many as elements.
+    pub fn masked_into(&self, vector: &[i32], words: &mut [u32]) {
         let pairs = vector.iter().zip(&self.own_mask);
-        pairs.map(|(&x, m)| (x as u32).wrapping_add(*m)).collect()
+        for (word, (&x, m)) in words.iter_mut().zip(pairs) {
+            *word = (x as u32).wrapping_add(*m);
+        }
     }
 
     /// Call 3, without k, own and r: this party's share of the sum of products,

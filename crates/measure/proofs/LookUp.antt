@@ -12,6 +12,7 @@ use lib.ListN.{getD}
 use Rattle.algebra.specs.Mod.{m-eq}
 use Rattle.algebra.specs.Ring.{ring}
 use Rattle.algebra.specs.Word.{mul, neg, signed, _≈_, words, mul-lt, same-word}
+use Rattle.measure.specs.Measure.{squaresFrom}
 use Rattle.measure.proofs.Signed.{signed-low, signed-high}
 
 pub magnitude-low : (x : ℕ) → x < 2 ^ 31 → x ≡ natAbs (signed x)
@@ -40,18 +41,13 @@ square-sign x m k e = go (ltb x (2 ^ 31)) refl
         let same : m ≡ suc (2 ^ 32 - suc x) = e ∙ ap natAbs (signed-high x l k) in
         same-word (turned x m (m-eq (away l same))) (mul-lt m m) (mul-lt x x)
 
--- the table's rule: n squares from that of i on. The proof of `entry` has the checker compute this list and hold the constant to it, entry by entry.
-unfoldable pub squares : ℕ → ℕ → List ℕ
-squares i zero = []
-squares i (suc n) = i * i ∷ squares (suc i) n
-
-squares-at : (i n k : ℕ) → k < n → getD (squares i n) k 0 ≡ (i + k) * (i + k)
-unfolding squares
+squares-at : (i n k : ℕ) → k < n → getD (squaresFrom i n) k 0 ≡ (i + k) * (i + k)
+unfolding squaresFrom
 squares-at i zero k h = absurd (omega arith)
 squares-at i (suc n) zero h = ap (λ (j : ℕ). j * j) (sym (add-zero i))
 squares-at i (suc n) (suc k) h = squares-at (suc i) n k (omega arith) ∙ ap (λ (j : ℕ). j * j) (suc-add i k ∙ sym (add-suc i k))
 
-pub entry-square : (n i : ℕ) → i < n → getD (squares 0 n) i 0 ≡ i * i
+pub entry-square : (n i : ℕ) → i < n → getD (squaresFrom 0 n) i 0 ≡ i * i
 entry-square n i h = squares-at 0 n i h ∙ ap (λ (j : ℕ). j * j) (zero-add i)
 
 -- the square of a small magnitude is that of the word

@@ -2,7 +2,7 @@
 -- Elements and thresholds are words: a negative number stands for itself plus 2^32. Assumes nothing.
 use mathlib.Core.Bool.{Bool, true, false, cond, _&&_}
 use mathlib.Core.List.{List, [], _∷_}
-use Prim.Native.Nat.{ℕ, zero, suc, _-_, _%_, _^_}
+use Prim.Native.Nat.{ℕ, zero, suc, _*_, _-_, _%_, _^_}
 use lib.Dec.{ltb}
 use lib.IntN.{ℤ, pos, negsuc, negℤ, _+ℤ_, _*ℤ_}
 use lib.ListN.{getD}
@@ -82,3 +82,8 @@ kWord code = word (row code .k)
 
 unfoldable pub ownWord : ℕ → ℕ → List ℕ → ℕ
 ownWord code n v = cond (row code .squares) (sum (λ i. mul (getD v i 0) (getD v i 0)) n) 0
+
+-- the table of squares: n of them, from that of i on. The checker computes this list and holds the constant to it, entry by entry.
+unfoldable pub squaresFrom : ℕ → ℕ → List ℕ
+squaresFrom i zero = []
+squaresFrom i (suc n) = i * i ∷ squaresFrom (suc i) n

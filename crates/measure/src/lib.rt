@@ -7,7 +7,7 @@ ghost use lib.ListN.{length, getD};
 ghost use lib.IntN.{natAbs};
 ghost use Rattle.algebra.specs.Word.{mul as mulOf, signed};
 ghost use Rattle.algebra.specs.Sum.{sum};
-ghost use Rattle.measure.specs.Measure.{row, isCode, inRange, allInRange, thresholdFits, kWord, ownWord, within};
+ghost use Rattle.measure.specs.Measure.{row, isCode, inRange, allInRange, thresholdFits, kWord, ownWord, within, squaresFrom};
 
 mod squares;
 
@@ -119,26 +119,29 @@ fn magnitude(x: u32) -> u32
     }
 }
 
-// A word times itself. The square of what any measure takes is looked up; a word outside every
-// range is multiplied, so that no word is turned down.
-pub fn square(x: u32) -> u32
+// A word times itself. The square of what any measure takes is looked up in the table t; a word
+// outside every range is multiplied, so that no word is turned down.
+fn square(t: &[u32; 1025], x: u32) -> u32
+    requires { ⌜ now t ≡ squaresFrom 0 1025 ⌝ }
     ensures { λ r. ⌜ r ≡ mulOf x x ⌝ }
 {
     let m = magnitude(x);
     if m <= 1024 {
-        squares::entry(m as usize)
+        t[m as usize]
     } else {
         words::mul(x, x)
     }
 }
 
+// The table is set up once, before the loop: each use of a constant array copies it.
 fn sum_of_squares(v: &[u32]) -> u32
     ensures { λ r. ⌜ r ≡ sum (λ i. mulOf (getD (now (v .entry)) i 0) (getD (now (v .entry)) i 0)) (length (now (v .entry))) ⌝ }
 {
+    let table = squares::SQUARES;
     let mut total: u32 = 0;
     let mut i: usize = 0;
     while i < v.len() {
-        total = words::add(total, square(v[i]));
+        total = words::add(total, square(&table, v[i]));
         i += 1;
     }
     total

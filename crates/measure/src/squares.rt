@@ -1,16 +1,6 @@
 // The table of squares: 1,025 entries, for 0 to 1,024 (01, "Measures").
-ghost use mathlib.Core.Path.{_≡_};
-ghost use Prim.Native.Nat.{_*_, _<_};
-
-pub(crate) fn entry(i: usize) -> u32
-    requires { ⌜ i < 1025 ⌝ }
-    ensures { λ r. ⌜ r ≡ i * i ⌝ }
-{
-    SQUARES[i]
-}
-
 // Entry i is i * i.
-const SQUARES: [u32; 1025] = [
+pub(crate) const SQUARES: [u32; 1025] = [
     0,
     1,
     4,

@@ -12,12 +12,14 @@ ghost use Rattle.node.specs.Node.{child, unpacked, asWalk};
 use rounds::State;
 
 // A level's correction. Of the flags, bit 0 is the left one and bit 1 the right one.
+#[repr(C)]
 pub struct Correction {
     pub seed: [u32; 8],
     pub word: u32,
     pub flags: u32,
 }
 
+#[repr(C)]
 pub struct Key {
     pub corrections: [Correction; 32],
     pub last: u32,

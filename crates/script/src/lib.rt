@@ -15,12 +15,15 @@ pub use read::fill;
 pub use read::read_bytes;
 pub use read::read_number;
 pub use read::read_word;
+pub use read::read_words;
 pub use write::ROOM;
 pub use write::flush;
 pub use write::put_byte;
 pub use write::put_hex;
 pub use write::put_number;
+pub use write::put_numbers;
 pub use write::put_text;
+pub use write::put_words;
 ghost use Rattle.script.specs.Script.{NextPart};
 
 // The bytes from start to end, and where to look for what follows the mark at end: past the end of

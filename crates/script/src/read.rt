@@ -79,6 +79,22 @@ pub fn read_word(field: &[u8]) -> Word {
     Word::Value(n as u32)
 }
 
+// Whether the parts of a text at these places are all words; they are then read.
+pub fn read_words(text: &[u8], mark: u8, places: &[usize], w: &mut [u32]) -> bool {
+    if places.len() != w.len() {
+        return false;
+    }
+    let mut i: usize = 0;
+    while i < w.len() {
+        let Word::Value(x) = read_word(crate::part(text, mark, places[i])) else {
+            return false;
+        };
+        w[i] = x;
+        i += 1;
+    }
+    true
+}
+
 // It takes the buffer so that its contract can speak of it, and whoever returns what it answers
 // has nothing to prove.
 fn refuse(why: Refusal, out: &[u8]) -> Bytes
@@ -119,6 +135,14 @@ fn read_hex(digits: &[u8], out: &mut [u8]) -> Bytes
     }
 }
 
+fn size(w: u32) -> usize {
+    w as usize
+}
+
+fn next_state(s: u32) -> u32 {
+    words::add(words::mul(s, 1664525), 1013904223)
+}
+
 // The first n bytes of a generator, so that a script can ask for long inputs in few characters.
 fn generate(n: usize, seed: u32, out: &mut [u8]) -> Bytes
     ensures { λ r. ⌜ Counts (r .count) (now (out .exit)) ⌝ }
@@ -129,7 +153,7 @@ fn generate(n: usize, seed: u32, out: &mut [u8]) -> Bytes
     let mut s = seed;
     let mut i: usize = 0;
     while i < n {
-        s = words::add(words::mul(s, 1664525), 1013904223);
+        s = next_state(s);
         out[i] = (s / 16777216) as u8;
         i += 1;
     }
@@ -143,20 +167,50 @@ fn generate(n: usize, seed: u32, out: &mut [u8]) -> Bytes
 fn read_generated(text: &[u8], out: &mut [u8]) -> Bytes
     ensures { λ r. ⌜ Counts (r .count) (now (out .exit)) ⌝ }
 {
-    if crate::part_count(text, b':') != 2 {
+    let mut w = [0u32; 2];
+    let ok = read_words(text, b':', &[0, 1], &mut w);
+    if !ok | (crate::part_count(text, b':') != 2) {
         return refuse(Refusal::NotHex, out);
     }
-    let Number::Value(n) = read_number(crate::part(text, b':', 0)) else {
-        return refuse(Refusal::NotHex, out);
-    };
-    let Word::Value(seed) = read_word(crate::part(text, b':', 1)) else {
-        return refuse(Refusal::NotHex, out);
-    };
-    generate(n as usize, seed, out)
+    generate(size(w[0]), w[1], out)
 }
 
-// The bytes of a field into a buffer: hex digits in lower case, - for none, or @N:S for N bytes
-// generated from the seed S. A refusal may leave some bytes changed.
+// The first n words of the generator, little-endian: of each state, 16 bits under the mask, added
+// to `low`. The low bits of a state repeat too soon.
+fn generate_words(n: usize, seed: u32, low: u32, mask: u32, out: &mut [u8]) -> Bytes
+    ensures { λ r. ⌜ Counts (r .count) (now (out .exit)) ⌝ }
+{
+    if n > out.len() / 4 {
+        return refuse(Refusal::TooLong, out);
+    }
+    let mut s = seed;
+    let mut i: usize = 0;
+    while i < n {
+        s = next_state(s);
+        words::store(out, 4 * i, words::add(low, (s / 65536) & mask));
+        i += 1;
+    }
+    Bytes {
+        count: 4 * n,
+        refusal: Refusal::Nothing,
+    }
+}
+
+// N:S:LOW:MASK, with N words wanted of the seed S.
+fn read_generated_words(text: &[u8], out: &mut [u8]) -> Bytes
+    ensures { λ r. ⌜ Counts (r .count) (now (out .exit)) ⌝ }
+{
+    let mut w = [0u32; 4];
+    let ok = read_words(text, b':', &[0, 1, 2, 3], &mut w);
+    if !ok | (crate::part_count(text, b':') != 4) {
+        return refuse(Refusal::NotHex, out);
+    }
+    generate_words(size(w[0]), w[1], w[2], w[3], out)
+}
+
+// The bytes of a field into a buffer: hex digits in lower case, - for none, @N:S for N bytes
+// generated from the seed S, or ~N:S:LOW:MASK for N generated words. A refusal may leave some
+// bytes changed.
 pub fn read_bytes(field: &[u8], out: &mut [u8]) -> Bytes
     ensures { λ r. ⌜ Counts (r .count) (now (out .exit)) ⌝ }
 {
@@ -171,6 +225,9 @@ pub fn read_bytes(field: &[u8], out: &mut [u8]) -> Bytes
     }
     if field[0] == b'@' {
         return read_generated(&field[1..], out);
+    }
+    if field[0] == b'~' {
+        return read_generated_words(&field[1..], out);
     }
     read_hex(field, out)
 }

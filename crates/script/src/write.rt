@@ -62,3 +62,41 @@ pub fn put_number(out: &mut [u8; ROOM], at: usize, n: u64) -> usize {
     let k = io::decimal(n, &mut digits);
     put_text(out, at, &digits[..k])
 }
+
+fn wide(x: u32) -> u64 {
+    x as u64
+}
+
+// The numbers with a space between two.
+pub fn put_numbers(out: &mut [u8; ROOM], at: usize, w: &[u32]) -> usize {
+    let mut next = at;
+    let mut i: usize = 0;
+    while i < w.len() {
+        if 0 < i {
+            next = put_byte(out, next, b' ');
+        }
+        next = put_number(out, next, wide(w[i]));
+        i += 1;
+    }
+    next
+}
+
+fn put_word(out: &mut [u8; ROOM], at: usize, w: u32) -> usize {
+    let mut bytes = [0u8; 4];
+    words::store(&mut bytes, 0, w);
+    put_hex(out, at, &bytes)
+}
+
+// The bytes of the words, little-endian, as put_hex: - if there are none.
+pub fn put_words(out: &mut [u8; ROOM], at: usize, w: &[u32]) -> usize {
+    if w.len() == 0 {
+        return put_hex(out, at, b"");
+    }
+    let mut next = at;
+    let mut i: usize = 0;
+    while i < w.len() {
+        next = put_word(out, next, w[i]);
+        i += 1;
+    }
+    next
+}

@@ -5,14 +5,15 @@ use native.Mathlib.Omega.{arith}
 use lib.ListN.{length, getD}
 use Rattle.algebra.specs.Word.{add, mul}
 use Rattle.algebra.specs.Sum.{sum, sum-more}
+use Rattle.measure.specs.Measure.{squaresFrom}
 use Rattle.measure.proofs.sum_of_squares.Statement.{statement}
 use Rattle.measure.proofs.sum_of_squares.Tie as tie
 
 abbrev Inv-loop : tie.InvT-loop
-Inv-loop v total₀ i₀ total i = (total ≡ sum (λ i. mul (getD v i 0) (getD v i 0)) i) × (i ≤ length v)
+Inv-loop v table total₀ i₀ total i = (total ≡ sum (λ i. mul (getD v i 0) (getD v i 0)) i) × (i ≤ length v)
 
 abbrev μ-loop : tie.MeasureT-loop
-μ-loop v total₀ i₀ total i = length v - i
+μ-loop v table total₀ i₀ total i = length v - i
 
 loop-holds : tie.Need-loop-holds Inv-loop μ-loop
 unfolding sum
@@ -25,7 +26,8 @@ shared-slice-read-square : tie.Need-shared-slice-read-square Inv-loop μ-loop
 shared-slice-read-square c = search needs
 
 square-requires : tie.Need-square-requires Inv-loop μ-loop
-square-requires c κs = search needs
+unfolding squaresFrom
+square-requires c κs = refl
 
 add-requires : tie.Need-add-requires Inv-loop μ-loop
 add-requires c κs = search needs
@@ -38,7 +40,7 @@ loop-less c = search needs
 
 loop-again : tie.Need-loop-again Inv-loop μ-loop
 loop-again c =
-    let at-loop = c .before .before .before .before in
+    let at-loop = c .before .before .before .before .before in
     (c .add .ensures ∙ ap₂ add (at-loop .loop .inv .0) (c .before .square .ensures) ∙ sym (sum-more _ (at-loop .loop .i)), search needs)
 
 returns : tie.Need-returns Inv-loop μ-loop

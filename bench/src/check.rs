@@ -1,0 +1,189 @@
+//! The rows of a check: the making of a key, and what a box computes.
+
+use crate::foreign::ours::{self, ComparisonKey};
+use crate::measure::{row, way, Row, Who};
+use second::chacha20;
+use second::dcf::{self, Seed};
+use second::measure::Measure;
+use second::share::{self, Draws, Half};
+
+/// The party that is timed: it adds one sum of products more.
+const PARTY: usize = 1;
+
+/// The input of the rows of one measure and one length.
+pub struct Check {
+    measure: Measure,
+    /// Party 1's half of a set, as the second implementation deals it.
+    half: Half,
+    key: ComparisonKey,
+    seeds: [Seed; 2],
+    point: u32,
+    /// Party 1's vector, as numbers and as words.
+    numbers: Vec<i32>,
+    words: Vec<u32>,
+    masked: [Vec<u32>; 2],
+    z: u32,
+}
+
+impl Check {
+    pub fn new(measure: Measure, length: usize) -> Check {
+        let mut source = Source(0);
+        let vectors = [(); 2].map(|()| source.vector(measure, length));
+        let draws = source.draws(length);
+        let (seeds, point) = (draws.seeds, draws.r);
+        let halves = share::deal(measure, 1000, &draws);
+        let run = share::run(&halves, &vectors[0], &vectors[1]);
+        let [_, half] = halves;
+        let [_, numbers] = vectors;
+        Check {
+            measure,
+            half,
+            key: ours::key(&seeds, point),
+            seeds,
+            point,
+            words: numbers.iter().map(|&x| x as u32).collect(),
+            numbers,
+            masked: run.masked,
+            z: run.z,
+        }
+    }
+}
+
+/// Words with no meaning, never the same ones twice.
+struct Source(u8);
+
+impl Source {
+    fn words(&mut self, count: usize) -> Vec<u32> {
+        let mut words = vec![0; count];
+        self.0 += 1;
+        chacha20::stream_words(&[self.0; 32], &[7; 12], &mut words);
+        words
+    }
+
+    fn vector(&mut self, measure: Measure, length: usize) -> Vec<i32> {
+        let (low, high) = measure.elements().into_inner();
+        let count = (high - low + 1) as u32;
+        let words = self.words(length).into_iter();
+        words.map(|word| low + (word % count) as i32).collect()
+    }
+
+    fn draws(&mut self, length: usize) -> Draws {
+        let words = self.words(19);
+        let seed = |at: usize| words[at..at + 8].try_into().unwrap();
+        Draws {
+            x: [self.words(length), self.words(length)],
+            y: [self.words(length), self.words(length)],
+            c0: words[16],
+            r: words[17],
+            r0: words[18],
+            seeds: [seed(0), seed(8)],
+        }
+    }
+}
+
+/// The buffer of key making: each implementation leaves the key as it has it.
+#[repr(align(64))]
+#[derive(Clone)]
+enum Made {
+    Nothing,
+    Ours(ComparisonKey),
+    Second(dcf::Key),
+}
+
+impl Made {
+    fn plain(&self) -> Option<dcf::Key> {
+        match self {
+            Made::Nothing => None,
+            Made::Ours(key) => Some(key.plain()),
+            Made::Second(key) => Some(key.clone()),
+        }
+    }
+}
+
+impl PartialEq for Made {
+    fn eq(&self, other: &Made) -> bool {
+        self.plain() == other.plain()
+    }
+}
+
+pub fn key<'a>(name: &str, check: &'a Check) -> Box<dyn Row + 'a> {
+    let Check { seeds, point, .. } = check;
+    let ways = vec![
+        way(Who::Ours, |made| {
+            *made = Made::Ours(ours::key(seeds, *point))
+        }),
+        way(Who::Second, |made| {
+            *made = Made::Second(dcf::Key::new(seeds, *point))
+        }),
+    ];
+    row(name, Made::Nothing, ways)
+}
+
+pub fn value<'a>(name: &str, check: &'a Check) -> Box<dyn Row + 'a> {
+    let Check { half, key, z, .. } = check;
+    let ways = vec![
+        way(Who::Ours, |out| {
+            *out = ours::value(key, &half.seed, PARTY as u32, *z)
+        }),
+        way(Who::Second, |out| {
+            *out = half.key.value(PARTY, &half.seed, *z)
+        }),
+    ];
+    row(name, 0, ways)
+}
+
+pub fn answer<'a>(name: &str, check: &'a Check) -> Box<dyn Row + 'a> {
+    let Check { half, key, z, .. } = check;
+    let ways = vec![
+        way(Who::Ours, |out| {
+            *out = ours::answer(key, &half.seed, PARTY as u32, *z)
+        }),
+        way(Who::Second, |out| *out = half.answer(*z)),
+    ];
+    row(name, 0, ways)
+}
+
+pub fn mask<'a>(name: &str, check: &'a Check) -> Box<dyn Row + 'a> {
+    let Check {
+        half,
+        numbers,
+        words,
+        ..
+    } = check;
+    let ways = vec![
+        way(Who::Ours, |out: &mut Vec<u32>| {
+            ours::mask(words, &half.own_mask, out)
+        }),
+        way(Who::Second, |out: &mut Vec<u32>| {
+            half.masked_into(numbers, out)
+        }),
+    ];
+    row(name, vec![0; words.len()], ways)
+}
+
+/// The word with the own term.
+pub fn word<'a>(name: &str, check: &'a Check) -> Box<dyn Row + 'a> {
+    let Check {
+        half,
+        numbers,
+        words,
+        masked: [mx, my],
+        ..
+    } = check;
+    let ours = ours::Word {
+        code: check.measure.code(),
+        party: PARTY as u32,
+        c: half.c,
+        r: half.r,
+        v: words,
+        mx,
+        my,
+        sx: &half.x_share,
+        sy: &half.y_share,
+    };
+    let ways = vec![
+        way(Who::Ours, move |out| *out = ours::word(&ours)),
+        way(Who::Second, |out| *out = half.word(numbers, mx, my)),
+    ];
+    row(name, 0, ways)
+}

@@ -1,0 +1,27 @@
+-- What the C functions of a check do with slices of any lengths: the vector's length counts, and where another slice is shorter nothing is computed.
+-- Assumes nothing.
+use mathlib.Core.Bool.{Bool, cond, _&&_}
+use mathlib.Core.List.{List}
+use Prim.Native.Nat.{ℕ}
+use lib.Dec.{leb}
+use lib.ListN.{length}
+use Rattle.words.specs.List.{over}
+use Rattle.share.specs.Share.{plus, share, word}
+use Rattle.measure.specs.Measure.{ownWord}
+
+-- whether a mask and a place for the answer are as long as a vector
+unfoldable pub maskFits : List ℕ → List ℕ → List ℕ → Bool
+maskFits v m out = leb (length v) (length m) && leb (length v) (length out)
+
+-- call 2: what then stands in that place
+unfoldable pub maskedOver : List ℕ → List ℕ → List ℕ → List ℕ
+maskedOver v m out = cond (maskFits v m out) (over 0 (plus (length v) v m) out) out
+
+-- whether both masked vectors and both shares are as long as a vector
+unfoldable pub wordFits : List ℕ → List ℕ → List ℕ → List ℕ → List ℕ → Bool
+wordFits v mx my sx sy = leb (length v) (length mx) && (leb (length v) (length my) && (leb (length v) (length sx) && leb (length v) (length sy)))
+
+-- call 3: the word of the party whose vector is v, else 0
+unfoldable pub wordOrZero : ℕ → ℕ → ℕ → ℕ → List ℕ → List ℕ → List ℕ → List ℕ → List ℕ → ℕ
+wordOrZero code party c r v mx my sx sy =
+    cond (wordFits v mx my sx sy) (word code (share party (length v) c mx my sx sy) (ownWord code (length v) v) r) 0

@@ -1,0 +1,122 @@
+// Answers a script of keys, values and whole checks, a line for each line. A second implementation
+// made it, and the output is compared with that implementation's.
+mod run;
+
+use node::Correction;
+use node::Key;
+use script::ROOM;
+
+// One more than the longest script.
+const SIZE: usize = 65537;
+
+// So that a mistake shows as a difference in the output.
+fn bad_line(out: &mut [u8; ROOM], at: usize) -> usize {
+    script::put_text(out, at, b"bad line")
+}
+
+// A key, with the two seeds that it was made from. `ok`: they and the point were read.
+struct Dealt {
+    ok: bool,
+    seed0: [u32; 8],
+    seed1: [u32; 8],
+    key: Key,
+}
+
+// Makes the key of the seeds and the point at three of a line's fields.
+fn deal(line: &[u8], at0: usize, at1: usize, point_at: usize) -> Dealt {
+    let mut b0 = [0u8; 32];
+    let mut b1 = [0u8; 32];
+    let mut w = [0u32; 1];
+    let ok = script::fill(script::field(line, at0), &mut b0)
+        & script::fill(script::field(line, at1), &mut b1)
+        & script::read_words(line, b' ', &[point_at], &mut w);
+    let seed0 = chacha20::key_words(&b0);
+    let seed1 = chacha20::key_words(&b1);
+    let key = keys::make(seed0, seed1, w[0]);
+    Dealt {
+        ok,
+        seed0,
+        seed1,
+        key,
+    }
+}
+
+fn put_correction(out: &mut [u8; ROOM], at: usize, c: Correction) -> usize {
+    let seed = c.seed;
+    let next = script::put_words(out, at, &seed);
+    let next = script::put_words(out, next, &[c.word]);
+    script::put_hex(out, next, &[(c.flags % 256) as u8])
+}
+
+// As a sealed half stores it: seed, word and flags of each level, then the final word.
+fn put_key(out: &mut [u8; ROOM], at: usize, key: Key) -> usize {
+    let corrections = key.corrections;
+    let mut next = at;
+    let mut i: usize = 0;
+    while i < 32 {
+        next = put_correction(out, next, corrections[i]);
+        i += 1;
+    }
+    script::put_words(out, next, &[key.last])
+}
+
+// key SEED0 SEED1 POINT
+fn make_key(line: &[u8], out: &mut [u8; ROOM], at: usize) -> usize {
+    let d = deal(line, 1, 2, 3);
+    if !d.ok {
+        return bad_line(out, at);
+    }
+    let key = d.key;
+    put_key(out, at, key)
+}
+
+// value PARTY SEED0 SEED1 POINT U
+fn value(line: &[u8], out: &mut [u8; ROOM], at: usize) -> usize {
+    let mut w = [0u32; 2];
+    let d = deal(line, 2, 3, 4);
+    let ok = script::read_words(line, b' ', &[1, 5], &mut w);
+    if !d.ok | !ok | (w[0] > 1) {
+        return bad_line(out, at);
+    }
+    let key = d.key;
+    let seed = if w[0] == 0 { d.seed0 } else { d.seed1 };
+    script::put_numbers(out, at, &[walk::value(key, seed, w[0], w[1])])
+}
+
+fn answer(line: &[u8], out: &mut [u8; ROOM], at: usize) -> usize {
+    if script::is_command(line, b"key", 4) {
+        return make_key(line, out, at);
+    }
+    if script::is_command(line, b"value", 6) {
+        return value(line, out, at);
+    }
+    if script::is_command(line, b"run", 11) {
+        return run::check(line, out, at);
+    }
+    bad_line(out, at)
+}
+
+fn answers(text: &[u8]) {
+    let mut out = [0u8; ROOM];
+    let mut at: usize = 0;
+    let mut from: usize = 0;
+    while from < text.len() {
+        let line = script::next_line(text, from);
+        let start = line.start;
+        let end = line.end;
+        at = answer(&text[start..end], &mut out, at);
+        at = script::put_byte(&mut out, at, b'\n');
+        from = line.next;
+    }
+    script::flush(&out, at);
+}
+
+fn main() {
+    let mut text = [0u8; SIZE];
+    let n = io::read_full(0, &mut text);
+    if n == SIZE {
+        io::write_all(1, b"script too long\n");
+        return;
+    }
+    answers(&text[..n]);
+}

@@ -1,0 +1,169 @@
+// A whole check: what the dealer computes, and both boxes' words and answers. A vector of n words
+// stands at the start of an array.
+ghost use Prim.Native.Nat.{_*_, _<_, _≤_};
+ghost use lib.ListN.{length};
+use crate::Dealt;
+use crate::bad_line;
+use crate::deal;
+use script::ROOM;
+
+const LENGTH: usize = 512;
+
+// The shares of both masks, one after the other: x0, x1, y0, y1.
+const MASKS: usize = 2048;
+
+// How many words stand at the start of w: none if the bytes are too many.
+fn load_all(bytes: &[u8], w: &mut [u32]) -> usize {
+    let n = bytes.len() / 4;
+    if n > w.len() {
+        return 0;
+    }
+    let mut i: usize = 0;
+    while i < n {
+        w[i] = words::load(bytes, 4 * i);
+        i += 1;
+    }
+    n
+}
+
+// The same of a line's field: none if it is refused.
+fn read_vector(line: &[u8], place: usize, w: &mut [u32]) -> usize {
+    let mut bytes = [0u8; 8192];
+    let b = script::read_bytes(script::field(line, place), &mut bytes);
+    let count = b.count;
+    if count % 4 != 0 {
+        return 0;
+    }
+    load_all(&bytes[..count], w)
+}
+
+// The numbers of a line. `ok`: they were read.
+struct Numbers {
+    ok: bool,
+    code: u32,
+    t: u32,
+    c0: u32,
+    r: u32,
+    r0: u32,
+}
+
+fn read_numbers(line: &[u8]) -> Numbers {
+    let mut w = [0u32; 5];
+    let ok = script::read_words(line, b' ', &[1, 2, 6, 7, 8], &mut w);
+    Numbers {
+        ok,
+        code: w[0],
+        t: w[1],
+        c0: w[2],
+        r: w[3],
+        r0: w[4],
+    }
+}
+
+struct Two(u32, u32);
+
+// The sum of the two shares of a vector's mask, and the vector masked: its first and last word.
+fn mask(
+    n: usize,
+    v: &[u32; LENGTH],
+    shares: &[u32],
+    sum: &mut [u32; LENGTH],
+    masked: &mut [u32; LENGTH],
+) -> Two
+    requires { ⌜ (0 < n) × (n ≤ 512) × (2 * n ≤ length (now shares)) ⌝ }
+{
+    share::add_vectors(n, shares, &shares[n..], sum);
+    share::add_vectors(n, v, sum, masked);
+    Two(masked[0], masked[n - 1])
+}
+
+fn own(code: u32, n: usize, v: &[u32]) -> u32
+    requires { ⌜ n ≤ length (now v) ⌝ }
+{
+    measure::own(code, &v[..n])
+}
+
+// Words 0 and 1.
+fn words_of(
+    d: Numbers,
+    n: usize,
+    own: Two,
+    c1: u32,
+    masks: &[u32],
+    mx: &[u32; LENGTH],
+    my: &[u32; LENGTH],
+) -> Two
+    requires { ⌜ (n ≤ 512) × (4 * n ≤ length (now masks)) ⌝ }
+{
+    let y0 = 2 * n;
+    let y1 = 3 * n;
+    let share0 = share::share_of(0, n, d.c0, mx, my, masks, &masks[y0..]);
+    let share1 = share::share_of(1, n, c1, mx, my, &masks[n..], &masks[y1..]);
+    let r1 = share::other_r(d.r, d.t, d.r0);
+    Two(
+        share::word(d.code, share0, own.0, d.r0),
+        share::word(d.code, share1, own.1, r1),
+    )
+}
+
+fn other_c(n: usize, x: &[u32; LENGTH], y: &[u32; LENGTH], c0: u32) -> u32
+    requires { ⌜ n ≤ 512 ⌝ }
+{
+    share::other_c(n, x, y, c0)
+}
+
+// The first and the last word of both masked vectors, and words 0 and 1.
+fn two_words(d: Numbers, n: usize, x: &[u32; LENGTH], y: &[u32; LENGTH], masks: &[u32]) -> [u32; 6]
+    requires { ⌜ (0 < n) × (n ≤ 512) × (4 * n ≤ length (now masks)) ⌝ }
+{
+    let mut x_mask = [0u32; LENGTH];
+    let mut y_mask = [0u32; LENGTH];
+    let mut mx = [0u32; LENGTH];
+    let mut my = [0u32; LENGTH];
+    let y0 = 2 * n;
+    let ex = mask(n, x, masks, &mut x_mask, &mut mx);
+    let ey = mask(n, y, &masks[y0..], &mut y_mask, &mut my);
+    let c1 = other_c(n, &x_mask, &y_mask, d.c0);
+    let own = Two(own(d.code, n, x), own(d.code, n, y));
+    let w = words_of(d, n, own, c1, masks, &mx, &my);
+    [ex.0, ex.1, ey.0, ey.1, w.0, w.1]
+}
+
+// Z, both answers and their sum.
+fn answers(d: Dealt, z: u32) -> [u32; 4] {
+    let key = d.key;
+    let seed0 = d.seed0;
+    let seed1 = d.seed1;
+    let a0 = share::answer(0, key, seed0, z);
+    let a1 = share::answer(1, key, seed1, z);
+    [z, a0, a1, words::add(a0, a1)]
+}
+
+fn put_run(line: &[u8], out: &mut [u8; ROOM], at: usize, w: [u32; 6]) -> usize {
+    let d = deal(line, 9, 10, 7);
+    if !d.ok {
+        return bad_line(out, at);
+    }
+    let next = script::put_numbers(out, at, &w);
+    let next = script::put_byte(out, next, b' ');
+    script::put_numbers(out, next, &answers(d, words::add(w[4], w[5])))
+}
+
+// run CODE T X Y MASKS C0 R R0 SEED0 SEED1
+pub fn check(line: &[u8], out: &mut [u8; ROOM], at: usize) -> usize {
+    let mut x = [0u32; LENGTH];
+    let mut y = [0u32; LENGTH];
+    let mut masks = [0u32; MASKS];
+    let n = read_vector(line, 3, &mut x);
+    let m = read_vector(line, 4, &mut y);
+    let k = read_vector(line, 5, &mut masks);
+    let d = read_numbers(line);
+    if 0 < n {
+        if n <= LENGTH {
+            if d.ok & (m == n) & (k == 4 * n) {
+                return put_run(line, out, at, two_words(d, n, &x, &y, &masks));
+            }
+        }
+    }
+    bad_line(out, at)
+}
