@@ -2,7 +2,7 @@
 // key_words and nonce_words read them from bytes.
 ghost use mathlib.Core.Path.{_≡_};
 ghost use Rattle.words.specs.Bytes.{wordsAt};
-ghost use Rattle.rounds.specs.Rounds.{words, rounds, added};
+ghost use Rattle.rounds.specs.Rounds.{words, rounds};
 ghost use Rattle.chacha20.specs.ChaCha20.{start as startOf, block as blockOf};
 use rounds::State;
 
@@ -16,29 +16,6 @@ fn twenty_rounds(s: State) -> State
         i += 1;
     }
     t
-}
-
-fn add_states(s: State, t: State) -> State
-    ensures { λ r. ⌜ words r ≡ added (words s) (words t) ⌝ }
-{
-    State {
-        x0: words::add(s.x0, t.x0),
-        x1: words::add(s.x1, t.x1),
-        x2: words::add(s.x2, t.x2),
-        x3: words::add(s.x3, t.x3),
-        x4: words::add(s.x4, t.x4),
-        x5: words::add(s.x5, t.x5),
-        x6: words::add(s.x6, t.x6),
-        x7: words::add(s.x7, t.x7),
-        x8: words::add(s.x8, t.x8),
-        x9: words::add(s.x9, t.x9),
-        x10: words::add(s.x10, t.x10),
-        x11: words::add(s.x11, t.x11),
-        x12: words::add(s.x12, t.x12),
-        x13: words::add(s.x13, t.x13),
-        x14: words::add(s.x14, t.x14),
-        x15: words::add(s.x15, t.x15),
-    }
 }
 
 pub fn start(key: [u32; 8], counter: u32, nonce: [u32; 3]) -> State
@@ -69,7 +46,7 @@ pub fn block(key: [u32; 8], counter: u32, nonce: [u32; 3]) -> State
 {
     let s = start(key, counter, nonce);
     let t = twenty_rounds(s);
-    add_states(t, s)
+    rounds::add_states(t, s)
 }
 
 pub fn key_words(key: &[u8; 32]) -> [u32; 8]

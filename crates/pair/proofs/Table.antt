@@ -96,6 +96,6 @@ unfolding rounds
 rounds-more at n x y z e f = rw (add-one n) (f ∙ ap doubleRound e)
 
 -- what the sums give
-pub block-of : (at : ℕ) (y z r s : List ℕ) → r ≡ added (half at y) s → half at y ≡ rounds 10 (half at z) → half at z ≡ s → r ≡ blockFrom s
+pub block-of : (at : ℕ) (y z r s u : List ℕ) → r ≡ added u s → u ≡ half at y → half at y ≡ rounds 10 (half at z) → half at z ≡ s → r ≡ blockFrom s
 unfolding blockFrom
-block-of at y z r s e f g = e ∙ ap (λ (u : List ℕ). added u s) (f ∙ ap (rounds 10) g)
+block-of at y z r s u e d f g = e ∙ ap (λ (v : List ℕ). added v s) (d ∙ f ∙ ap (rounds 10) g)

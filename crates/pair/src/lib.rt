@@ -8,7 +8,7 @@
 ghost use mathlib.Core.Path.{_≡_};
 ghost use Prim.Native.Nat.{_+_, _≤_, _<_};
 ghost use lib.ListN.{length, take};
-ghost use Rattle.rounds.specs.Rounds.{words, store, quarterAt, doubleRound, rounds, added, blockFrom};
+ghost use Rattle.rounds.specs.Rounds.{words, store, quarterAt, doubleRound, rounds, blockFrom};
 ghost use Rattle.pair.specs.Pair.{half, put, columns as columnsOf, turned, turnedRows};
 use rounds::Four;
 use rounds::State;
@@ -42,28 +42,27 @@ fn set_state(z: &mut [u32], at: usize, t: State)
     z[at + 24] = t.x15;
 }
 
-// The sum of the state at `at` and t.
-fn sum_at(z: &[u32; 160], at: usize, t: State) -> State
+fn state_at(z: &[u32; 160], at: usize) -> State
     requires { ⌜ at + 28 ≤ 160 ⌝ }
-    ensures { λ r. ⌜ words r ≡ added (half at (now (z .entry))) (words t) ⌝ }
+    ensures { λ r. ⌜ words r ≡ half at (now (z .entry)) ⌝ }
 {
     State {
-        x0: words::add(z[at], t.x0),
-        x1: words::add(z[at + 1], t.x1),
-        x2: words::add(z[at + 2], t.x2),
-        x3: words::add(z[at + 3], t.x3),
-        x4: words::add(z[at + 11], t.x4),
-        x5: words::add(z[at + 8], t.x5),
-        x6: words::add(z[at + 9], t.x6),
-        x7: words::add(z[at + 10], t.x7),
-        x8: words::add(z[at + 18], t.x8),
-        x9: words::add(z[at + 19], t.x9),
-        x10: words::add(z[at + 16], t.x10),
-        x11: words::add(z[at + 17], t.x11),
-        x12: words::add(z[at + 25], t.x12),
-        x13: words::add(z[at + 26], t.x13),
-        x14: words::add(z[at + 27], t.x14),
-        x15: words::add(z[at + 24], t.x15),
+        x0: z[at],
+        x1: z[at + 1],
+        x2: z[at + 2],
+        x3: z[at + 3],
+        x4: z[at + 11],
+        x5: z[at + 8],
+        x6: z[at + 9],
+        x7: z[at + 10],
+        x8: z[at + 18],
+        x9: z[at + 19],
+        x10: z[at + 16],
+        x11: z[at + 17],
+        x12: z[at + 25],
+        x13: z[at + 26],
+        x14: z[at + 27],
+        x15: z[at + 24],
     }
 }
 
@@ -181,7 +180,7 @@ pub fn two_blocks(t: Two) -> Two
     set_state(&mut z, 4, t.b);
     twenty_rounds(&mut z);
     Two {
-        a: sum_at(&z, 0, t.a),
-        b: sum_at(&z, 4, t.b),
+        a: rounds::add_states(state_at(&z, 0), t.a),
+        b: rounds::add_states(state_at(&z, 4), t.b),
     }
 }

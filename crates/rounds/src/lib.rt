@@ -1,7 +1,7 @@
 // The rounds of ChaCha20, RFC 8439, 2.1 to 2.3, on a state of 16 words: the quarter round, and a
 // round of four on the columns or on the diagonals.
 ghost use mathlib.Core.Path.{_≡_};
-ghost use Rattle.rounds.specs.Rounds.{words, quarter, columnRound, diagonalRound};
+ghost use Rattle.rounds.specs.Rounds.{words, quarter, columnRound, diagonalRound, added};
 
 pub struct Four {
     pub a: u32,
@@ -102,5 +102,29 @@ pub fn diagonal_round(s: State) -> State
         x13: q2.d,
         x14: q3.d,
         x15: q0.d,
+    }
+}
+
+// Two states, added word by word.
+pub fn add_states(s: State, t: State) -> State
+    ensures { λ r. ⌜ words r ≡ added (words s) (words t) ⌝ }
+{
+    State {
+        x0: words::add(s.x0, t.x0),
+        x1: words::add(s.x1, t.x1),
+        x2: words::add(s.x2, t.x2),
+        x3: words::add(s.x3, t.x3),
+        x4: words::add(s.x4, t.x4),
+        x5: words::add(s.x5, t.x5),
+        x6: words::add(s.x6, t.x6),
+        x7: words::add(s.x7, t.x7),
+        x8: words::add(s.x8, t.x8),
+        x9: words::add(s.x9, t.x9),
+        x10: words::add(s.x10, t.x10),
+        x11: words::add(s.x11, t.x11),
+        x12: words::add(s.x12, t.x12),
+        x13: words::add(s.x13, t.x13),
+        x14: words::add(s.x14, t.x14),
+        x15: words::add(s.x15, t.x15),
     }
 }

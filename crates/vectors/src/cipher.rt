@@ -8,60 +8,14 @@ use script::Word;
 // The longest key stream, in words.
 const STREAM: usize = 600;
 
-fn put_numbers(out: &mut [u8; ROOM], at: usize, w: &[u32]) -> usize {
-    let mut next = at;
-    let mut i: usize = 0;
-    while i < w.len() {
-        if 0 < i {
-            next = script::put_byte(out, next, b' ');
-        }
-        next = script::put_number(out, next, limbs::wide(w[i]));
-        i += 1;
-    }
-    next
-}
-
-// Whether the fields after the first are all words, and are then read.
-fn read_words(line: &[u8], w: &mut [u32]) -> bool {
-    let mut i: usize = 0;
-    while i < w.len() {
-        let Word::Value(x) = script::read_word(script::field(line, i + 1)) else {
-            return false;
-        };
-        w[i] = x;
-        i += 1;
-    }
-    true
-}
-
 // quarter A B C D
 pub fn quarter(line: &[u8], out: &mut [u8; ROOM], at: usize) -> usize {
     let mut w = [0u32; 4];
-    if !read_words(line, &mut w) {
+    if !script::read_words(line, b' ', &[1, 2, 3, 4], &mut w) {
         return bad_line(out, at);
     }
     let q = rounds::quarter_round(w[0], w[1], w[2], w[3]);
-    put_numbers(out, at, &[q.a, q.b, q.c, q.d])
-}
-
-fn put_word(out: &mut [u8; ROOM], at: usize, w: u32) -> usize {
-    let mut bytes = [0u8; 4];
-    words::store(&mut bytes, 0, w);
-    script::put_hex(out, at, &bytes)
-}
-
-// As put_hex: - if there are none.
-fn put_words(out: &mut [u8; ROOM], at: usize, w: &[u32]) -> usize {
-    if w.len() == 0 {
-        return script::put_hex(out, at, b"");
-    }
-    let mut next = at;
-    let mut i: usize = 0;
-    while i < w.len() {
-        next = put_word(out, next, w[i]);
-        i += 1;
-    }
-    next
+    script::put_numbers(out, at, &[q.a, q.b, q.c, q.d])
 }
 
 fn put_state(out: &mut [u8; ROOM], at: usize, s: rounds::State) -> usize {
@@ -83,7 +37,7 @@ fn put_state(out: &mut [u8; ROOM], at: usize, s: rounds::State) -> usize {
         s.x14,
         s.x15,
     ];
-    put_words(out, at, &w)
+    script::put_words(out, at, &w)
 }
 
 // block KEY COUNTER NONCE
@@ -118,7 +72,7 @@ fn put_stream(
     }
     let first = &mut w[..n];
     keystream::stream(key, nonce, first);
-    put_words(out, at, first)
+    script::put_words(out, at, first)
 }
 
 // stream KEY NONCE N

@@ -1,8 +1,8 @@
 use mathlib.Core.List.{[], _∷_}
 use Rattle.rounds.specs.Rounds.{added}
 use borrow.Author.Needs.{needs}
-use Rattle.chacha20.proofs.add_states.Statement.{statement}
-use Rattle.chacha20.proofs.add_states.Tie as tie
+use Rattle.rounds.proofs.add_states.Statement.{statement}
+use Rattle.rounds.proofs.add_states.Tie as tie
 
 add-requires : tie.Need-add-requires
 add-requires c κs = search needs
