@@ -4,15 +4,15 @@ use mathlib.Core.Bool.{Bool, true, false, _&&_, Bool·beq}
 use mathlib.Core.List.{List, [], _∷_, map}
 use Prim.Native.Nat.{ℕ, _+_, _*_, _/_, _-_, _^_}
 use lib.Dec.{eqb}
-use lib.IntN.{ℤ, pos, negsuc, negℤ}
-use lib.ListN.{length, getD}
+use lib.IntN.{ℤ, pos, negℤ}
+use lib.ListN.{length}
 use lib.Signed.{leZ}
 use Rattle.algebra.specs.Word.{add, sub}
 use Rattle.algebra.specs.Sum.{sum, sumℤ}
 use Rattle.algebra.specs.Bit.{only, less}
 use Rattle.algebra.specs.Word as W
 use Rattle.words.specs.List.{tab, same}
-use Rattle.measure.specs.Measure.{Row, row, scalarProduct, squaredEuclid, hamming, element, own, measure, reached, word}
+use Rattle.measure.specs.Measure.{row, scalarProduct, squaredEuclid, hamming, element, own, measure, reached, word}
 use Rattle.share.specs.Share.{plus, idealGate}
 
 -- "1,248 + 12 × L bytes, zero-filled to whole blocks of 484" ("The sealed half")

@@ -1,21 +1,20 @@
 -- Claim comparison: the two values of the keys for a point r at u sum modulo 2^32 to [u < r], for any two seeds, any number of levels, any opening of a node that
 -- may depend on the level, and any xor of seeds that cancels between two children. Assumes nothing else.
-use mathlib.Core.Path.{_≡_, refl, sym, _∙_, ap, ap₂}
+use mathlib.Core.Path.{_≡_, refl, sym, _∙_, ap₂}
 use mathlib.Core.Logic.{_≢_}
 use mathlib.Core.List.{[], _∷_}
 use mathlib.Core.Bool.{Bool, true, false, not, xor, _&&_}
 use Prim.Native.Nat.{ℕ, zero, suc, _+_, _-_, _*_, _/_, _%_, _^_, _<_, _≤_}
 use native.Mathlib.Omega.{arith}
 use native.Mathlib.Nat.{div-eq-of-lt, div-one, sub-zero}
-use native.Mathlib.Decide.{ℕ-discrete}
 use lib.Dec.{ltb}
 use lib.Pow.{shr-shr}
 use borrow.Author.Tests.{ltb-true, ltb-false}
-use Rattle.algebra.specs.Mod.{Mod, m-eq, m-refl, m-sym, m-trans, m-words}
+use Rattle.algebra.specs.Mod.{m-eq}
 use Rattle.algebra.specs.Ring.{ring}
 use Rattle.algebra.specs.Word.{add, sub, neg, _≈_, words, add-lt, same-word}
-use Rattle.algebra.specs.Bit.{only, less, odd, bit-le, less-lt, less-ge, less-le, only-odd}
-use Rattle.dcf.specs.Dcf.{Child, Correction, Making, Walk, Opened, bySign, bits, sideFlag, corrected, nextSeed, nextFlag, correction, kept, taken, levelCorrection, nextMaking, making, keyCorrection, lastWord, finalWord, nextWalk, walk, total, value}
+use Rattle.algebra.specs.Bit.{only, less, bit-le, less-lt, less-ge, less-le, only-odd}
+use Rattle.dcf.specs.Dcf.{Correction, Making, Walk, Opened, bySign, bits, sideFlag, corrected, nextSeed, nextFlag, correction, kept, taken, levelCorrection, nextMaking, making, keyCorrection, lastWord, finalWord, nextWalk, walk, total, value}
 
 -- ---- the number that the first i bits make
 

@@ -2,16 +2,16 @@
 use mathlib.Core.Path.{_≡_, refl, sym, _∙_, ap, ap₂}
 use mathlib.Core.Bool.{Bool, true, false, xor, _&&_}
 use mathlib.Core.List.{List, [], _∷_, zipWith}
-use Prim.Native.Nat.{ℕ, zero, suc, _+_, _-_, _*_, _/_, _%_, _^_, _<_}
+use Prim.Native.Nat.{ℕ, zero, suc, _-_, _/_, _%_, _^_, _<_}
 use native.Mathlib.Nat.{div-one}
 use native.Mathlib.Omega.{arith}
 use lib.Bits.{bitAnd, bitXor, and-mask, and-zero-r, xor-zero-r}
 use lib.Dec.{eqb}
-use lib.ListN.{length, getD, take}
+use lib.ListN.{length, getD}
 use Rattle.algebra.specs.Ring.{ring}
 use Rattle.algebra.specs.Word.{add, sub, neg, _≈_, words, sub-lt, neg-lt, same-word}
 use Rattle.algebra.specs.Bit.{only, odd, only-odd}
-use Rattle.words.specs.Spelt.{firsts, all}
+use Rattle.words.specs.Spelt.{all}
 use Rattle.words.specs.Xor.{xors, odd-xor}
 use Rattle.dcf.specs.Dcf.{Correction, bySign, bits, sideFlag, corrected}
 

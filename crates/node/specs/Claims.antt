@@ -3,14 +3,14 @@
 use mathlib.Core.Path.{_≡_, refl, sym, _∙_, ap, ap₂}
 use mathlib.Core.Bool.{Bool, true, false}
 use mathlib.Core.List.{List, [], _∷_, _++_}
-use Prim.Native.Nat.{ℕ, zero, suc, _+_, _*_, _/_, _%_, _^_, _<_, _≤_}
+use Prim.Native.Nat.{ℕ, zero, suc, _+_, _*_, _/_, _%_, _^_, _<_}
 use native.Mathlib.Omega.{arith}
 use lib.ListN.{length, getD, take, length-append, List·getD-append}
 use lib.Seq.{length-take-le, getD-at}
 use lib.Dec.{eqb, ltb}
 use borrow.Author.Tests.{ltb-true, ltb-false}
 use Rattle.algebra.specs.Word.{add, add-lt}
-use Rattle.algebra.specs.Bit.{only, odd, less, odd-only}
+use Rattle.algebra.specs.Bit.{only, odd, less}
 use Rattle.words.specs.Bytes.{le32, bytesOf, wordAt, getD-bytesOf, take-bytesOf, wordAt-bytesOf}
 use Rattle.words.specs.Xor.{xors, xors-back, xors-other}
 use Rattle.rounds.specs.Rounds.{added, blockFrom, length-blockFrom}

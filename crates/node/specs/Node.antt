@@ -1,6 +1,5 @@
 -- 01, "Node", "Key for a point" and "Value of a key at u", over ChaCha20 blocks and 32 levels: what the contracts of key making and walking cite.
 -- A seed of 32 bytes is its eight words. Assumes nothing.
-use mathlib.Core.Bool.{Bool, true, false}
 use mathlib.Core.List.{List, [], _∷_, _++_}
 use Prim.Native.Nat.{ℕ, zero, suc, _+_, _*_, _/_}
 use lib.ListN.{getD, take}

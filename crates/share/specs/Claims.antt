@@ -1,19 +1,19 @@
 -- Claim opened-sum: whatever the masks, the two boxes' words sum to measure - T + r. Claim join law: whatever the key seeds, their answers sum to 1 if the
 -- threshold is reached, else to 0. Both over free words: where they come from is another layer's matter. Assumes nothing.
-use mathlib.Core.Path.{_≡_, refl, sym, ap, ap₂, _∙_}
-use mathlib.Core.Bool.{Bool, true, false}
+use mathlib.Core.Path.{_≡_, refl, ap, ap₂, _∙_}
+use mathlib.Core.Bool.{true}
 use mathlib.Core.List.{List, [], _∷_}
-use Prim.Native.Nat.{ℕ, zero, suc, _+_, _-_, _*_, _^_, _<_, _≤_}
+use Prim.Native.Nat.{ℕ, zero, suc, _+_, _-_, _^_, _<_, _≤_}
 use native.Mathlib.Omega.{arith}
-use lib.IntN.{ℤ, negℤ, _-ℤ_}
+use lib.IntN.{ℤ, _-ℤ_}
 use lib.ListN.{getD}
-use Rattle.algebra.specs.Mod.{m-eq, m-refl, m-sym, m-trans, m-add}
+use Rattle.algebra.specs.Mod.{m-eq}
 use Rattle.algebra.specs.Integer.{residue}
 use Rattle.algebra.specs.Ring.{ring}
 use Rattle.algebra.specs.Word.{words, add, sub, mul, signed, _≈_, signed≈, add-lt, sub-lt, same-word}
 use Rattle.algebra.specs.Bit.{only, less, odd}
 use Rattle.algebra.specs.Sum.{sum, sum-ext}
-use Rattle.words.specs.List.{tab, getD-tab}
+use Rattle.words.specs.List.{getD-tab}
 use Rattle.dcf.specs.Interval.{interval}
 use Rattle.node.specs.Node.{keyFor, valueAt}
 use Rattle.node.specs.Claims.{shares}

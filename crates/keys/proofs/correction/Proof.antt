@@ -1,64 +1,44 @@
 use Rattle.keys.proofs.Levels.{correction-made}
-use Rattle.lanes.specs.Lanes.{rows}
 use borrow.Author.Needs.{needs}
 use Rattle.keys.proofs.correction.Statement.{statement}
 use Rattle.keys.proofs.correction.Tie as tie
-use Rattle.keys.proofs.correction.Reads as reads
-use Rattle.keys.proofs.correction.Lts as lts
-use Rattle.keys.proofs.child_at.Reads as child-at-reads
-use Rattle.keys.proofs.flag_corrections.Reads as flag-corrections-reads
-use Rattle.keys.proofs.word_correction.Reads as word-correction-reads
-use Rattle.node.proofs.corrected.Reads as corrected-reads
 
--- src/lib.rt:78:17
 sub-lose : tie.Need-sub-lose
 sub-lose c = search needs
 
--- src/lib.rt:78:16
 cast-lose : tie.Need-cast-lose
 cast-lose c = search needs
 
--- src/lib.rt:79:9
 child-at-requires : tie.Need-child-at-requires
 child-at-requires c κs = search needs
 
--- src/lib.rt:80:26
 add-child-at : tie.Need-add-child-at
 add-child-at c = search needs
 
--- src/lib.rt:80:9
 child-at-requires-2 : tie.Need-child-at-requires-2
 child-at-requires-2 c κs = search needs
 
--- src/lib.rt:81:9
 child-at-requires-3 : tie.Need-child-at-requires-3
 child-at-requires-3 c κs = search needs
 
--- src/lib.rt:82:9
 child-at-requires-4 : tie.Need-child-at-requires-4
 child-at-requires-4 c κs = search needs
 
--- src/lib.rt:83:9
 child-at-requires-5 : tie.Need-child-at-requires-5
 child-at-requires-5 c κs = search needs
 
--- src/lib.rt:84:9
 child-at-requires-6 : tie.Need-child-at-requires-6
 child-at-requires-6 c κs = search needs
 
--- src/lib.rt:88:15
 corrected-requires : tie.Need-corrected-requires
 corrected-requires c κs = search needs
 
--- src/lib.rt:89:15
 word-correction-requires : tie.Need-word-correction-requires
 word-correction-requires c κs = search needs
 
--- src/lib.rt:90:16
 flag-corrections-requires : tie.Need-flag-corrections-requires
 flag-corrections-requires c κs = search needs
 
--- src/lib.rt:74:1
 returns : tie.Need-returns
 returns c =
     correction-made _ (c .before .before .before .before .before .before .before .before .before .before .before .args .g) (c .before .before .before .before .before .before .before .before .before .before .before .args .b) (c .before .before .before .before .before .before .before .before .before .before .before .pre)

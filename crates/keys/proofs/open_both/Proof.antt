@@ -2,49 +2,34 @@ use Rattle.keys.proofs.Levels.{opened-both}
 use borrow.Author.Needs.{needs}
 use Rattle.keys.proofs.open_both.Statement.{statement}
 use Rattle.keys.proofs.open_both.Tie as tie
-use Rattle.keys.proofs.open_both.Reads as reads
-use Rattle.keys.proofs.open_both.Lts as lts
-use Rattle.chacha20.proofs.start.Reads as start-reads
-use Rattle.lanes.proofs.set_lane.Reads as set-lane-reads
-use Rattle.pass.proofs.four_blocks.Reads as four-blocks-reads
 
--- src/lib.rt:38:27
 start-requires : tie.Need-start-requires
 start-requires c κs = search needs
 
--- src/lib.rt:38:5
 set-lane-requires : tie.Need-set-lane-requires
 set-lane-requires c κs = search needs
 
--- src/lib.rt:39:27
 start-requires-2 : tie.Need-start-requires-2
 start-requires-2 c κs = search needs
 
--- src/lib.rt:39:5
 set-lane-requires-2 : tie.Need-set-lane-requires-2
 set-lane-requires-2 c κs = search needs
 
--- src/lib.rt:40:27
 start-requires-3 : tie.Need-start-requires-3
 start-requires-3 c κs = search needs
 
--- src/lib.rt:40:5
 set-lane-requires-3 : tie.Need-set-lane-requires-3
 set-lane-requires-3 c κs = search needs
 
--- src/lib.rt:41:27
 start-requires-4 : tie.Need-start-requires-4
 start-requires-4 c κs = search needs
 
--- src/lib.rt:41:5
 set-lane-requires-4 : tie.Need-set-lane-requires-4
 set-lane-requires-4 c κs = search needs
 
--- src/lib.rt:42:5
 four-blocks-requires : tie.Need-four-blocks-requires
 four-blocks-requires c κs = search needs
 
--- src/lib.rt:35:1
 returns : tie.Need-returns
 returns c =
     opened-both _ _ _ _ _ _ (c .before .before .before .before .before .before .before .before .before .before .before .before .before .before .args .s0) (c .before .before .before .before .before .before .before .before .before .before .before .before .before .before .args .s1) _ _ _ _ (c .before .before .before .before .before .before .before .before .before .before .before .before .start .ensures) (c .before .before .before .before .before .before .before .before .before .before .before .set-lane .ensures) (c .before .before .before .before .before .before .before .before .before .start2 .ensures) (c .before .before .before .before .before .before .before .before .set-lane2 .ensures)

@@ -7,107 +7,79 @@ use Rattle.algebra.specs.Bit.{odd}
 use borrow.Author.Needs.{needs}
 use Rattle.node.proofs.corrected.Statement.{statement}
 use Rattle.node.proofs.corrected.Tie as tie
-use Rattle.node.proofs.corrected.Reads as reads
-use Rattle.node.proofs.corrected.Lts as lts
-use Rattle.node.proofs.only.Reads as only-reads
 
--- src/lib.rt:60:9
 array-read-t8 : tie.Need-array-read-t8
 array-read-t8 c = search needs
 
--- src/lib.rt:60:27
 array-read-only : tie.Need-array-read-only
 array-read-only c = search needs
 
--- src/lib.rt:60:16
 only-requires : tie.Need-only-requires
 only-requires c κs = search needs
 
--- src/lib.rt:61:9
 array-read-t16 : tie.Need-array-read-t16
 array-read-t16 c = search needs
 
--- src/lib.rt:61:27
 array-read-only-2 : tie.Need-array-read-only-2
 array-read-only-2 c = search needs
 
--- src/lib.rt:61:16
 only-requires-2 : tie.Need-only-requires-2
 only-requires-2 c κs = search needs
 
--- src/lib.rt:62:9
 array-read-t24 : tie.Need-array-read-t24
 array-read-t24 c = search needs
 
--- src/lib.rt:62:27
 array-read-only-3 : tie.Need-array-read-only-3
 array-read-only-3 c = search needs
 
--- src/lib.rt:62:16
 only-requires-3 : tie.Need-only-requires-3
 only-requires-3 c κs = search needs
 
--- src/lib.rt:63:9
 array-read-t32 : tie.Need-array-read-t32
 array-read-t32 c = search needs
 
--- src/lib.rt:63:27
 array-read-only-4 : tie.Need-array-read-only-4
 array-read-only-4 c = search needs
 
--- src/lib.rt:63:16
 only-requires-4 : tie.Need-only-requires-4
 only-requires-4 c κs = search needs
 
--- src/lib.rt:64:9
 array-read-t40 : tie.Need-array-read-t40
 array-read-t40 c = search needs
 
--- src/lib.rt:64:27
 array-read-only-5 : tie.Need-array-read-only-5
 array-read-only-5 c = search needs
 
--- src/lib.rt:64:16
 only-requires-5 : tie.Need-only-requires-5
 only-requires-5 c κs = search needs
 
--- src/lib.rt:65:9
 array-read-t48 : tie.Need-array-read-t48
 array-read-t48 c = search needs
 
--- src/lib.rt:65:27
 array-read-only-6 : tie.Need-array-read-only-6
 array-read-only-6 c = search needs
 
--- src/lib.rt:65:16
 only-requires-6 : tie.Need-only-requires-6
 only-requires-6 c κs = search needs
 
--- src/lib.rt:66:9
 array-read-t56 : tie.Need-array-read-t56
 array-read-t56 c = search needs
 
--- src/lib.rt:66:27
 array-read-only-7 : tie.Need-array-read-only-7
 array-read-only-7 c = search needs
 
--- src/lib.rt:66:16
 only-requires-7 : tie.Need-only-requires-7
 only-requires-7 c κs = search needs
 
--- src/lib.rt:67:9
 array-read-t64 : tie.Need-array-read-t64
 array-read-t64 c = search needs
 
--- src/lib.rt:67:27
 array-read-only-8 : tie.Need-array-read-only-8
 array-read-only-8 c = search needs
 
--- src/lib.rt:67:16
 only-requires-8 : tie.Need-only-requires-8
 only-requires-8 c κs = search needs
 
--- src/lib.rt:56:1
 returns : tie.Need-returns
 returns c =
     (λ i.

@@ -2,23 +2,15 @@ use Rattle.node.proofs.Laws.{next-flag}
 use borrow.Author.Needs.{needs}
 use Rattle.node.proofs.next_flag.Statement.{statement}
 use Rattle.node.proofs.next_flag.Tie as tie
-use Rattle.node.proofs.next_flag.Reads as reads
-use Rattle.node.proofs.next_flag.Lts as lts
-use Rattle.node.proofs.only.Reads as only-reads
-use Rattle.node.proofs.side_flag.Reads as side-flag-reads
 
--- src/lib.rt:82:22
 side-flag-requires : tie.Need-side-flag-requires
 side-flag-requires c κs = search needs
 
--- src/lib.rt:82:12
 only-requires : tie.Need-only-requires
 only-requires c κs = search needs
 
--- src/lib.rt:79:1
 returns : tie.Need-returns
-returns c =
-    next-flag _ _ _ _ _ (c .before .side-flag .ensures) (c .only .ensures)
+returns c = next-flag _ _ _ _ _ (c .before .side-flag .ensures) (c .only .ensures)
 
 pub next-flag-spec : {M : Type 1} → statement M
 next-flag-spec = tie.close (tie.spec side-flag-requires only-requires returns)

@@ -6,15 +6,10 @@ use Rattle.algebra.specs.Bit.{only-odd}
 use borrow.Author.Needs.{needs}
 use Rattle.node.proofs.only.Statement.{statement}
 use Rattle.node.proofs.only.Tie as tie
-use Rattle.node.proofs.only.Reads as reads
-use Rattle.node.proofs.only.Lts as lts
-use Rattle.words.proofs.sub.Reads as sub-reads
 
--- src/lib.rt:37:9
 sub-requires : tie.Need-sub-requires
 sub-requires c κs = search needs
 
--- src/lib.rt:34:1
 returns : tie.Need-returns
 returns c =
     masked _ (c .before .args .x) _ (c .sub .ensures ∙ ap (sub 0) (and-mask (c .before .args .flag) 1 ∙ sym (only-odd (c .before .args .flag)))) (search needs)

@@ -5,15 +5,10 @@ use native.Mathlib.Omega.{arith}
 use Rattle.node.specs.Node.{unpacked}
 use Rattle.node.proofs.side_flag.Statement.{statement}
 use Rattle.node.proofs.side_flag.Tie as tie
-use Rattle.node.proofs.side_flag.Reads as reads
-use Rattle.node.proofs.side_flag.Lts as lts
 
--- src/lib.rt:75:5
 shr-result : tie.Need-shr-result
-shr-result c =
-    rw (and-mask (c .before .args .d) 1) (omega arith)
+shr-result c = rw (and-mask (c .before .args .d) 1) (omega arith)
 
--- src/lib.rt:72:1
 returns : tie.Need-returns
 unfolding unpacked
 returns c =

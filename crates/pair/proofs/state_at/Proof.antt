@@ -3,202 +3,151 @@ use Rattle.pair.specs.Pair.{half}
 use borrow.Author.Needs.{needs}
 use Rattle.pair.proofs.state_at.Statement.{statement}
 use Rattle.pair.proofs.state_at.Tie as tie
-use Rattle.pair.proofs.state_at.Reads as reads
-use Rattle.pair.proofs.state_at.Lts as lts
 
--- src/lib.rt:50:13
 mul-t3 : tie.Need-mul-t3
 mul-t3 c = search needs
 
--- src/lib.rt:50:13
 element-copy-out-t6 : tie.Need-element-copy-out-t6
 element-copy-out-t6 c = search needs
 
--- src/lib.rt:51:15
 add-t7 : tie.Need-add-t7
 add-t7 c = search needs
 
--- src/lib.rt:51:13
 mul-t8 : tie.Need-mul-t8
 mul-t8 c = search needs
 
--- src/lib.rt:51:13
 element-copy-out-t11 : tie.Need-element-copy-out-t11
 element-copy-out-t11 c = search needs
 
--- src/lib.rt:52:15
 add-t12 : tie.Need-add-t12
 add-t12 c = search needs
 
--- src/lib.rt:52:13
 mul-t13 : tie.Need-mul-t13
 mul-t13 c = search needs
 
--- src/lib.rt:52:13
 element-copy-out-t16 : tie.Need-element-copy-out-t16
 element-copy-out-t16 c = search needs
 
--- src/lib.rt:53:15
 add-t17 : tie.Need-add-t17
 add-t17 c = search needs
 
--- src/lib.rt:53:13
 mul-t18 : tie.Need-mul-t18
 mul-t18 c = search needs
 
--- src/lib.rt:53:13
 element-copy-out-t21 : tie.Need-element-copy-out-t21
 element-copy-out-t21 c = search needs
 
--- src/lib.rt:54:15
 add-t22 : tie.Need-add-t22
 add-t22 c = search needs
 
--- src/lib.rt:54:13
 mul-t23 : tie.Need-mul-t23
 mul-t23 c = search needs
 
--- src/lib.rt:54:13
 element-copy-out-t26 : tie.Need-element-copy-out-t26
 element-copy-out-t26 c = search needs
 
--- src/lib.rt:55:15
 add-t27 : tie.Need-add-t27
 add-t27 c = search needs
 
--- src/lib.rt:55:13
 mul-t28 : tie.Need-mul-t28
 mul-t28 c = search needs
 
--- src/lib.rt:55:13
 element-copy-out-t31 : tie.Need-element-copy-out-t31
 element-copy-out-t31 c = search needs
 
--- src/lib.rt:56:15
 add-t32 : tie.Need-add-t32
 add-t32 c = search needs
 
--- src/lib.rt:56:13
 mul-t33 : tie.Need-mul-t33
 mul-t33 c = search needs
 
--- src/lib.rt:56:13
 element-copy-out-t36 : tie.Need-element-copy-out-t36
 element-copy-out-t36 c = search needs
 
--- src/lib.rt:57:15
 add-t37 : tie.Need-add-t37
 add-t37 c = search needs
 
--- src/lib.rt:57:13
 mul-t38 : tie.Need-mul-t38
 mul-t38 c = search needs
 
--- src/lib.rt:57:13
 element-copy-out-t41 : tie.Need-element-copy-out-t41
 element-copy-out-t41 c = search needs
 
--- src/lib.rt:58:15
 add-t42 : tie.Need-add-t42
 add-t42 c = search needs
 
--- src/lib.rt:58:13
 mul-t43 : tie.Need-mul-t43
 mul-t43 c = search needs
 
--- src/lib.rt:58:13
 element-copy-out-t46 : tie.Need-element-copy-out-t46
 element-copy-out-t46 c = search needs
 
--- src/lib.rt:59:15
 add-t47 : tie.Need-add-t47
 add-t47 c = search needs
 
--- src/lib.rt:59:13
 mul-t48 : tie.Need-mul-t48
 mul-t48 c = search needs
 
--- src/lib.rt:59:13
 element-copy-out-t51 : tie.Need-element-copy-out-t51
 element-copy-out-t51 c = search needs
 
--- src/lib.rt:60:16
 add-t52 : tie.Need-add-t52
 add-t52 c = search needs
 
--- src/lib.rt:60:14
 mul-t53 : tie.Need-mul-t53
 mul-t53 c = search needs
 
--- src/lib.rt:60:14
 element-copy-out-t56 : tie.Need-element-copy-out-t56
 element-copy-out-t56 c = search needs
 
--- src/lib.rt:61:16
 add-t57 : tie.Need-add-t57
 add-t57 c = search needs
 
--- src/lib.rt:61:14
 mul-t58 : tie.Need-mul-t58
 mul-t58 c = search needs
 
--- src/lib.rt:61:14
 element-copy-out-t61 : tie.Need-element-copy-out-t61
 element-copy-out-t61 c = search needs
 
--- src/lib.rt:62:16
 add-t62 : tie.Need-add-t62
 add-t62 c = search needs
 
--- src/lib.rt:62:14
 mul-t63 : tie.Need-mul-t63
 mul-t63 c = search needs
 
--- src/lib.rt:62:14
 element-copy-out-t66 : tie.Need-element-copy-out-t66
 element-copy-out-t66 c = search needs
 
--- src/lib.rt:63:16
 add-t67 : tie.Need-add-t67
 add-t67 c = search needs
 
--- src/lib.rt:63:14
 mul-t68 : tie.Need-mul-t68
 mul-t68 c = search needs
 
--- src/lib.rt:63:14
 element-copy-out-t71 : tie.Need-element-copy-out-t71
 element-copy-out-t71 c = search needs
 
--- src/lib.rt:64:16
 add-t72 : tie.Need-add-t72
 add-t72 c = search needs
 
--- src/lib.rt:64:14
 mul-t73 : tie.Need-mul-t73
 mul-t73 c = search needs
 
--- src/lib.rt:64:14
 element-copy-out-t76 : tie.Need-element-copy-out-t76
 element-copy-out-t76 c = search needs
 
--- src/lib.rt:65:16
 add-t77 : tie.Need-add-t77
 add-t77 c = search needs
 
--- src/lib.rt:65:14
 mul-t78 : tie.Need-mul-t78
 mul-t78 c = search needs
 
--- src/lib.rt:65:14
 element-copy-out-t81 : tie.Need-element-copy-out-t81
 element-copy-out-t81 c = search needs
 
--- src/lib.rt:45:1
 returns : tie.Need-returns
 unfolding half
-returns c =
-    refl
+returns c = refl
 
 pub state-at-spec : {M : Type 1} → statement M
 state-at-spec =

@@ -1,78 +1,53 @@
 use borrow.Author.Needs.{needs}
-use mathlib.Core.Path.{_≡_, refl, _∙_, ap}
+use mathlib.Core.Path.{_≡_, refl, _∙_}
 use Prim.Native.Nat.{_-_, _≤_}
 use native.Mathlib.Omega.{arith}
-use lib.ListN.{length, getD, set, length-set}
+use lib.ListN.{length, getD, length-set}
 use Rattle.algebra.specs.Word.{add}
 use Rattle.share.proofs.Laws.{add-more}
-use Rattle.words.specs.List.{over, tab, over-tab}
+use Rattle.words.specs.List.{over, tab}
 use Rattle.share.specs.Share.{plus}
 use Rattle.share.proofs.add_vectors.Statement.{statement}
 use Rattle.share.proofs.add_vectors.Tie as tie
-use Rattle.share.proofs.add_vectors.Reads as reads
-use Rattle.share.proofs.add_vectors.Lts as lts
-use Rattle.words.proofs.add.Reads as add-reads
 
 abbrev Inv-loop : tie.InvT-loop
 Inv-loop n a b out₀ i₀ out i =
     (i ≤ n) × (length out ≡ length out₀) × (out ≡ over 0 (tab (λ j. add (getD a j 0) (getD b j 0)) i) out₀)
 
 abbrev μ-loop : tie.MeasureT-loop
-μ-loop n a b out₀ i₀ out i =
-    n - i
+μ-loop n a b out₀ i₀ out i = n - i
 
--- src/lib.rt:18:5
 loop-holds : tie.Need-loop-holds Inv-loop μ-loop
 unfolding over tab
-loop-holds c =
-    (search needs, refl, refl)
+loop-holds c = (search needs, refl, refl)
 
--- src/lib.rt:19:29
 mul-add : tie.Need-mul-add Inv-loop μ-loop
-mul-add c =
-    search needs
+mul-add c = search needs
 
--- src/lib.rt:19:29
 shared-slice-read-add : tie.Need-shared-slice-read-add Inv-loop μ-loop
-shared-slice-read-add c =
-    search needs
+shared-slice-read-add c = search needs
 
--- src/lib.rt:19:35
 mul-add-2 : tie.Need-mul-add-2 Inv-loop μ-loop
-mul-add-2 c =
-    search needs
+mul-add-2 c = search needs
 
--- src/lib.rt:19:35
 shared-slice-read-add-2 : tie.Need-shared-slice-read-add-2 Inv-loop μ-loop
-shared-slice-read-add-2 c =
-    search needs
+shared-slice-read-add-2 c = search needs
 
--- src/lib.rt:19:18
 add-requires : tie.Need-add-requires Inv-loop μ-loop
-add-requires c κs =
-    search needs
+add-requires c κs = search needs
 
--- src/lib.rt:19:9
 mul-out : tie.Need-mul-out Inv-loop μ-loop
-mul-out c =
-    search needs
+mul-out c = search needs
 
--- src/lib.rt:19:9
 slice-write-out : tie.Need-slice-write-out Inv-loop μ-loop
-slice-write-out c =
-    search needs
+slice-write-out c = search needs
 
--- src/lib.rt:20:9
 add-i : tie.Need-add-i Inv-loop μ-loop
-add-i c =
-    search needs
+add-i c = search needs
 
--- src/lib.rt:18:5
 loop-less : tie.Need-loop-less Inv-loop μ-loop
-loop-less c =
-    search needs
+loop-less c = search needs
 
--- src/lib.rt:18:5
 loop-again : tie.Need-loop-again Inv-loop μ-loop
 loop-again c = (
   search needs,
@@ -80,12 +55,9 @@ loop-again c = (
   add-more (c .before .before .before .before .before .before .before .before .args .a .now) (c .before .before .before .before .before .before .before .before .args .b .now) (c .before .before .before .before .before .before .before .before .args .out .now) (c .before .before .before .before .loop .out) (c .before .before .before .before .loop .i) (c .add .result) (c .before .before .before .before .loop .inv .2) (c .add .ensures),
 )
 
--- src/lib.rt:13:1
 same-length : tie.Need-same-length Inv-loop μ-loop
-same-length c =
-    search needs
+same-length c = search needs
 
--- src/lib.rt:13:1
 returns : tie.Need-returns Inv-loop μ-loop
 unfolding plus
 returns c =

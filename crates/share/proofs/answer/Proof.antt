@@ -6,39 +6,25 @@ use Rattle.share.specs.Share.{answer}
 use borrow.Author.Needs.{needs}
 use Rattle.share.proofs.answer.Statement.{statement}
 use Rattle.share.proofs.answer.Tie as tie
-use Rattle.share.proofs.answer.Reads as reads
-use Rattle.share.proofs.answer.Lts as lts
-use Rattle.node.proofs.only.Reads as only-reads
-use Rattle.share.proofs.below_half.Reads as below-half-reads
-use Rattle.walk.proofs.values.Reads as values-reads
-use Rattle.words.proofs.add.Reads as add-reads
-use Rattle.words.proofs.sub.Reads as sub-reads
 
--- src/lib.rt:80:45
 add-requires : tie.Need-add-requires
 add-requires c κs = search needs
 
--- src/lib.rt:80:9
 values-requires : tie.Need-values-requires
 values-requires c κs = search needs
 
--- src/lib.rt:81:9
 sub-requires : tie.Need-sub-requires
 sub-requires c κs = search needs
 
--- src/lib.rt:82:46
 below-half-requires : tie.Need-below-half-requires
 below-half-requires c κs = search needs
 
--- src/lib.rt:82:28
 only-requires : tie.Need-only-requires
 only-requires c κs = search needs
 
--- src/lib.rt:82:5
 add-requires-2 : tie.Need-add-requires-2
 add-requires-2 c κs = search needs
 
--- src/lib.rt:77:1
 returns : tie.Need-returns
 unfolding answer
 returns c =

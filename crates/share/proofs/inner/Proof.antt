@@ -1,79 +1,52 @@
 use borrow.Author.Needs.{needs}
-use mathlib.Core.Path.{_≡_, refl, sym, _∙_, ap₂}
+use mathlib.Core.Path.{_≡_, refl}
 use Prim.Native.Nat.{_-_, _≤_}
 use native.Mathlib.Omega.{arith}
-use lib.ListN.{getD}
 use Rattle.algebra.specs.Word.{add, mul}
 use Rattle.share.proofs.Laws.{inner-more}
-use Rattle.algebra.specs.Sum.{sum, sum-more}
+use Rattle.algebra.specs.Sum.{sum}
 use Rattle.share.specs.Share.{inner}
 use Rattle.share.proofs.inner.Statement.{statement}
 use Rattle.share.proofs.inner.Tie as tie
-use Rattle.share.proofs.inner.Reads as reads
-use Rattle.share.proofs.inner.Lts as lts
-use Rattle.words.proofs.add.Reads as add-reads
-use Rattle.words.proofs.mul.Reads as mul-reads
 
 abbrev Inv-loop : tie.InvT-loop
-Inv-loop n a b total₀ i₀ total i =
-    (i ≤ n) × (total ≡ inner i a b)
+Inv-loop n a b total₀ i₀ total i = (i ≤ n) × (total ≡ inner i a b)
 
 abbrev μ-loop : tie.MeasureT-loop
-μ-loop n a b total₀ i₀ total i =
-    n - i
+μ-loop n a b total₀ i₀ total i = n - i
 
--- src/lib.rt:31:5
 loop-holds : tie.Need-loop-holds Inv-loop μ-loop
 unfolding inner sum
-loop-holds c =
-    (search needs, refl)
+loop-holds c = (search needs, refl)
 
--- src/lib.rt:32:46
 mul-mul : tie.Need-mul-mul Inv-loop μ-loop
-mul-mul c =
-    search needs
+mul-mul c = search needs
 
--- src/lib.rt:32:46
 shared-slice-read-mul : tie.Need-shared-slice-read-mul Inv-loop μ-loop
-shared-slice-read-mul c =
-    search needs
+shared-slice-read-mul c = search needs
 
--- src/lib.rt:32:52
 mul-mul-2 : tie.Need-mul-mul-2 Inv-loop μ-loop
-mul-mul-2 c =
-    search needs
+mul-mul-2 c = search needs
 
--- src/lib.rt:32:52
 shared-slice-read-mul-2 : tie.Need-shared-slice-read-mul-2 Inv-loop μ-loop
-shared-slice-read-mul-2 c =
-    search needs
+shared-slice-read-mul-2 c = search needs
 
--- src/lib.rt:32:35
 mul-requires : tie.Need-mul-requires Inv-loop μ-loop
-mul-requires c κs =
-    search needs
+mul-requires c κs = search needs
 
--- src/lib.rt:32:9
 add-requires : tie.Need-add-requires Inv-loop μ-loop
-add-requires c κs =
-    search needs
+add-requires c κs = search needs
 
--- src/lib.rt:33:9
 add-i : tie.Need-add-i Inv-loop μ-loop
-add-i c =
-    search needs
+add-i c = search needs
 
--- src/lib.rt:31:5
 loop-less : tie.Need-loop-less Inv-loop μ-loop
-loop-less c =
-    search needs
+loop-less c = search needs
 
--- src/lib.rt:31:5
 loop-again : tie.Need-loop-again Inv-loop μ-loop
 loop-again c =
     (search needs, inner-more _ _ (c .before .before .before .before .before .loop .i) _ _ _ (c .before .before .before .before .before .loop .inv .1) (c .before .mul .ensures) (c .add .ensures))
 
--- src/lib.rt:25:1
 returns : tie.Need-returns Inv-loop μ-loop
 returns c =
     let done : c .before .loop .i ≡ c .before .before .before .before .args .n = omega arith in rw done at (c .before .loop .inv .1)

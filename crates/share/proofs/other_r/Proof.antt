@@ -4,23 +4,16 @@ use Rattle.share.specs.Share.{otherR}
 use borrow.Author.Needs.{needs}
 use Rattle.share.proofs.other_r.Statement.{statement}
 use Rattle.share.proofs.other_r.Tie as tie
-use Rattle.share.proofs.other_r.Reads as reads
-use Rattle.share.proofs.other_r.Lts as lts
-use Rattle.words.proofs.sub.Reads as sub-reads
 
--- src/lib.rt:50:16
 sub-requires : tie.Need-sub-requires
 sub-requires c κs = search needs
 
--- src/lib.rt:50:5
 sub-requires-2 : tie.Need-sub-requires-2
 sub-requires-2 c κs = search needs
 
--- src/lib.rt:47:1
 returns : tie.Need-returns
 unfolding otherR
-returns c =
-    c .sub2 .ensures ∙ ap (λ y. sub y (c .before .before .args .r0)) (c .before .sub .ensures)
+returns c = c .sub2 .ensures ∙ ap (λ y. sub y (c .before .before .args .r0)) (c .before .sub .ensures)
 
 pub other-r-spec : {M : Type 1} → statement M
 other-r-spec = tie.close (tie.spec sub-requires sub-requires-2 returns)

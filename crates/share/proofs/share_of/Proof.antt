@@ -2,42 +2,29 @@ use Rattle.share.proofs.Laws.{share-even, share-odd}
 use borrow.Author.Needs.{needs}
 use Rattle.share.proofs.share_of.Statement.{statement}
 use Rattle.share.proofs.share_of.Tie as tie
-use Rattle.share.proofs.share_of.Reads as reads
-use Rattle.share.proofs.share_of.Lts as lts
-use Rattle.share.proofs.inner.Reads as inner-reads
-use Rattle.words.proofs.add.Reads as add-reads
-use Rattle.words.proofs.sub.Reads as sub-reads
 
--- src/lib.rt:59:9
 inner-requires : tie.Need-inner-requires
 inner-requires c κs = search needs
 
--- src/lib.rt:60:9
 inner-requires-2 : tie.Need-inner-requires-2
 inner-requires-2 c κs = search needs
 
--- src/lib.rt:61:24
 sub-requires : tie.Need-sub-requires
 sub-requires c κs = search needs
 
--- src/lib.rt:61:9
 sub-requires-2 : tie.Need-sub-requires-2
 sub-requires-2 c κs = search needs
 
--- src/lib.rt:63:9
 returns : tie.Need-returns
 returns c =
     share-even (c .before .before .before .before .before .before .before .before .before .args .party) (c .before .before .before .before .before .before .before .before .before .args .n) (c .before .before .before .before .before .before .before .before .before .args .c) _ _ _ _ _ _ _ _ (c .before .before .before .before .inner .ensures) (c .before .before .before .inner2 .ensures) (c .before .before .sub .ensures) (c .before .sub2 .ensures) (c .if1 .taken)
 
--- src/lib.rt:65:19
 inner-requires-3 : tie.Need-inner-requires-3
 inner-requires-3 c κs = search needs
 
--- src/lib.rt:65:5
 add-requires : tie.Need-add-requires
 add-requires c κs = search needs
 
--- src/lib.rt:55:1
 returns-2 : tie.Need-returns-2
 returns-2 c =
     share-odd (c .before .before .before .before .before .before .before .before .before .before .before .args .party) (c .before .before .before .before .before .before .before .before .before .before .before .args .n) (c .before .before .before .before .before .before .before .before .before .before .before .args .c) _ _ _ _ _ _ _ _ (c .before .before .before .before .before .before .inner .ensures) (c .before .before .before .before .before .inner2 .ensures) (c .before .before .before .before .sub .ensures) (c .before .before .before .sub2 .ensures) _ _ (c .before .before .if1 .left) (c .before .inner3 .ensures) (c .add .ensures)

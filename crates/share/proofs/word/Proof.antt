@@ -4,29 +4,19 @@ use Rattle.share.specs.Share.{word}
 use borrow.Author.Needs.{needs}
 use Rattle.share.proofs.word.Statement.{statement}
 use Rattle.share.proofs.word.Tie as tie
-use Rattle.share.proofs.word.Reads as reads
-use Rattle.share.proofs.word.Lts as lts
-use Rattle.measure.proofs.k.Reads as k-reads
-use Rattle.words.proofs.add.Reads as add-reads
-use Rattle.words.proofs.mul.Reads as mul-reads
 
--- src/lib.rt:72:38
 k-requires : tie.Need-k-requires
 k-requires c κs = search needs
 
--- src/lib.rt:72:27
 mul-requires : tie.Need-mul-requires
 mul-requires c κs = search needs
 
--- src/lib.rt:72:16
 add-requires : tie.Need-add-requires
 add-requires c κs = search needs
 
--- src/lib.rt:72:5
 add-requires-2 : tie.Need-add-requires-2
 add-requires-2 c κs = search needs
 
--- src/lib.rt:69:1
 returns : tie.Need-returns
 unfolding word
 returns c =

@@ -6,33 +6,22 @@ use Rattle.node.specs.Node.{first, asWalk}
 use borrow.Author.Needs.{needs}
 use Rattle.walk.proofs.finished.Statement.{statement}
 use Rattle.walk.proofs.finished.Tie as tie
-use Rattle.walk.proofs.finished.Reads as reads
-use Rattle.walk.proofs.finished.Lts as lts
-use Rattle.node.proofs.by_sign.Reads as by-sign-reads
-use Rattle.node.proofs.only.Reads as only-reads
-use Rattle.words.proofs.add.Reads as add-reads
 
--- src/lib.rt:17:48
 array-read-add : tie.Need-array-read-add
 array-read-add c = search needs
 
--- src/lib.rt:17:28
 add-requires : tie.Need-add-requires
 add-requires c κs = search needs
 
--- src/lib.rt:17:55
 only-requires : tie.Need-only-requires
 only-requires c κs = search needs
 
--- src/lib.rt:17:9
 add-requires-2 : tie.Need-add-requires-2
 add-requires-2 c κs = search needs
 
--- src/lib.rt:18:5
 by-sign-requires : tie.Need-by-sign-requires
 by-sign-requires c κs = search needs
 
--- src/lib.rt:13:1
 returns : tie.Need-returns
 unfolding total first asWalk
 returns c =

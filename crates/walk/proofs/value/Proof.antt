@@ -5,62 +5,37 @@ use borrow.Author.Needs.{needs}
 use Rattle.node.specs.Node.{asWalk, walkOf}
 use Rattle.walk.proofs.value.Statement.{statement}
 use Rattle.walk.proofs.value.Tie as tie
-use Rattle.walk.proofs.value.Reads as reads
-use Rattle.walk.proofs.value.Lts as lts
-use Rattle.chacha20.proofs.block.Reads as block-reads
-use Rattle.node.proofs.level_bit.Reads as level-bit-reads
-use Rattle.node.proofs.taken.Reads as taken-reads
-use Rattle.walk.proofs.finished.Reads as finished-reads
 
 abbrev Inv-loop : tie.InvT-loop
-Inv-loop key party u corrections w₀ i₀ w i =
-    (i ≤ 32) × (asWalk w ≡ walkOf party key (w₀ .seed) u i)
+Inv-loop key party u corrections w₀ i₀ w i = (i ≤ 32) × (asWalk w ≡ walkOf party key (w₀ .seed) u i)
 
 abbrev μ-loop : tie.MeasureT-loop
-μ-loop key party u corrections w₀ i₀ w i =
-    32 - i
+μ-loop key party u corrections w₀ i₀ w i = 32 - i
 
--- src/lib.rt:32:5
 loop-holds : tie.Need-loop-holds Inv-loop μ-loop
-loop-holds c =
-    (search needs, starts _ _ _ _)
+loop-holds c = (search needs, starts _ _ _ _)
 
--- src/lib.rt:33:17
 mul-c : tie.Need-mul-c Inv-loop μ-loop
-mul-c c =
-    search needs
+mul-c c = search needs
 
--- src/lib.rt:33:17
 array-copy-out-c : tie.Need-array-copy-out-c Inv-loop μ-loop
-array-copy-out-c c =
-    search needs
+array-copy-out-c c = search needs
 
--- src/lib.rt:34:13
 level-bit-requires : tie.Need-level-bit-requires Inv-loop μ-loop
-level-bit-requires c κs =
-    search needs
+level-bit-requires c κs = search needs
 
--- src/lib.rt:36:34
 block-requires : tie.Need-block-requires Inv-loop μ-loop
-block-requires c κs =
-    search needs
+block-requires c κs = search needs
 
--- src/lib.rt:36:9
 taken-requires : tie.Need-taken-requires Inv-loop μ-loop
-taken-requires c κs =
-    search needs
+taken-requires c κs = search needs
 
--- src/lib.rt:37:9
 add-i : tie.Need-add-i Inv-loop μ-loop
-add-i c =
-    search needs
+add-i c = search needs
 
--- src/lib.rt:32:5
 loop-less : tie.Need-loop-less Inv-loop μ-loop
-loop-less c =
-    search needs
+loop-less c = search needs
 
--- src/lib.rt:32:5
 loop-again : tie.Need-loop-again Inv-loop μ-loop
 loop-again c = (
   search needs,
@@ -68,12 +43,9 @@ loop-again c = (
       (c .before .before .before .level-bit .ensures) (c .before .block .ensures) (c .taken .ensures),
 )
 
--- src/lib.rt:39:5
 finished-requires : tie.Need-finished-requires Inv-loop μ-loop
-finished-requires c κs =
-    search needs
+finished-requires c κs = search needs
 
--- src/lib.rt:22:1
 returns : tie.Need-returns Inv-loop μ-loop
 returns c =
     ends (c .before .before .before .before .args .party) (c .before .before .before .before .args .key) (c .before .before .before .before .args .seed) (c .before .before .before .before .args .u) (c .before .before .loop .i) _ (c .before .before .loop .w) (search needs) (search needs) (c .before .before .loop .inv .1) (c .finished .ensures)

@@ -5,61 +5,38 @@ use borrow.Author.Needs.{needs}
 use Rattle.node.specs.Node.{asWalk, walkOf}
 use Rattle.walk.proofs.values.Statement.{statement}
 use Rattle.walk.proofs.values.Tie as tie
-use Rattle.walk.proofs.values.Reads as reads
-use Rattle.walk.proofs.values.Lts as lts
-use Rattle.node.proofs.level_bit.Reads as level-bit-reads
-use Rattle.walk.proofs.both_taken.Reads as both-taken-reads
-use Rattle.walk.proofs.finished.Reads as finished-reads
 
 abbrev Inv-loop : tie.InvT-loop
 Inv-loop key party u v corrections w₀ i₀ w i =
     (i ≤ 32) × (asWalk (w .a) ≡ walkOf party key (w₀ .a .seed) u i) × (asWalk (w .b) ≡ walkOf party key (w₀ .a .seed) v i)
 
 abbrev μ-loop : tie.MeasureT-loop
-μ-loop key party u v corrections w₀ i₀ w i =
-    32 - i
+μ-loop key party u v corrections w₀ i₀ w i = 32 - i
 
--- src/lib.rt:90:5
 loop-holds : tie.Need-loop-holds Inv-loop μ-loop
-loop-holds c =
-    (search needs, starts _ _ _ _, starts _ _ _ _)
+loop-holds c = (search needs, starts _ _ _ _, starts _ _ _ _)
 
--- src/lib.rt:91:17
 mul-c : tie.Need-mul-c Inv-loop μ-loop
-mul-c c =
-    search needs
+mul-c c = search needs
 
--- src/lib.rt:91:17
 array-copy-out-c : tie.Need-array-copy-out-c Inv-loop μ-loop
-array-copy-out-c c =
-    search needs
+array-copy-out-c c = search needs
 
--- src/lib.rt:92:13
 level-bit-requires : tie.Need-level-bit-requires Inv-loop μ-loop
-level-bit-requires c κs =
-    search needs
+level-bit-requires c κs = search needs
 
--- src/lib.rt:93:13
 level-bit-requires-2 : tie.Need-level-bit-requires-2 Inv-loop μ-loop
-level-bit-requires-2 c κs =
-    search needs
+level-bit-requires-2 c κs = search needs
 
--- src/lib.rt:94:9
 both-taken-requires : tie.Need-both-taken-requires Inv-loop μ-loop
-both-taken-requires c κs =
-    search needs
+both-taken-requires c κs = search needs
 
--- src/lib.rt:95:9
 add-i : tie.Need-add-i Inv-loop μ-loop
-add-i c =
-    search needs
+add-i c = search needs
 
--- src/lib.rt:90:5
 loop-less : tie.Need-loop-less Inv-loop μ-loop
-loop-less c =
-    search needs
+loop-less c = search needs
 
--- src/lib.rt:90:5
 loop-again : tie.Need-loop-again Inv-loop μ-loop
 loop-again c = (
   search needs,
@@ -67,17 +44,12 @@ loop-again c = (
   one-more (c .before .before .before .before .before .before .before .args .party) (c .before .before .before .before .before .before .before .args .key) (c .before .before .before .before .before .before .before .args .seed) (c .before .before .before .before .before .before .before .args .v) (c .before .before .before .before .before .loop .i) _ (c .before .before .before .before .before .loop .w .b) (c .both-taken .result .b) _ _ (c .before .before .before .before .before .loop .inv .2) refl (c .before .level-bit2 .ensures) refl (c .both-taken .ensures .1),
 )
 
--- src/lib.rt:100:16
 finished-requires : tie.Need-finished-requires Inv-loop μ-loop
-finished-requires c κs =
-    search needs
+finished-requires c κs = search needs
 
--- src/lib.rt:101:17
 finished-requires-2 : tie.Need-finished-requires-2 Inv-loop μ-loop
-finished-requires-2 c κs =
-    search needs
+finished-requires-2 c κs = search needs
 
--- src/lib.rt:78:1
 returns : tie.Need-returns Inv-loop μ-loop
 returns c = (
   ends (c .before .before .before .before .before .before .before .args .party) (c .before .before .before .before .before .before .before .args .key) (c .before .before .before .before .before .before .before .args .seed) (c .before .before .before .before .before .before .before .args .u) (c .before .before .before .before .before .loop .i) _ (c .before .before .before .before .before .loop .w .a) (search needs) (search needs) (c .before .before .before .before .before .loop .inv .1) (c .before .finished .ensures),
