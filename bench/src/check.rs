@@ -2,10 +2,10 @@
 
 use crate::foreign::ours::{self, ComparisonKey};
 use crate::measure::{row, way, Row, Who};
-use second::chacha20;
 use second::dcf::{self, Seed};
 use second::measure::Measure;
-use second::share::{self, Draws, Half};
+use second::sample::Source;
+use second::share::{self, Half};
 
 /// The party that is timed: it adds one sum of products more.
 const PARTY: usize = 1;
@@ -45,38 +45,6 @@ impl Check {
             numbers,
             masked: run.masked,
             z: run.z,
-        }
-    }
-}
-
-/// Words with no meaning, never the same ones twice.
-struct Source(u8);
-
-impl Source {
-    fn words(&mut self, count: usize) -> Vec<u32> {
-        let mut words = vec![0; count];
-        self.0 += 1;
-        chacha20::stream_words(&[self.0; 32], &[7; 12], &mut words);
-        words
-    }
-
-    fn vector(&mut self, measure: Measure, length: usize) -> Vec<i32> {
-        let (low, high) = measure.elements().into_inner();
-        let count = (high - low + 1) as u32;
-        let words = self.words(length).into_iter();
-        words.map(|word| low + (word % count) as i32).collect()
-    }
-
-    fn draws(&mut self, length: usize) -> Draws {
-        let words = self.words(19);
-        let seed = |at: usize| words[at..at + 8].try_into().unwrap();
-        Draws {
-            x: [self.words(length), self.words(length)],
-            y: [self.words(length), self.words(length)],
-            c0: words[16],
-            r: words[17],
-            r0: words[18],
-            seeds: [seed(0), seed(8)],
         }
     }
 }

@@ -15,5 +15,6 @@ pub mod generated;
 pub mod measure;
 pub mod poly1305;
 pub mod rfc8439;
+pub mod sample;
 pub mod script;
 pub mod share;

@@ -140,40 +140,8 @@ pub fn run(halves: &[Half; 2], x: &[i32], y: &[i32]) -> Run {
 #[cfg(test)]
 mod tests {
     use super::*;
-    use crate::chacha20;
     use crate::measure::MAX_LENGTH;
-
-    /// Words without a pattern, never the same ones twice.
-    struct Source(u32);
-
-    impl Source {
-        fn words(&mut self, count: usize) -> Vec<u32> {
-            let mut words = vec![0; count];
-            self.0 += 1;
-            chacha20::stream_words(&[self.0 as u8; 32], &[9; 12], &mut words);
-            words
-        }
-
-        fn vector(&mut self, measure: Measure, length: usize) -> Vec<i32> {
-            let (low, high) = measure.elements().into_inner();
-            let count = (high - low + 1) as u32;
-            let words = self.words(length).into_iter();
-            words.map(|word| low + (word % count) as i32).collect()
-        }
-
-        fn draws(&mut self, length: usize) -> Draws {
-            let words = self.words(19);
-            let mut share = || self.words(length);
-            Draws {
-                x: [share(), share()],
-                y: [share(), share()],
-                c0: words[0],
-                r: words[1],
-                r0: words[2],
-                seeds: [3, 11].map(|from| words[from..from + 8].try_into().unwrap()),
-            }
-        }
-    }
+    use crate::sample::Source;
 
     fn joined(measure: Measure, threshold: i32, draws: &Draws, x: &[i32], y: &[i32]) -> u32 {
         run(&deal(measure, threshold, draws), x, y).joined
