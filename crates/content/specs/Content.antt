@@ -1,0 +1,158 @@
+-- What a half holds (01, "The sealed half"): the plain content of a set for a party, as a list of fields in order, and the set read back from it.
+-- Bytes are numbers below 256. Assumes nothing.
+use mathlib.Core.Path.{_≡_}
+use mathlib.Core.Bool.{Bool, true, false, cond, _&&_}
+use mathlib.Core.List.{List, [], _∷_, _++_, map}
+use Prim.Native.Nat.{ℕ, zero, suc, _+_, _*_, _-_, _/_, _^_, _<_, _≤_}
+use lib.Dec.{eqb, leb, ltb}
+use lib.ListN.{length, getD, take, drop, replicate}
+use Rattle.words.specs.List.{same}
+use Rattle.words.specs.Bytes.{le32, bytesOf, wordAt, wordsAt}
+use Rattle.lanes.specs.Lanes.{flat}
+use Rattle.poly1305.specs.Poly1305.{bytes, number}
+use Rattle.node.specs.declared.Correction.{Correction}
+use Rattle.node.specs.declared.Key.{Key}
+use Rattle.measure.specs.Measure.{isCode}
+use Rattle.content.specs.declared.Set.{Set}
+
+-- n elements of a list, from `at` on
+unfoldable pub part : ℕ → ℕ → List ℕ → List ℕ
+part at n l = take n (drop at l)
+
+-- an array of 512 words, "zero-filled past L"
+unfoldable pub fill : List ℕ → List ℕ
+fill l = l ++ replicate (512 - length l) 0
+
+-- ---- the layout
+
+-- a correction: "seed, word, flag byte: bit 0 left, bit 1 right", 37 bytes
+unfoldable pub correctionBytes : Correction → List ℕ
+correctionBytes c = bytesOf (c .seed) ++ (le32 (c .word) ++ (c .flags ∷ []))
+
+-- "name (16 bytes, zero after its end), party, measure code, L (2 bytes, little-endian), own mask (L words), the party's share of X's mask, then of Y's (L words each),
+-- its c and r words, key seed, 32 corrections of 37 bytes (..), final word": the fields, and how many bytes each has
+unfoldable pub fields : List ℕ → ℕ → Set → List (List ℕ)
+fields name party s =
+    name ∷ (party ∷ []) ∷ (s .code ∷ []) ∷ bytes 2 (s .n) ∷ bytesOf (take (s .n) (s .mask)) ∷ bytesOf (take (s .n) (s .x)) ∷ bytesOf (take (s .n) (s .y)) ∷ le32 (s .c)
+    ∷ le32 (s .r) ∷ bytesOf (s .seed) ∷ flat (map correctionBytes (s .key .corrections)) ∷ le32 (s .key .last) ∷ []
+
+unfoldable pub widths : ℕ → List ℕ
+widths n = 16 ∷ 1 ∷ 1 ∷ 2 ∷ 4 * n ∷ 4 * n ∷ 4 * n ∷ 4 ∷ 4 ∷ 32 ∷ 32 * 37 ∷ 4 ∷ []
+
+-- "That is 1,248 + 12 × L bytes, zero-filled to whole blocks of 484"
+unfoldable pub size : ℕ → ℕ
+size n = 1248 + 12 * n
+
+unfoldable pub blocks : ℕ → ℕ
+blocks n = (size n + 483) / 484
+
+unfoldable pub plain : List ℕ → ℕ → Set → List ℕ
+plain name party s = flat (fields name party s) ++ replicate (484 * blocks (s .n) - size (s .n)) 0
+
+-- ---- read back
+
+-- pieces of these widths, one after the other
+unfoldable pub cut : List ℕ → List ℕ → List (List ℕ)
+cut [] b = []
+cut (w ∷ ws) b = take w b ∷ cut ws (drop w b)
+
+-- L stands in bytes 18 and 19
+unfoldable pub lengthIn : List ℕ → ℕ
+lengthIn b = number (part 18 2 b)
+
+-- field i of plain content, in the order of `fields`
+unfoldable pub field : List ℕ → ℕ → List ℕ
+field b i = getD (cut (widths (lengthIn b)) b) i []
+
+unfoldable pub correctionIn : List ℕ → ℕ → Correction
+correctionIn f i =
+    let c : List ℕ = part (37 * i) 37 f in
+    record { seed = wordsAt 8 c; word = wordAt c 32; flags = getD c 36 0 }
+
+unfoldable pub correctionsIn : List ℕ → ℕ → List Correction
+correctionsIn f zero = []
+correctionsIn f (suc i) = correctionsIn f i ++ (correctionIn f i ∷ [])
+
+-- the set of this number that plain content holds
+unfoldable pub setIn : ℕ → List ℕ → Set
+setIn set b =
+    let n : ℕ = lengthIn b in
+    record {
+      number = set;
+      code = getD (field b 2) 0 0;
+      n = n;
+      mask = fill (wordsAt n (field b 4));
+      x = fill (wordsAt n (field b 5));
+      y = fill (wordsAt n (field b 6));
+      c = wordAt (field b 7) 0;
+      r = wordAt (field b 8) 0;
+      seed = wordsAt 8 (field b 9);
+      key = record { corrections = correctionsIn (field b 10) 32; last = wordAt (field b 11) 0 };
+    }
+
+-- no set: all that a set brings is zero, "code and L included"
+unfoldable pub noCorrection : Correction
+noCorrection = record { seed = replicate 8 0; word = 0; flags = 0 }
+
+unfoldable pub noSet : Set
+noSet =
+    record {
+      number = 0;
+      code = 0;
+      n = 0;
+      mask = replicate 512 0;
+      x = replicate 512 0;
+      y = replicate 512 0;
+      c = 0;
+      r = 0;
+      seed = replicate 8 0;
+      key = record { corrections = replicate 32 noCorrection; last = 0 };
+    }
+
+-- ---- 01's eleventh refusal: "Opened content has another name or party, a code, L or flag byte out of range, a block count that doesn't fit L, or non-zero fill"
+
+unfoldable pub lengthFits : ℕ → Bool
+lengthFits n = leb 1 n && leb n 512
+
+unfoldable pub flagsFit : List Correction → Bool
+flagsFit [] = true
+flagsFit (c ∷ l) = ltb (c .flags) 4 && flagsFit l
+
+unfoldable pub zeros : List ℕ → Bool
+zeros [] = true
+zeros (x ∷ l) = eqb x 0 && zeros l
+
+-- what a half of `count` blocks was opened to, at a box of this padded name and party
+unfoldable pub contentFits : List ℕ → ℕ → ℕ → List ℕ → Bool
+contentFits name party count b =
+    let s : Set = setIn 0 b in
+    same (field b 0) name && (eqb (getD (field b 1) 0 0) party && (isCode (s .code) && (lengthFits (s .n) && (eqb (blocks (s .n)) count && (flagsFit (s .key .corrections) && zeros (drop (size (s .n)) b))))))
+
+-- ---- a set as a deal makes it: what lies in the ranges of its fields
+
+-- n words
+pub record Words (n : ℕ) (l : List ℕ) : Type 0 where
+  pub long : length l ≡ n
+  pub below : (i : ℕ) → getD l i 0 < 2 ^ 32
+
+-- n words in an array
+unfoldable pub Filled : ℕ → List ℕ → Type 0
+Filled n a = (l : List ℕ) × Words n l × (a ≡ fill l)
+
+unfoldable pub Corrections : List Correction → Type 0
+Corrections l = (i : ℕ) → i < length l → Words 8 (getD l i noCorrection .seed) × (getD l i noCorrection .word < 2 ^ 32) × (getD l i noCorrection .flags < 4)
+
+pub record Proper (s : Set) : Type 0 where
+  pub number-fits : s .number < 2 ^ 64
+  pub code-fits : isCode (s .code) ≡ true
+  pub some : 1 ≤ s .n
+  pub most : s .n ≤ 512
+  pub masked : Filled (s .n) (s .mask)
+  pub x-filled : Filled (s .n) (s .x)
+  pub y-filled : Filled (s .n) (s .y)
+  pub c-fits : s .c < 2 ^ 32
+  pub r-fits : s .r < 2 ^ 32
+  pub seed-fits : Words 8 (s .seed)
+  pub levels : length (s .key .corrections) ≡ 32
+  pub corrections-fit : Corrections (s .key .corrections)
+  pub last-fits : s .key .last < 2 ^ 32

@@ -1,0 +1,64 @@
+-- The dealer (01, "Dealing a set", "The sealed half" and "When a call is turned down"): why a start or a deal is turned down, the next state, and what a deal leaves in its
+-- two lent buffers, for any state and anything handed in. Assumes nothing.
+use mathlib.Core.Bool.{Bool, cond, _&&_, not}
+use mathlib.Core.List.{List}
+use Prim.Native.Nat.{ℕ, _*_}
+use lib.Dec.{eqb, leb, ltb}
+use lib.ListN.{length, replicate}
+use Rattle.words.specs.List.{over, same}
+use Rattle.measure.specs.Measure.{isCode, thresholdFits}
+use Rattle.messages.specs.Messages.{unless, ifTaken, nameFits, padded, isKey}
+use Rattle.content.specs.Content.{blocks, lengthFits}
+use Rattle.dealing.specs.Dealing.{dealtSet}
+use Rattle.half.specs.Half.{half}
+use Rattle.dealer.specs.declared.Dealer.{Dealer}
+use Rattle.dealer.specs.declared.DealerAnswer.{DealerAnswer}
+
+unfoldable pub noDealer : Dealer
+noDealer = record { name = replicate 16 0; key0 = replicate 32 0; key1 = replicate 32 0; last = 0 }
+
+unfoldable pub whyNotDealer : List ℕ → List ℕ → List ℕ → ℕ
+whyNotDealer name key0 key1 = unless (nameFits name) 1 (unless (isKey key0 && isKey key1) 4 (unless (not (same key0 key1)) 9 0))
+
+unfoldable pub startDealer : List ℕ → List ℕ → List ℕ → ℕ → DealerAnswer
+startDealer name key0 key1 floor =
+    let why : ℕ = whyNotDealer name key0 key1 in
+    record { why = why; dealer = ifTaken why (record { name = padded name; key0 = key0; key1 = key1; last = floor }) noDealer }
+
+-- what is handed to a deal, beside its two buffers
+pub record Deal : Type 0 where
+  pub number : ℕ
+  pub seed : List ℕ
+  pub code : ℕ
+  pub n : ℕ
+  pub t : ℕ
+
+-- how many bytes a half has
+unfoldable pub halfSize : ℕ → ℕ
+halfSize n = 512 * blocks n
+
+unfoldable pub whyNotDeal : Dealer → Deal → ℕ → ℕ → ℕ
+whyNotDeal s d room0 room1 =
+    unless (isCode (d .code)) 2
+    (unless (eqb (length (d .seed)) 32 && lengthFits (d .n)) 4
+    (unless (leb (halfSize (d .n)) room0 && leb (halfSize (d .n)) room1) 5
+    (unless (ltb (s .last) (d .number)) 7
+    (unless (thresholdFits (d .code) (d .t)) 8 0))))
+
+unfoldable pub keyOf : Dealer → ℕ → List ℕ
+keyOf s party = cond (eqb party 0) (s .key0) (s .key1)
+
+-- the half that a deal writes for a party
+unfoldable pub halfFor : Dealer → Deal → ℕ → List ℕ
+halfFor s d party = half (keyOf s party) (s .name) party (dealtSet (d .seed) (d .number) (d .code) (d .n) (d .t) party)
+
+unfoldable pub deal : Dealer → Deal → ℕ → ℕ → DealerAnswer
+deal s d room0 room1 =
+    let why : ℕ = whyNotDeal s d room0 room1 in
+    record { why = why; dealer = ifTaken why (record { name = s .name; key0 = s .key0; key1 = s .key1; last = d .number }) s }
+
+-- what it leaves in the two buffers
+unfoldable pub dealOut : Dealer → Deal → List ℕ → List ℕ → ℕ → List ℕ
+dealOut s d out0 out1 party =
+    let out : List ℕ = cond (eqb party 0) out0 out1 in
+    ifTaken (whyNotDeal s d (length out0) (length out1)) (over 0 (halfFor s d party) out) out

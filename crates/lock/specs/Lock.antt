@@ -1,0 +1,35 @@
+-- The lock (01, "One check at a box"): why a start or a join is turned down, the next state, and what it reports, for any state and anything handed in. Assumes nothing.
+use mathlib.Core.Bool.{_&&_}
+use mathlib.Core.List.{List}
+use Prim.Native.Nat.{ℕ}
+use lib.Dec.{eqb, leb, ltb}
+use lib.ListN.{replicate}
+use Rattle.algebra.specs.Word.{add}
+use Rattle.messages.specs.declared.Label.{Label}
+use Rattle.messages.specs.Messages.{unless, ifTaken, nameFits, padded, isName, expected}
+use Rattle.lock.specs.declared.Lock.{Lock}
+use Rattle.lock.specs.declared.LockAnswer.{LockAnswer}
+
+unfoldable pub noLock : Lock
+noLock = record { name = replicate 16 0; last = 0 }
+
+unfoldable pub whyNotLock : List ℕ → ℕ
+whyNotLock name = unless (nameFits name) 1 0
+
+unfoldable pub startLock : List ℕ → ℕ → LockAnswer
+startLock name floor =
+    let why : ℕ = whyNotLock name in
+    record { why = why; lock = ifTaken why (record { name = padded name; last = floor }) noLock; bit = 0 }
+
+-- "The lock takes party 0's answer first and party 1's second, and joins by summing the two"
+unfoldable pub whyNotJoin : Lock → Label → List ℕ → ℕ → Label → List ℕ → ℕ → ℕ
+whyNotJoin s l0 name0 answer0 l1 name1 answer1 =
+    unless (isName name0 && isName name1) 4
+    (unless (expected 2 (s .name) 0 l0 name0 && expected 2 (s .name) 1 l1 name1) 6
+    (unless (ltb (s .last) (l0 .number) && eqb (l1 .number) (l0 .number)) 7
+    (unless (leb (add answer0 answer1) 1) 12 0)))
+
+unfoldable pub join : Lock → Label → List ℕ → ℕ → Label → List ℕ → ℕ → LockAnswer
+join s l0 name0 answer0 l1 name1 answer1 =
+    let why : ℕ = whyNotJoin s l0 name0 answer0 l1 name1 answer1 in
+    record { why = why; lock = ifTaken why (record { name = s .name; last = l0 .number }) s; bit = ifTaken why (add answer0 answer1) 0 }

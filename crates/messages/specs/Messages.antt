@@ -1,0 +1,46 @@
+-- What every call of a door has in common: a chain of refusals, the door's name, and a message's label (01, "One check at a box" and "When a call is turned down").
+-- Assumes nothing.
+use mathlib.Core.Bool.{Bool, true, cond, _&&_}
+use mathlib.Core.List.{List, [], _∷_, _++_}
+use Prim.Native.Nat.{ℕ, _-_}
+use lib.Dec.{eqb, leb}
+use lib.ListN.{length, replicate}
+use Rattle.words.specs.List.{same}
+use Rattle.messages.specs.declared.Label.{Label}
+
+-- ---- refusals: a call's number for why not is 0 where nothing refuses
+
+-- goes on if the test holds, else k is why not
+unfoldable pub unless : Bool → ℕ → ℕ → ℕ
+unless b k rest = cond b rest k
+
+-- what is new where nothing refuses, and what was there where something does
+unfoldable pub ifTaken : {A : Type 0} → ℕ → A → A → A
+ifTaken why new old = cond (eqb why 0) new old
+
+-- ---- names
+
+unfoldable pub printable : List ℕ → Bool
+printable [] = true
+printable (b ∷ s) = leb 32 b && (leb b 126 && printable s)
+
+-- 1: "A name at a start is empty, above 16 bytes, or has a byte outside 32 to 126"
+unfoldable pub nameFits : List ℕ → Bool
+nameFits s = leb 1 (length s) && (leb (length s) 16 && printable s)
+
+-- "the 16-byte name": zero after its end
+unfoldable pub padded : List ℕ → List ℕ
+padded s = s ++ replicate (16 - length s) 0
+
+-- ---- messages
+
+-- 6: "A message's kind is not the one this call takes, its name is not this door's padded name, or its sender is not the expected party"
+unfoldable pub expected : ℕ → List ℕ → ℕ → Label → List ℕ → Bool
+expected kind door sender l name = eqb (l .kind) kind && (same name door && eqb (l .sender) sender)
+
+unfoldable pub isName : List ℕ → Bool
+isName name = eqb (length name) 16
+
+-- 4: "key or seed 32 bytes"
+unfoldable pub isKey : List ℕ → Bool
+isKey key = eqb (length key) 32
