@@ -1,0 +1,144 @@
+-- What the code of sealing and opening blocks comes to. Assumes nothing.
+use mathlib.Core.Path.{_≡_, refl, sym, ap, ap₂, _∙_}
+use mathlib.Core.Bool.{Bool, true, false, cond, _&&_, true≢false}
+use mathlib.Core.List.{List, [], _∷_, _++_, append-assoc, append-nil}
+use Prim.Native.Nat.{ℕ, zero, suc, _+_, _*_, _-_, _/_, _%_, _^_, _<_, _≤_}
+use native.Mathlib.Omega.{arith}
+use native.Mathlib.Numerals.{add-one}
+use borrow.Author.Tests.{le-leb}
+use borrow.Rule.Slice.PartMut.{putMid}
+use lib.Dec.{eqb}
+use lib.ListN.{length, take, drop, replicate, length-append, length-drop, drop-of-length-le}
+use lib.Seq.{length-take-le, take-at, drop-at, drop-append-add, drop-drop}
+use Rattle.words.specs.List.{over, over-eq, over-all, over-next, length-over}
+use Rattle.words.specs.Bytes.{le32, bytesOf, wordAt}
+use Rattle.poly1305.specs.Numbers.{eight, four, number-word, number-words}
+use Rattle.aead.specs.declared.Sealed.{Sealed}
+use Rattle.aead.specs.Aead.{cipher, tagFor, within, sealed, sealedText, opens, openedText as openedTextOf}
+use Rattle.aead.specs.Claims.{length-cipher}
+use Rattle.content.specs.Content.{part}
+use Rattle.half.specs.Half.{header, block, firstBlocks, setNumber, blockFits, firstFit, blockAt, openedText}
+use Rattle.half.specs.Laws.{length-header, length-tag, length-block, length-blocks, length-part}
+
+pub header-law : (a i : ℕ) (out t : List ℕ) → length out ≡ 12 → t ≡ over 0 (bytesOf (a % 2 ^ 32 ∷ a / 2 ^ 32 ∷ i ∷ [])) out → t ≡ header a i
+unfolding bytesOf le32 header
+header-law a i out t size e =
+    e ∙ over-all (bytesOf (a % 2 ^ 32 ∷ a / 2 ^ 32 ∷ i ∷ [])) out (sym size) ∙ ap₂ (λ (x y : List ℕ). x ++ y) (eight a) (four i)
+
+-- ---- a block
+
+-- written over what follows a front
+over-after : (a p s : List ℕ) (n : ℕ) → length a ≡ n → length p ≤ length s → over n p (a ++ s) ≡ a ++ (p ++ drop (length p) s)
+over-after a p s n e h =
+    over-eq p (a ++ s) n (omega (arith, length-append a s))
+    ∙ ap₂ (λ (x y : List ℕ). x ++ p ++ y) (take-at a s n e) (ap (λ (k : ℕ). drop (k + length p) (a ++ s)) (sym e) ∙ drop-append-add a s (length p))
+    ∙ append-assoc a p (drop (length p) s)
+
+module _ (key h text out0 : List ℕ) (lh : length h ≡ 12) (lt : length text ≡ 484) (lo : length out0 ≡ 512) where
+  abbrev rest : List ℕ
+  rest = drop 484 (drop 12 out0)
+
+  -- after the two copies
+  two : (out1 out2 : List ℕ) → out1 ≡ over 0 h out0 → out2 ≡ over 12 text out1 → out2 ≡ h ++ (text ++ rest)
+  two out1 out2 e f =
+      let first : out1 ≡ h ++ drop 12 out0 = e ∙ over-after [] h out0 0 refl (omega arith) ∙ ap (λ (k : ℕ). h ++ drop k out0) lh in
+      f ∙ ap (over 12 text) first ∙ over-after h text (drop 12 out0) 12 lh (omega (arith, length-drop 12 out0)) ∙ ap (λ (k : ℕ). h ++ (text ++ drop k (drop 12 out0))) lt
+
+  module _ (out1 out2 y out : List ℕ) (s : Sealed) (e1 : out1 ≡ over 0 h out0) (e2 : out2 ≡ over 12 text out1) where
+    middle : take 484 (drop 12 out2) ≡ text
+    middle = ap (λ (l : List ℕ). take 484 (drop 12 l)) (two out1 out2 e1 e2) ∙ ap (take 484) (drop-at h (text ++ rest) 12 lh) ∙ take-at text rest 484 lt
+
+    put : length y ≡ 484 → putMid 12 484 out2 y ≡ h ++ (y ++ rest)
+    put ly =
+        ap (λ (l : List ℕ). putMid 12 484 l y) (two out1 out2 e1 e2)
+        ∙ ap₂ (λ (a b : List ℕ). a ++ (y ++ b)) (take-at h (text ++ rest) 12 lh) (ap (drop 484) (drop-at h (text ++ rest) 12 lh) ∙ drop-at text rest 484 lt)
+
+    length-rest : length rest ≡ 16
+    length-rest = omega (arith, length-drop 484 (drop 12 out0), length-drop 12 out0)
+
+    sealed-is : y ≡ sealedText key h (take 484 (drop 12 out2)) → y ≡ cipher key h text
+    unfolding sealedText within
+    sealed-is e = e ∙ ap (sealedText key h) middle ∙ rw (le-leb (length text) ((2 ^ 32 - 1) * 64) (omega arith)) refl
+
+    tag-is : s ≡ sealed key h h (take 484 (drop 12 out2)) → s .tag ≡ tagFor key h h (cipher key h text)
+    unfolding sealed within
+    tag-is e = ap (λ z. z .tag) e ∙ ap (λ (l : List ℕ). sealed key h h l .tag) middle ∙ rw (le-leb (length text) ((2 ^ 32 - 1) * 64) (omega arith)) refl
+
+    pub length-put : y ≡ sealedText key h (take 484 (drop 12 out2)) → length (putMid 12 484 out2 y) ≡ 512
+    length-put e =
+        let ly : length y ≡ 484 = ap length (sealed-is e) ∙ length-cipher key h text ∙ lt in
+        ap length (put ly) ∙ omega (arith, length-append h (y ++ rest), length-append y rest, length-rest)
+
+    pub length-tag-is : s ≡ sealed key h h (take 484 (drop 12 out2)) → length (s .tag) ≡ 16
+    length-tag-is e = ap length (tag-is e) ∙ length-tag key h h (cipher key h text)
+
+    pub write-law : y ≡ sealedText key h (take 484 (drop 12 out2)) → s ≡ sealed key h h (take 484 (drop 12 out2)) → out ≡ over 496 (s .tag) (putMid 12 484 out2 y)
+        → out ≡ h ++ (cipher key h text ++ tagFor key h h (cipher key h text))
+    write-law e g f =
+        let ly : length y ≡ 484 = ap length (sealed-is e) ∙ length-cipher key h text ∙ lt in
+        let lf : length (h ++ y) ≡ 496 = omega (arith, length-append h y) in
+        let end : length rest ≤ length (s .tag) = omega (arith, length-rest, length-tag-is g) in
+        f ∙ ap (over 496 (s .tag)) (put ly ∙ sym (append-assoc h y rest))
+        ∙ over-after (h ++ y) (s .tag) rest 496 lf (omega (arith, length-rest, length-tag-is g))
+        ∙ append-assoc h y (s .tag ++ drop (length (s .tag)) rest)
+        ∙ ap (λ (l : List ℕ). h ++ (y ++ l)) (ap (λ (l : List ℕ). s .tag ++ l) (drop-of-length-le rest end) ∙ append-nil (s .tag))
+        ∙ ap₂ (λ (a b : List ℕ). h ++ (a ++ b)) (sealed-is e) (tag-is g)
+
+  pub is-block : (set i : ℕ) → h ≡ header set i → h ++ (cipher key h text ++ tagFor key h h (cipher key h text)) ≡ block key set i text
+  unfolding block
+  is-block set i e = ap (λ (l : List ℕ). l ++ (cipher key l text ++ tagFor key l l (cipher key l text))) e
+
+-- ---- blocks one after the other
+
+-- a part put back is written over what was there
+pub put-over : (a k : ℕ) (xs ys : List ℕ) → length ys ≡ k → a + k ≤ length xs → putMid a k xs ys ≡ over a ys xs
+put-over a k xs ys e h =
+    ap (λ (l : List ℕ). take a xs ++ (ys ++ l)) (drop-drop k a xs ∙ ap (λ (n : ℕ). drop (a + n) xs) (sym e))
+    ∙ sym (over-eq ys xs a (omega arith) ∙ append-assoc (take a xs) ys (drop (a + length ys) xs))
+
+-- one block more
+pub blocks-more : (key p out0 out b : List ℕ) (set i k m : ℕ) → 484 * (i + 1) ≤ length p → 512 * (i + 1) ≤ length out0 → length out ≡ length out0 → k ≡ 484 → m ≡ 512
+    → out ≡ over 0 (firstBlocks key set p i) out0 → b ≡ block key set i (take k (drop (484 * i) p)) → putMid (512 * i) m out b ≡ over 0 (firstBlocks key set p (i + 1)) out0
+unfolding firstBlocks part
+blocks-more key p out0 out b set i k m lp lo same ek em e eb =
+    let text : List ℕ = part (484 * i) 484 p in
+    let is : b ≡ block key set i text = eb ∙ ap (λ (n : ℕ). block key set i (take n (drop (484 * i) p))) ek in
+    let lb : length b ≡ 512 = ap length is ∙ length-block key set i text (length-part p (484 * i) 484 (omega arith)) in
+    rw (add-one i)
+    (over-next (firstBlocks key set p i) (block key set i text) out0 out (putMid (512 * i) m out b) 0 (512 * i) (length-blocks key set p i (omega arith)) e
+    (put-over (512 * i) m out b (lb ∙ sym em) (omega arith) ∙ ap₂ (λ (n : ℕ) (l : List ℕ). over n l out) (omega arith) is))
+
+-- ---- opening
+
+last-true : (a b c : Bool) → a && (b && c) ≡ true → c ≡ true
+last-true true true c h = h
+last-true true false c h = absurd (true≢false (sym h))
+last-true false b c h = absurd (true≢false (sym h))
+
+pub load-law : (b : List ℕ) (x y : ℕ) → 8 ≤ length b → x ≡ wordAt b 0 → y ≡ wordAt b 4 → x + y * 2 ^ 32 ≡ setNumber b
+unfolding setNumber part
+load-law b x y h e f = (λ i. e i + f i * 2 ^ 32) ∙ sym (number-words b 0 h)
+
+module _ (key b out0 n t o z : List ℕ) (set i x s : ℕ) (r : Bool) (lb : length b ≡ 512) (lo : length out0 ≡ 484) where
+  module _ (en : n ≡ over 0 (take 12 (drop 0 b)) (replicate 12 0)) (et : t ≡ over 0 (take 16 (drop 496 b)) (replicate 16 0)) (eo : o ≡ over 0 (take 484 (drop 12 b)) out0) where
+    nonce-is : n ≡ part 0 12 b
+    unfolding part
+    nonce-is = en ∙ over-all (take 12 b) (replicate 12 0) (length-take-le 12 b (omega arith))
+
+    tag-part : t ≡ part 496 16 b
+    unfolding part
+    tag-part = et ∙ over-all (take 16 (drop 496 b)) (replicate 16 0) (length-take-le 16 (drop 496 b) (omega (arith, length-drop 496 b)))
+
+    text-part : o ≡ part 12 484 b
+    unfolding part
+    text-part = eo ∙ over-all (take 484 (drop 12 b)) out0 (length-take-le 484 (drop 12 b) (omega (arith, length-drop 12 b)) ∙ sym lo)
+
+    pub open-fits : r ≡ opens key n n o t → x ≡ wordAt b 8 → s ≡ setNumber b → eqb x i && (eqb s set && r) ≡ blockFits key set i b
+    unfolding blockFits setNumber part
+    open-fits er ex es = rw (ex, es, er, nonce-is, tag-part, text-part, number-word b 8 (omega arith)) refl
+
+    pub open-text : r ≡ opens key n n o t → z ≡ openedTextOf key n n o t → eqb x i && (eqb s set && r) ≡ true → z ≡ cipher key (part 0 12 b) (part 12 484 b)
+    unfolding openedTextOf
+    open-text er ez ok =
+        let opens-so : opens key n n o t ≡ true = sym er ∙ last-true (eqb x i) (eqb s set) r ok in
+        ez ∙ rw opens-so (ap₂ (cipher key) nonce-is text-part)
