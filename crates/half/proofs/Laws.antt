@@ -142,3 +142,48 @@ module _ (key b out0 n t o z : List ℕ) (set i x s : ℕ) (r : Bool) (lb : leng
     open-text er ez ok =
         let opens-so : opens key n n o t ≡ true = sym er ∙ last-true (eqb x i) (eqb s set) r ok in
         ez ∙ rw opens-so (ap₂ (cipher key) nonce-is text-part)
+
+and-left : (a b : Bool) → a && b ≡ true → a ≡ true
+and-left true b e = refl
+and-left false b e = absurd (true≢false (sym e))
+
+and-right : (a b : Bool) → a && b ≡ true → b ≡ true
+and-right true b e = e
+and-right false b e = absurd (true≢false (sym e))
+
+part-is : (at n : ℕ) (l : List ℕ) → take n (drop at l) ≡ part at n l
+unfolding part
+part-is at n l = refl
+
+length-opened : (key h : List ℕ) (i : ℕ) → 512 * i ≤ length h → length (openedText key h i) ≡ 484 * i
+unfolding openedText blockAt
+length-opened key h zero l = refl
+length-opened key h (suc i) l =
+    let b : List ℕ = part (512 * i) 512 h in
+    let size : length (cipher key (part 0 12 b) (part 12 484 b)) ≡ 484 = length-cipher key (part 0 12 b) (part 12 484 b) ∙ length-part b 12 484 (omega (arith, length-part h (512 * i) 512 (omega arith))) in
+    omega (arith, length-append (openedText key h i) (cipher key (part 0 12 b) (part 12 484 b)), length-opened key h i (omega arith), size)
+
+-- one block more
+module _ (key h out0 out b : List ℕ) (set i k m : ℕ) (fit this : Bool) (es : set ≡ setNumber h) (ek : k ≡ 512) where
+  pub fit-more : fit ≡ firstFit key h i → this ≡ blockFits key set i (take k (drop (512 * i) h)) → fit && this ≡ firstFit key h (i + 1)
+  unfolding firstFit blockAt part
+  fit-more e f = rw (add-one i, e, f, es, ek) refl
+
+  pub opened-more : m ≡ 484 → 512 * (i + 1) ≤ length h → 484 * (i + 1) ≤ length out → length b ≡ 484 → (fit ≡ true → out ≡ over 0 (openedText key h i) out0)
+      → (this ≡ true → b ≡ cipher key (part 0 12 (take k (drop (512 * i) h))) (part 12 484 (take k (drop (512 * i) h)))) → fit && this ≡ true
+      → putMid (484 * i) m out b ≡ over 0 (openedText key h (i + 1)) out0
+  unfolding openedText blockAt
+  opened-more em lh lo lb f g ok =
+      let block : List ℕ = part (512 * i) 512 h in
+      let e = f (and-left fit this ok) in
+      let is : b ≡ cipher key (part 0 12 block) (part 12 484 block) =
+      g (and-right fit this ok) ∙ ap (λ (n : ℕ). cipher key (part 0 12 (take n (drop (512 * i) h))) (part 12 484 (take n (drop (512 * i) h)))) ek ∙ unfolded in
+      rw (add-one i)
+      (over-next (openedText key h i) (cipher key (part 0 12 block) (part 12 484 block)) out0 out (putMid (484 * i) m out b) 0 (484 * i) (length-opened key h i (omega arith)) e
+      (put-over (484 * i) m out b (lb ∙ sym em) (omega arith) ∙ ap₂ (λ (n : ℕ) (l : List ℕ). over n l out) (omega arith) is))
+    where
+      unfolded : cipher key (part 0 12 (take 512 (drop (512 * i) h))) (part 12 484 (take 512 (drop (512 * i) h))) ≡ cipher key (part 0 12 (part (512 * i) 512 h)) (part 12 484 (part (512 * i) 512 h))
+      unfolded = ap (λ (l : List ℕ). cipher key (part 0 12 l) (part 12 484 l)) (part-is (512 * i) 512 h)
+
+pub opened-all : (key h out0 out : List ℕ) (count : ℕ) → 512 * count ≤ length h → length out0 ≡ 484 * count → out ≡ over 0 (openedText key h count) out0 → out ≡ openedText key h count
+opened-all key h out0 out count l lo e = e ∙ over-all (openedText key h count) out0 (length-opened key h count l ∙ sym lo)

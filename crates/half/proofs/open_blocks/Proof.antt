@@ -5,7 +5,7 @@ use native.Mathlib.Omega.{arith}
 use Prim.Native.Nat.{_+_, _*_, _-_, _≤_}
 use mathlib.Core.Bool.{true}
 use mathlib.Core.Path.{_≡_, refl, ap, _∙_}
-use Rattle.half.proofs.Laws.{fit-more, opened-more}
+use Rattle.half.proofs.Laws.{fit-more, opened-more, opened-all}
 use borrow.Author.Needs.{needs}
 use Rattle.half.proofs.open_blocks.Statement.{statement}
 use Rattle.half.proofs.open_blocks.Tie as tie
@@ -72,13 +72,20 @@ loop-less : tie.Need-loop-less Inv-loop μ-loop
 loop-less c = search needs
 
 loop-again : tie.Need-loop-again Inv-loop μ-loop
-loop-again c = ?
+loop-again c = (
+  search needs,
+  search needs,
+  fit-more (c .before .before .before .before .before .before .before .before .before .args .key .now) (c .before .before .before .before .before .before .before .before .before .args .h .now) (c .before .before .before .before .before .before .before .before .before .args .out .now) (c .before .before .before .before .before .before .loop .out) (c .before .before .open-block .last .1 .1 .1 .1 .0) (c .before .before .before .before .before .before .before .before .before .args .number) (c .before .before .before .before .before .before .loop .i) (512 * c .before .before .before .before .before .before .loop .i + 512 - 512 * c .before .before .before .before .before .before .loop .i) (484 * c .before .before .before .before .before .before .loop .i + 484 - 484 * c .before .before .before .before .before .before .loop .i) (c .before .before .before .before .before .before .loop .fit) (c .before .before .open-block .result) (c .before .before .before .before .before .before .before .before .before .pre .3) (omega arith) (c .before .before .before .before .before .before .loop .inv .2) (c .before .before .open-block .ensures .0),
+  opened-more (c .before .before .before .before .before .before .before .before .before .args .key .now) (c .before .before .before .before .before .before .before .before .before .args .h .now) (c .before .before .before .before .before .before .before .before .before .args .out .now) (c .before .before .before .before .before .before .loop .out) (c .before .before .open-block .last .1 .1 .1 .1 .0) (c .before .before .before .before .before .before .before .before .before .args .number) (c .before .before .before .before .before .before .loop .i) (512 * c .before .before .before .before .before .before .loop .i + 512 - 512 * c .before .before .before .before .before .before .loop .i) (484 * c .before .before .before .before .before .before .loop .i + 484 - 484 * c .before .before .before .before .before .before .loop .i) (c .before .before .before .before .before .before .loop .fit) (c .before .before .open-block .result) (c .before .before .before .before .before .before .before .before .before .pre .3) (omega arith) (omega arith) (omega arith) (omega arith) (search needs) (c .before .before .before .before .before .before .loop .inv .3) (c .before .before .open-block .ensures .1),
+)
 
 same-length : tie.Need-same-length Inv-loop μ-loop
 same-length c = search needs
 
 returns : tie.Need-returns Inv-loop μ-loop
-returns c = ?
+returns c =
+    let done : c .before .loop .i ≡ c .before .before .before .before .args .count = omega arith in
+    (rw done at (c .before .loop .inv .2), λ t. opened-all _ _ _ _ _ (c .before .before .before .before .pre .1) (c .before .before .before .before .pre .2) (rw done at (c .before .loop .inv .3 t)))
 
 pub open-blocks-spec : {M : Type 1} → statement M
 open-blocks-spec =
