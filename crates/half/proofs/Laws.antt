@@ -1,8 +1,8 @@
 -- What the code of sealing and opening blocks comes to. Assumes nothing.
 use mathlib.Core.Path.{_≡_, refl, sym, ap, ap₂, _∙_}
-use mathlib.Core.Bool.{Bool, true, false, cond, _&&_, true≢false}
+use mathlib.Core.Bool.{Bool, true, false, _&&_, true≢false}
 use mathlib.Core.List.{List, [], _∷_, _++_, append-assoc, append-nil}
-use Prim.Native.Nat.{ℕ, zero, suc, _+_, _*_, _-_, _/_, _%_, _^_, _<_, _≤_}
+use Prim.Native.Nat.{ℕ, zero, suc, _+_, _*_, _-_, _/_, _%_, _^_, _≤_}
 use native.Mathlib.Omega.{arith}
 use native.Mathlib.Numerals.{add-one}
 use borrow.Author.Tests.{le-leb}
@@ -10,7 +10,7 @@ use borrow.Rule.Slice.PartMut.{putMid}
 use lib.Dec.{eqb}
 use lib.ListN.{length, take, drop, replicate, length-append, length-drop, drop-of-length-le}
 use lib.Seq.{length-take-le, take-at, drop-at, drop-append-add, drop-drop}
-use Rattle.words.specs.List.{over, over-eq, over-all, over-next, length-over}
+use Rattle.words.specs.List.{over, over-eq, over-all, over-next}
 use Rattle.words.specs.Bytes.{le32, bytesOf, wordAt}
 use Rattle.poly1305.specs.Numbers.{eight, four, number-word, number-words}
 use Rattle.aead.specs.declared.Sealed.{Sealed}
@@ -18,7 +18,7 @@ use Rattle.aead.specs.Aead.{cipher, tagFor, within, sealed, sealedText, opens, 
 use Rattle.aead.specs.Claims.{length-cipher}
 use Rattle.content.specs.Content.{part}
 use Rattle.half.specs.Half.{header, block, firstBlocks, setNumber, blockFits, firstFit, blockAt, openedText}
-use Rattle.half.specs.Laws.{length-header, length-tag, length-block, length-blocks, length-part}
+use Rattle.half.specs.Laws.{length-tag, length-block, length-blocks, length-part}
 
 pub header-law : (a i : ℕ) (out t : List ℕ) → length out ≡ 12 → t ≡ over 0 (bytesOf (a % 2 ^ 32 ∷ a / 2 ^ 32 ∷ i ∷ [])) out → t ≡ header a i
 unfolding bytesOf le32 header

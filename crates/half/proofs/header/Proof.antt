@@ -3,9 +3,6 @@ use Rattle.half.proofs.Laws.{header-law}
 use borrow.Author.Needs.{needs}
 use Rattle.half.proofs.header.Statement.{statement}
 use Rattle.half.proofs.header.Tie as tie
-use Rattle.half.proofs.header.Reads as reads
-use Rattle.half.proofs.header.Lts as lts
-use Rattle.words.proofs.store_all.Reads as store-all-reads
 
 cast-t6 : tie.Need-cast-t6
 cast-t6 c = search needs

@@ -2,9 +2,6 @@ use Rattle.half.proofs.Laws.{load-law}
 use borrow.Author.Needs.{needs}
 use Rattle.half.proofs.load_number.Statement.{statement}
 use Rattle.half.proofs.load_number.Tie as tie
-use Rattle.half.proofs.load_number.Reads as reads
-use Rattle.half.proofs.load_number.Lts as lts
-use Rattle.words.proofs.load.Reads as load-reads
 
 load-requires : tie.Need-load-requires
 load-requires c κs = search needs

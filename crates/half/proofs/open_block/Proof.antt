@@ -2,12 +2,6 @@ use Rattle.half.proofs.Laws.{open-fits, open-text}
 use borrow.Author.Needs.{needs}
 use Rattle.half.proofs.open_block.Statement.{statement}
 use Rattle.half.proofs.open_block.Tie as tie
-use Rattle.half.proofs.open_block.Reads as reads
-use Rattle.half.proofs.open_block.Lts as lts
-use Rattle.aead.proofs.open.Reads as open-reads
-use Rattle.half.proofs.load_number.Reads as load-number-reads
-use Rattle.words.proofs.copy.Reads as copy-reads
-use Rattle.words.proofs.load.Reads as load-reads
 
 slice-aggregate-copy : tie.Need-slice-aggregate-copy
 slice-aggregate-copy c = search needs

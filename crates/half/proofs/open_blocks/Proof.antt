@@ -1,17 +1,14 @@
 use Rattle.half.specs.Half.{firstFit, openedText}
-use Rattle.words.specs.List.{over, length-over}
+use Rattle.words.specs.List.{over}
 use lib.ListN.{length}
 use native.Mathlib.Omega.{arith}
 use Prim.Native.Nat.{_+_, _*_, _-_, _≤_}
 use mathlib.Core.Bool.{true}
-use mathlib.Core.Path.{_≡_, refl, ap, _∙_}
+use mathlib.Core.Path.{_≡_, refl}
 use Rattle.half.proofs.Laws.{fit-more, opened-more, opened-all}
 use borrow.Author.Needs.{needs}
 use Rattle.half.proofs.open_blocks.Statement.{statement}
 use Rattle.half.proofs.open_blocks.Tie as tie
-use Rattle.half.proofs.open_blocks.Reads as reads
-use Rattle.half.proofs.open_blocks.Lts as lts
-use Rattle.half.proofs.open_block.Reads as open-block-reads
 
 abbrev Inv-loop : tie.InvT-loop
 Inv-loop key number count h out₀ fit₀ i₀ out fit i = (i ≤ count) × (length out ≡ length out₀) × (fit ≡ firstFit key h i) × (fit ≡ true → out ≡ over 0 (openedText key h i) out₀)

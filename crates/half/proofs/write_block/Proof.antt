@@ -7,11 +7,6 @@ use Rattle.half.proofs.Laws.{length-tag-is, length-put, write-law, is-b
 use borrow.Author.Needs.{needs}
 use Rattle.half.proofs.write_block.Statement.{statement}
 use Rattle.half.proofs.write_block.Tie as tie
-use Rattle.half.proofs.write_block.Reads as reads
-use Rattle.half.proofs.write_block.Lts as lts
-use Rattle.aead.proofs.seal.Reads as seal-reads
-use Rattle.half.proofs.header.Reads as header-reads
-use Rattle.words.proofs.copy.Reads as copy-reads
 
 header-requires : tie.Need-header-requires
 header-requires c κs = search needs

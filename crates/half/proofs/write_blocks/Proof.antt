@@ -8,9 +8,6 @@ use mathlib.Core.Path.{_≡_, refl, ap, _∙_}
 use Rattle.half.proofs.Laws.{blocks-more}
 use Rattle.half.proofs.write_blocks.Statement.{statement}
 use Rattle.half.proofs.write_blocks.Tie as tie
-use Rattle.half.proofs.write_blocks.Reads as reads
-use Rattle.half.proofs.write_blocks.Lts as lts
-use Rattle.half.proofs.write_block.Reads as write-block-reads
 
 abbrev Inv-loop : tie.InvT-loop
 Inv-loop key number count p out₀ i₀ out i = (i ≤ count) × (length out ≡ length out₀) × (out ≡ over 0 (firstBlocks key number p i) out₀)
