@@ -2,13 +2,13 @@
 use mathlib.Core.Path.{_≡_, refl, sym, ap, ap₂, _∙_}
 use mathlib.Core.Bool.{Bool, true, false, _&&_, true≢false}
 use mathlib.Core.List.{List, [], _∷_, _++_, append-assoc, append-nil}
-use Prim.Native.Nat.{ℕ, zero, suc, _+_, _*_, _-_, _/_, _%_, _^_, _≤_}
+use Prim.Native.Nat.{ℕ, zero, suc, _+_, _*_, _-_, _/_, _%_, _^_, _≤_, _<_}
 use native.Mathlib.Omega.{arith}
 use native.Mathlib.Numerals.{add-one}
-use borrow.Author.Tests.{le-leb}
+use borrow.Author.Tests.{le-leb, ltb-true}
 use borrow.Rule.Slice.PartMut.{putMid}
 use lib.Dec.{eqb}
-use lib.ListN.{length, take, drop, replicate, length-append, length-drop, drop-of-length-le}
+use lib.ListN.{length, getD, take-append-drop, take, drop, replicate, length-append, length-drop, drop-of-length-le}
 use lib.Seq.{length-take-le, take-at, drop-at, drop-append-add, drop-drop}
 use Rattle.words.specs.List.{over, over-eq, over-all, over-next}
 use Rattle.words.specs.Bytes.{le32, bytesOf, wordAt}
@@ -16,9 +16,16 @@ use Rattle.poly1305.specs.Numbers.{eight, four, number-word, number-words}
 use Rattle.aead.specs.declared.Sealed.{Sealed}
 use Rattle.aead.specs.Aead.{cipher, tagFor, within, sealed, sealedText, opens, openedText as openedTextOf}
 use Rattle.aead.specs.Claims.{length-cipher}
-use Rattle.content.specs.Content.{part}
-use Rattle.half.specs.Half.{header, block, firstBlocks, setNumber, blockFits, firstFit, blockAt, openedText}
-use Rattle.half.specs.Laws.{length-tag, length-block, length-blocks, length-part}
+use Rattle.lanes.specs.Lanes.{flat}
+use Rattle.measure.specs.Measure.{isCode}
+use Rattle.node.specs.declared.Correction.{Correction}
+use Rattle.node.specs.Node.{none}
+use Rattle.content.specs.declared.Set.{Set}
+use Rattle.content.specs.Content.{part, fields, size, blocks, noCorrection, Corrections, Proper}
+use Rattle.content.specs.Bytes.{FlagBytes}
+use Rattle.content.specs.Laws.{blocks-bounds, take-laid}
+use Rattle.half.specs.Half.{header, block, firstBlocks, half, setNumber, blockFits, firstFit, blockAt, openedText}
+use Rattle.half.specs.Laws.{part-front, length-tag, length-block, length-blocks, length-part}
 
 pub header-law : (a i : ℕ) (out t : List ℕ) → length out ≡ 12 → t ≡ over 0 (bytesOf (a % 2 ^ 32 ∷ a / 2 ^ 32 ∷ i ∷ [])) out → t ≡ header a i
 unfolding bytesOf le32 header
@@ -107,6 +114,44 @@ blocks-more key p out0 out b set i k m lp lo same ek em e eb =
     rw (add-one i)
     (over-next (firstBlocks key set p i) (block key set i text) out0 out (putMid (512 * i) m out b) 0 (512 * i) (length-blocks key set p i (omega arith)) e
     (put-over (512 * i) m out b (lb ∙ sym em) (omega arith) ∙ ap₂ (λ (n : ℕ) (l : List ℕ). over n l out) (omega arith) is))
+
+-- ---- a half
+
+-- blocks of a front that holds them
+firstBlocks-take : (key p : List ℕ) (set m k : ℕ) → m ≤ length p → 484 * k ≤ m → firstBlocks key set p k ≡ firstBlocks key set (take m p) k
+unfolding firstBlocks
+firstBlocks-take key p set m zero h l = refl
+firstBlocks-take key p set m (suc k) h l =
+    let front : part (484 * k) 484 p ≡ part (484 * k) 484 (take m p) =
+    ap (part (484 * k) 484) (sym (take-append-drop m p)) ∙ part-front (take m p) (drop m p) (484 * k) 484 (omega (arith, length-take-le m p h)) in
+    ap₂ (λ (a b : List ℕ). a ++ block key set k b) (firstBlocks-take key p set m k h (omega arith)) front
+
+module _ (key name : List ℕ) (party : ℕ) (s : Set) (named : length name ≡ 16) (p : Proper s) where
+  pub code-byte : s .code < 256
+  unfolding isCode
+  code-byte = omega (arith, ltb-true (s .code) 3 (p .code-fits))
+
+  pub flag-bytes : FlagBytes (s .key .corrections)
+  unfolding FlagBytes Corrections
+  flag-bytes i l = rw (getD-any (s .key .corrections) i none noCorrection l) (omega (arith, p .corrections-fit i l .2))
+    where
+      getD-any : (l : List Correction) (i : ℕ) (d e : Correction) → i < length l → getD l i d ≡ getD l i e
+      getD-any [] i d e h = absurd (omega arith)
+      getD-any (x ∷ l) zero d e h = refl
+      getD-any (x ∷ l) (suc i) d e h = getD-any l i d e (omega arith)
+
+  pub few-blocks : blocks (s .n) ≤ 16
+  few-blocks = blocks-bounds (s .n) (p .some) (p .most) .1
+
+  pub half-law : (laid out0 out : List ℕ) (count : ℕ) → laid ≡ flat (fields name party s) ++ replicate (7744 - size (s .n)) 0 → length laid ≡ 7744 → count ≡ blocks (s .n)
+      → out ≡ over 0 (firstBlocks key (s .number) laid count) out0 → out ≡ over 0 (half key name party s) out0
+  unfolding half
+  half-law laid out0 out count e size ec eo =
+      eo
+      ∙ ap (λ (l : List ℕ). over 0 l out0)
+      (ap (firstBlocks key (s .number) laid) ec
+      ∙ firstBlocks-take key laid (s .number) (484 * blocks (s .n)) (blocks (s .n)) (omega (arith, few-blocks)) (omega arith)
+      ∙ ap (λ (l : List ℕ). firstBlocks key (s .number) l (blocks (s .n))) (ap (take (484 * blocks (s .n))) e ∙ take-laid name party s named p))
 
 -- ---- opening
 

@@ -6,8 +6,9 @@ ghost use lib.ListN.{length};
 ghost use Rattle.words.specs.List.{over};
 ghost use Rattle.poly1305.specs.Poly1305.{number as numberOf};
 ghost use Rattle.aead.specs.Aead.{cipher};
-ghost use Rattle.content.specs.Content.{part};
-ghost use Rattle.half.specs.Half.{header as headerOf, block, firstBlocks, blockFits, firstFit, openedText, setNumber};
+ghost use Rattle.content.specs.Content.{part, blocks, Proper};
+ghost use Rattle.half.specs.Half.{header as headerOf, block, firstBlocks, half, blockFits, firstFit, openedText, setNumber};
+use content::Set;
 
 // A block's first twelve bytes: the set's number and the block's index.
 fn header(number: u64, i: u32) -> [u8; 12]
@@ -53,6 +54,18 @@ fn write_blocks(key: &[u8; 32], number: u64, count: usize, p: &[u8], out: &mut [
         );
         i += 1;
     }
+}
+
+// A party's half of a set, from the start of out.
+pub fn write_half(key: &[u8; 32], name: [u8; 16], party: u32, s: Set, out: &mut [u8])
+    requires { ⌜ (party < 256) × (512 * blocks (s .n) ≤ length (now out)) ⌝ }
+    requires { ⌜ Proper s ⌝ }
+    ensures { λ _. ⌜ now (out .exit) ≡ over 0 (half (now (key .entry)) name party s) (now (out .entry)) ⌝ }
+{
+    let number = s.number;
+    let count = content::blocks_of(s.n);
+    let p = content::lay_out(name, party, s);
+    write_blocks(key, number, count, &p, out);
 }
 
 // The set number in a block's first eight bytes.
