@@ -115,14 +115,13 @@ module _ (number code n t : ℕ) (w mx my k0 k1 : List ℕ) (key : Key)
   unfolding r
   is-key = ek ∙ ap₂ (λ (a b : List ℕ). keyFor a b (getD w (4 * n + 1) 0)) e0 e1
 
-  pub camera-law : (s : Set) → s ≡ setWith 0 number code n w mx (getD w (4 * n) 0) (getD w (4 * n + 2) 0) key → s ≡ setFrom n w number code t 0
-  unfolding setFrom ownMask cOf rOf c0 r0
-  camera-law s e = e ∙ (λ i. setWith 0 number code n w (is-x i) (getD w (4 * n) 0) (getD w (4 * n + 2) 0) (is-key i))
-
-  pub office-law : (s : Set) (c r′ : ℕ) → c ≡ otherC n mx my (getD w (4 * n) 0) → r′ ≡ otherR (getD w (4 * n + 1) 0) t (getD w (4 * n + 2) 0)
-      → s ≡ setWith 1 number code n w my c r′ key → s ≡ setFrom n w number code t 1
+  pub sets-law : (camera office : Set) (c1 r1 : ℕ) → camera ≡ setWith 0 number code n w mx (getD w (4 * n) 0) (getD w (4 * n + 2) 0) key
+      → c1 ≡ otherC n mx my (getD w (4 * n) 0) → r1 ≡ otherR (getD w (4 * n + 1) 0) t (getD w (4 * n + 2) 0) → office ≡ setWith 1 number code n w my c1 r1 key
+      → (camera ≡ setFrom n w number code t 0) × (office ≡ setFrom n w number code t 1)
   unfolding setFrom ownMask cOf rOf c0 r r0
-  office-law s c r′ ec er e =
-      let product : c ≡ otherC n (maskX n w) (maskY n w) (getD w (4 * n) 0) =
-      ec ∙ ap₂ (λ (a b : List ℕ). otherC n a b (getD w (4 * n) 0)) is-x is-y ∙ other-c-fill n (maskX n w) (maskY n w) (getD w (4 * n) 0) in
-      e ∙ (λ i. setWith 1 number code n w (is-y i) (product i) (er i) (is-key i))
+  sets-law camera office c1 r1 e ec er f =
+      let is-c1 : c1 ≡ otherC n (maskX n w) (maskY n w) (getD w (4 * n) 0) =
+      ec ∙ ap₂ (λ (a b : List ℕ). otherC n a b (getD w (4 * n) 0)) is-x is-y ∙ other-c-fill n (maskX n w) (maskY n w) (getD w (4 * n) 0) in (
+        e ∙ (λ i. setWith 0 number code n w (is-x i) (getD w (4 * n) 0) (getD w (4 * n + 2) 0) (is-key i)),
+        f ∙ (λ i. setWith 1 number code n w (is-y i) (is-c1 i) (er i) (is-key i)),
+      )

@@ -1,6 +1,6 @@
 use native.Mathlib.Omega.{arith}
 use borrow.Author.Needs.{needs}
-use Rattle.dealing.proofs.Laws.{camera-law, office-law}
+use Rattle.dealing.proofs.Laws.{sets-law}
 use Rattle.dealing.proofs.sets_from.Statement.{statement}
 use Rattle.dealing.proofs.sets_from.Tie as tie
 
@@ -77,12 +77,17 @@ set-for-requires-2 c κs =
 returns : tie.Need-returns
 returns c =
     let a = c .before .before .before .before .before .before .before .before .before .before .before .before .before .before .before .args in
-    let x-is = c .before .before .before .before .before .before .before .before .before .before .before .before .before .mask .ensures in
-    let y-is = c .before .before .before .before .before .before .before .before .before .before .before .before .mask2 .ensures in
-    let seed0-is = c .before .before .before .before .before .before .before .before .key-seed .ensures in
-    let seed1-is = c .before .before .before .before .before .before .before .key-seed2 .ensures in
-    let key-is = c .before .before .before .before .before .before .make .ensures in
-    (camera-law (a .number) (a .code) (a .n) (a .t) (a .w .now) _ _ _ _ _ x-is y-is seed0-is seed1-is key-is _ (c .before .set-for .ensures), office-law (a .number) (a .code) (a .n) (a .t) (a .w .now) _ _ _ _ _ x-is y-is seed0-is seed1-is key-is _ _ _ (c .before .before .before .other-c .ensures) (c .before .before .other-r .ensures) (c .set-for2 .ensures))
+    sets-law (a .number) (a .code) (a .n) (a .t) (a .w .now) _ _ _ _ _
+    (c .before .before .before .before .before .before .before .before .before .before .before .before .before .mask .ensures)
+    (c .before .before .before .before .before .before .before .before .before .before .before .before .mask2 .ensures)
+    (c .before .before .before .before .before .before .before .before .key-seed .ensures)
+    (c .before .before .before .before .before .before .before .key-seed2 .ensures)
+    (c .before .before .before .before .before .before .make .ensures)
+    _ _ _ _
+    (c .before .set-for .ensures)
+    (c .before .before .before .other-c .ensures)
+    (c .before .before .other-r .ensures)
+    (c .set-for2 .ensures)
 
 pub sets-from-spec : {M : Type 1} → statement M
 sets-from-spec =
