@@ -18,6 +18,7 @@ pub struct Draws {
 }
 
 /// One party's part of a set.
+#[derive(Clone, Debug, PartialEq, Eq)]
 pub struct Half {
     /// 0 or 1.
     pub party: usize,
