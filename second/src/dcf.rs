@@ -58,6 +58,12 @@ pub struct Key {
     pub final_word: u32,
 }
 
+/// A key of zeros.
+pub const NO_KEY: Key = Key {
+    corrections: [NO_CORRECTION; LEVELS],
+    final_word: 0,
+};
+
 /// The seed of 32 bytes.
 pub fn seed(bytes: &[u8; 32]) -> Seed {
     let mut words = [0; 8];
@@ -212,15 +218,13 @@ impl Key {
     /// The key stored in these bytes, if no flag byte is above 3.
     pub fn from_bytes(bytes: &[u8; KEY_BYTES]) -> Option<Key> {
         let (stored, final_word) = bytes.split_at(LEVELS * CORRECTION_BYTES);
-        let mut corrections = [NO_CORRECTION; LEVELS];
-        let levels = corrections.iter_mut();
+        let mut key = NO_KEY;
+        let levels = key.corrections.iter_mut();
         for (correction, bytes) in levels.zip(stored.chunks_exact(CORRECTION_BYTES)) {
             *correction = Correction::from_bytes(bytes.try_into().unwrap())?;
         }
-        Some(Key {
-            corrections,
-            final_word: u32::from_le_bytes(final_word.try_into().unwrap()),
-        })
+        key.final_word = u32::from_le_bytes(final_word.try_into().unwrap());
+        Some(key)
     }
 }
 

@@ -229,7 +229,7 @@ impl Cases {
     /// not above the last one is another matter than a block that does not fit.
     fn flips(&mut self, half: &Half, last: u64, places: Range<usize>) {
         let refusal = |at: usize| {
-            let mask = if at % 2 == 0 { 1 } else { 128 };
+            let mask = if at.is_multiple_of(2) { 1 } else { 128 };
             let number = match at {
                 0..8 => half.number ^ mask << (8 * at),
                 _ => half.number,

@@ -143,7 +143,7 @@ impl Dealt {
         let (last, half) = (set_number(last)?, self.bytes());
         let flipped = |at: usize| {
             let mut bytes = half.clone();
-            bytes[at] ^= if at % 2 == 0 { 1 } else { 128 };
+            bytes[at] ^= if at.is_multiple_of(2) { 1 } else { 128 };
             self.refusal(&bytes, last)
         };
         Ok(each(places(from, to, half.len())?, flipped))

@@ -60,7 +60,7 @@ pub fn seal(key: &[u8; 32], number: u64, content: &[u8]) -> Vec<u8> {
 
 /// What a load of these bytes would open, at a box whose last number this is.
 pub fn examine(half: &[u8], holder: &Holder, last: u64) -> Result<Set, Refusal> {
-    let whole = half.len() % BLOCK_BYTES == 0;
+    let whole = half.len().is_multiple_of(BLOCK_BYTES);
     Refusal::Length.unless(whole && BLOCKS.contains(&(half.len() / BLOCK_BYTES)))?;
     let number = u64::from_le_bytes(half[..8].try_into().expect("eight bytes"));
     Refusal::Number.unless(number > last)?;
