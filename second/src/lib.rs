@@ -1,6 +1,6 @@
-//! ChaCha20-Poly1305 written from RFC 8439, and the two boxes' check written from
-//! the scope document 01, both from nothing else, so that their answers are worth
-//! comparing with those of another implementation.
+//! ChaCha20-Poly1305 written from RFC 8439, and the door with its dealer, boxes and
+//! lock written from the scope document 01, both from nothing else, so that their
+//! answers are worth comparing with those of another implementation.
 
 #![forbid(unsafe_code)]
 
