@@ -8,7 +8,7 @@ use lib.Dec.{eqb, leb, ltb}
 use lib.ListN.{length}
 use Rattle.algebra.specs.Word.{add}
 use Rattle.messages.specs.declared.Label.{Label}
-use Rattle.messages.specs.Messages.{isName, expected, nameFits, padded}
+use Rattle.messages.specs.Messages.{unless, isName, expected, nameFits, padded}
 use Rattle.messages.specs.Laws.{turned-down, goes-on, taken, refused}
 use Rattle.lock.specs.Lock.{noLock, whyNotLock, startLock, whyNotJoin}
 use Rattle.lock.specs.Laws.{alike}
@@ -43,15 +43,16 @@ module _ (s : Lock) (l0 : Label) (n0 : List ℕ) (a0 : ℕ) (l1 : Label) (n1 : L
     unexpected h = goes-on _ _ _ named (turned-down _ _ _ (ap not (sym (ap₂ _&&_ ef eg)) ∙ h))
 
     module _ (both : not (f && g) ≡ false) where
-      pub stale : not (ltb (s .last) (l0 .number) && eqb (l1 .number) (l0 .number)) ≡ true → 7 ≡ whyNotJoin s l0 n0 a0 l1 n1 a1
+      past-6 : {r : ℕ} → r ≡ unless (ltb (s .last) (l0 .number) && eqb (l1 .number) (l0 .number)) 7 (unless (leb (add a0 a1) 1) 12 0) → r ≡ whyNotJoin s l0 n0 a0 l1 n1 a1
       unfolding whyNotJoin isName
-      stale h = goes-on _ _ _ named (goes-on _ _ _ (ap not (sym (ap₂ _&&_ ef eg)) ∙ both) (turned-down _ _ _ h))
+      past-6 h = goes-on _ _ _ named (goes-on _ _ _ (ap not (sym (ap₂ _&&_ ef eg)) ∙ both) h)
+
+      pub stale : not (ltb (s .last) (l0 .number) && eqb (l1 .number) (l0 .number)) ≡ true → 7 ≡ whyNotJoin s l0 n0 a0 l1 n1 a1
+      stale h = past-6 (turned-down _ _ _ h)
 
       module _ (fresh : not (ltb (s .last) (l0 .number) && eqb (l1 .number) (l0 .number)) ≡ false) (t : ℕ) (et : t ≡ add a0 a1) where
         pub no-bit : not (leb t 1) ≡ true → 12 ≡ whyNotJoin s l0 n0 a0 l1 n1 a1
-        unfolding whyNotJoin isName
-        no-bit h = goes-on _ _ _ named (goes-on _ _ _ (ap not (sym (ap₂ _&&_ ef eg)) ∙ both) (goes-on _ _ _ fresh (turned-down _ _ _ (ap (λ (k : ℕ). not (leb k 1)) (sym et) ∙ h))))
+        no-bit h = past-6 (goes-on _ _ _ fresh (turned-down _ _ _ (ap (λ (k : ℕ). not (leb k 1)) (sym et) ∙ h)))
 
         pub nothing-refuses : not (leb t 1) ≡ false → 0 ≡ whyNotJoin s l0 n0 a0 l1 n1 a1
-        unfolding whyNotJoin isName
-        nothing-refuses h = goes-on _ _ _ named (goes-on _ _ _ (ap not (sym (ap₂ _&&_ ef eg)) ∙ both) (goes-on _ _ _ fresh (goes-on _ _ _ (ap (λ (k : ℕ). not (leb k 1)) (sym et) ∙ h) refl)))
+        nothing-refuses h = past-6 (goes-on _ _ _ fresh (goes-on _ _ _ (ap (λ (k : ℕ). not (leb k 1)) (sym et) ∙ h) refl))
