@@ -270,3 +270,57 @@ pub fn read_set(number: u64, b: &[u8]) -> Set
         key,
     }
 }
+
+// ---- whether opened content fits
+
+// Whether every flag byte of the 32 corrections that f holds is in range.
+fn flags_fit(f: &[u8]) -> bool
+    requires { ⌜ length (now f) ≡ 32 * 37 ⌝ }
+    ensures { λ r. ⌜ r ≡ flagsFit (correctionsIn (now (f .entry)) 32) ⌝ }
+{
+    let mut all = true;
+    let mut i: usize = 0;
+    while i < 32 {
+        all = all & (f[37 * i + 36] < 4);
+        i += 1;
+    }
+    all
+}
+
+fn all_zero(b: &[u8]) -> bool
+    ensures { λ r. ⌜ r ≡ zeros (now (b .entry)) ⌝ }
+{
+    let mut all = true;
+    let mut i: usize = 0;
+    while i < b.len() {
+        all = all & (b[i] == 0);
+        i += 1;
+    }
+    all
+}
+
+// Whether a half of `count` blocks was opened to content of this name and party, all of it in
+// range. Only where L is in range and asks for as many blocks is anything past it looked at.
+pub fn content_fits(name: [u8; 16], party: u32, count: usize, b: &[u8]) -> bool
+    requires { ⌜ (length (now b) ≡ 484 * count) × (3 ≤ count) × (count ≤ 16) ⌝ }
+    ensures { λ r. ⌜ r ≡ contentFits name party count (now (b .entry)) ⌝ }
+{
+    let n = length_in(b);
+    if n < 1 {
+        return false;
+    }
+    if 512 < n {
+        return false;
+    }
+    if blocks_of(n) != count {
+        return false;
+    }
+    let key_at = 60 + 12 * n;
+    let last_at = 1244 + 12 * n;
+    let end = 1248 + 12 * n;
+    let named = words::equal(&b[..16], &name);
+    let owned = byte(b, 16) == party;
+    let code = measure::is_code(byte(b, 17));
+    let flags = flags_fit(&b[key_at..last_at]);
+    named & owned & code & flags & all_zero(&b[end..])
+}
