@@ -2,7 +2,7 @@
 use mathlib.Core.Path.{_≡_, refl, sym, ap, ap₂, _∙_}
 use mathlib.Core.Bool.{Bool, true, false, _&&_, and-true, and-false, and-assoc}
 use mathlib.Core.List.{List, [], _∷_, _++_}
-use Prim.Native.Nat.{ℕ, zero, suc, _+_, _*_, _-_, _<_, _≤_}
+use Prim.Native.Nat.{ℕ, _+_, _*_, _-_, _<_, _≤_}
 use native.Mathlib.Numerals.{add-one}
 use native.Mathlib.Omega.{arith}
 use borrow.Author.Tests.{le-leb, lt-leb, eq-eqb, ne-eqb}
@@ -12,7 +12,7 @@ use lib.Seq.{take-suc, take-all}
 use Rattle.words.specs.List.{same}
 use Rattle.node.specs.declared.Correction.{Correction}
 use Rattle.measure.specs.Measure.{isCode}
-use Rattle.content.specs.Content.{part, widths, size, blocks, lengthIn, field, correctionIn, correctionsIn, setIn, lengthFits, flagsFit, zeros, contentFits}
+use Rattle.content.specs.Content.{widths, size, blocks, lengthIn, field, correctionIn, correctionsIn, setIn, lengthFits, flagsFit, zeros, contentFits}
 use Rattle.content.specs.Pieces.{offset, getD-part}
 use Rattle.content.proofs.Read.{between, byte-at}
 

@@ -1,17 +1,17 @@
 -- A set read back, field by field. Assumes nothing.
-use mathlib.Core.Path.{_≡_, refl, sym, ap, ap₂, _∙_, subst}
-use mathlib.Core.List.{List, [], _∷_, _++_, map, append-assoc, append-nil}
+use mathlib.Core.Path.{_≡_, refl, sym, ap, ap₂, _∙_}
+use mathlib.Core.List.{List, [], _∷_, _++_, append-nil}
 use Prim.Native.Nat.{ℕ, zero, suc, _+_, _*_, _-_, _<_, _≤_}
 use native.Mathlib.Numerals.{add-one}
 use native.Mathlib.Omega.{arith}
-use lib.ListN.{length, drop-of-length-le, getD, take, drop, set, replicate, length-append, length-replicate}
+use lib.ListN.{length, drop-of-length-le, getD, take, drop, set, replicate, length-append}
 use lib.Seq.{drop-cons, set-at, append-snoc}
 use Rattle.words.specs.List.{tab, length-tab, tab-more}
 use Rattle.words.specs.Bytes.{wordAt, wordsAt}
 use Rattle.node.specs.declared.Correction.{Correction}
 use Rattle.node.specs.Node.{none}
 use Rattle.content.specs.declared.Set.{Set}
-use Rattle.content.specs.Content.{part, fill, widths, size, lengthIn, field, correctionIn, correctionsIn, setIn}
+use Rattle.content.specs.Content.{part, fill, widths, lengthIn, field, correctionIn, correctionsIn, setIn}
 use Rattle.content.specs.Pieces.{offset, cut-at, drop-replicate, getD-part, wordAt-part, wordsAt-part}
 
 pub vector-law : (f w z : List ℕ) (n : ℕ) → n ≤ 512 → z ≡ replicate 512 0 → w ≡ tab (λ i. wordAt f (4 * i)) n ++ drop n z → w ≡ fill (wordsAt n f)

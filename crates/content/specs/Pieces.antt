@@ -10,6 +10,12 @@ use Rattle.words.specs.Bytes.{le32, bytesOf, wordAt, wordsAt, length-bytesOf, w
 use Rattle.lanes.specs.Lanes.{flat}
 use Rattle.content.specs.Content.{part, cut, Words}
 
+-- within a list the default does not matter
+pub getD-any {ℓ} : {A : Type ℓ} (l : List A) (i : ℕ) (d e : A) → i < length l → getD l i d ≡ getD l i e
+getD-any [] i d e h = absurd (omega arith)
+getD-any (x ∷ l) zero d e h = refl
+getD-any (x ∷ l) (suc i) d e h = getD-any l i d e (omega arith)
+
 -- ---- pieces
 
 -- the sum of the first k widths

@@ -8,8 +8,7 @@ ghost use Rattle.words.specs.List.{over};
 ghost use Rattle.words.specs.Bytes.{le32, bytesOf, wordsAt};
 ghost use Rattle.lanes.specs.Lanes.{flat};
 ghost use Rattle.poly1305.specs.Poly1305.{bytes};
-ghost use Rattle.content.specs.Content.{correctionBytes, fields, size, blocks, fill, lengthIn, correctionIn, correctionsIn, setIn, noSet, flagsFit, zeros, contentFits};
-ghost use Rattle.content.specs.Bytes.{FlagBytes};
+ghost use Rattle.content.specs.Content.{correctionBytes, fields, size, blocks, fill, lengthIn, correctionIn, correctionsIn, setIn, noCorrection, noSet, flagsFit, zeros, contentFits, FlagBytes};
 use node::Correction;
 use node::Key;
 
@@ -29,15 +28,21 @@ pub struct Set {
     pub key: Key,
 }
 
+fn no_correction() -> Correction
+    ensures { λ r. ⌜ r ≡ noCorrection ⌝ }
+{
+    Correction {
+        seed: [0; 8],
+        word: 0,
+        flags: 0,
+    }
+}
+
 // All that a set brings, at zero.
 pub fn no_set() -> Set
     ensures { λ r. ⌜ r ≡ noSet ⌝ }
 {
-    let none = Correction {
-        seed: [0; 8],
-        word: 0,
-        flags: 0,
-    };
+    let none = no_correction();
     let key = Key {
         corrections: [none; 32],
         last: 0,
@@ -179,7 +184,7 @@ fn byte(b: &[u8], at: usize) -> u32
 }
 
 // L, from bytes 18 and 19.
-pub fn length_in(b: &[u8]) -> usize
+fn length_in(b: &[u8]) -> usize
     requires { ⌜ 20 ≤ length (now b) ⌝ }
     ensures { λ r. ⌜ (r ≡ lengthIn (now (b .entry))) × (r < 65536) ⌝ }
 {
@@ -227,11 +232,7 @@ fn corrections_in(f: &[u8]) -> [Correction; 32]
     requires { ⌜ length (now f) ≡ 32 * 37 ⌝ }
     ensures { λ r. ⌜ r ≡ correctionsIn (now (f .entry)) 32 ⌝ }
 {
-    let none = Correction {
-        seed: [0; 8],
-        word: 0,
-        flags: 0,
-    };
+    let none = no_correction();
     let mut cs = [none; 32];
     let mut i: usize = 0;
     while i < 32 {

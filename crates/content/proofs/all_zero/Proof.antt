@@ -10,8 +10,6 @@ use Rattle.content.proofs.Checked.{zeros-more}
 use borrow.Author.Needs.{needs}
 use Rattle.content.proofs.all_zero.Statement.{statement}
 use Rattle.content.proofs.all_zero.Tie as tie
-use Rattle.content.proofs.all_zero.Reads as reads
-use Rattle.content.proofs.all_zero.Lts as lts
 
 abbrev Inv-loop : tie.InvT-loop
 Inv-loop b all₀ i₀ all i = (i ≤ length b) × (all ≡ zeros (take i b))
@@ -19,31 +17,25 @@ Inv-loop b all₀ i₀ all i = (i ≤ length b) × (all ≡ zeros (take i b))
 abbrev μ-loop : tie.MeasureT-loop
 μ-loop b all₀ i₀ all i = length b - i
 
--- src/lib.rt:295:5
 loop-holds : tie.Need-loop-holds Inv-loop μ-loop
 unfolding zeros
 loop-holds c = (search needs, refl)
 
--- src/lib.rt:296:22
 shared-slice-read-all : tie.Need-shared-slice-read-all Inv-loop μ-loop
 shared-slice-read-all c = search needs
 
--- src/lib.rt:297:9
 add-i : tie.Need-add-i Inv-loop μ-loop
 add-i c = search needs
 
--- src/lib.rt:295:5
 loop-less : tie.Need-loop-less Inv-loop μ-loop
 loop-less c = search needs
 
--- src/lib.rt:295:5
 loop-again : tie.Need-loop-again Inv-loop μ-loop
 loop-again c =
     let b = c .before .before .before .args .b .now in
     let i = c .before .before .loop .i in
     (search needs, ap (λ all. all && eqb (getD b i 0) 0) (c .before .before .loop .inv .1) ∙ sym (zeros-more b i (search needs)))
 
--- src/lib.rt:290:1
 returns : tie.Need-returns Inv-loop μ-loop
 returns c = c .before .loop .inv .1 ∙ ap zeros (take-all (c .before .loop .i) (c .before .before .args .b .now) (omega arith))
 

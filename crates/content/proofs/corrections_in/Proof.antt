@@ -8,9 +8,6 @@ use Rattle.content.proofs.Read.{corrections-more, corrections-all}
 use borrow.Author.Needs.{needs}
 use Rattle.content.proofs.corrections_in.Statement.{statement}
 use Rattle.content.proofs.corrections_in.Tie as tie
-use Rattle.content.proofs.corrections_in.Reads as reads
-use Rattle.content.proofs.corrections_in.Lts as lts
-use Rattle.content.proofs.correction_in.Reads as correction-in-reads
 
 abbrev Inv-loop : tie.InvT-loop
 Inv-loop f cs₀ i₀ cs i = (i ≤ 32) × (cs ≡ correctionsIn f i ++ drop i cs₀)
@@ -18,38 +15,33 @@ Inv-loop f cs₀ i₀ cs i = (i ≤ 32) × (cs ≡ correctionsIn f i ++ drop i c
 abbrev μ-loop : tie.MeasureT-loop
 μ-loop f cs₀ i₀ cs i = 32 - i
 
--- src/lib.rt:237:5
+no-correction-requires : tie.Need-no-correction-requires Inv-loop μ-loop
+no-correction-requires c κs = search needs
+
 loop-holds : tie.Need-loop-holds Inv-loop μ-loop
 unfolding correctionsIn
 loop-holds c = (search needs, refl)
 
--- src/lib.rt:238:17
 correction-in-requires : tie.Need-correction-in-requires Inv-loop μ-loop
 correction-in-requires c κs = search needs
 
--- src/lib.rt:238:9
 mul-cs : tie.Need-mul-cs Inv-loop μ-loop
 mul-cs c = search needs
 
--- src/lib.rt:238:9
 array-set-from-cs : tie.Need-array-set-from-cs Inv-loop μ-loop
 array-set-from-cs c = search needs
 
--- src/lib.rt:239:9
 add-i : tie.Need-add-i Inv-loop μ-loop
 add-i c = search needs
 
--- src/lib.rt:237:5
 loop-less : tie.Need-loop-less Inv-loop μ-loop
 loop-less c = search needs
 
--- src/lib.rt:237:5
 loop-again : tie.Need-loop-again Inv-loop μ-loop
-loop-again c = (search needs, corrections-more (c .before .before .before .before .args .f .now) _ _ _ (c .before .before .loop .i) (search needs) (c .before .before .loop .inv .1) (c .correction-in .ensures))
+loop-again c = (search needs, corrections-more (c .before .before .before .before .before .args .f .now) _ _ _ (c .before .before .loop .i) (search needs) (c .before .before .loop .inv .1) (c .correction-in .ensures))
 
--- src/lib.rt:226:1
 returns : tie.Need-returns Inv-loop μ-loop
-returns c = corrections-all (c .before .before .before .args .f .now) _ _ (c .before .loop .i) 32 (c .before .loop .inv .1) (omega arith) refl
+returns c = corrections-all (c .before .before .before .before .args .f .now) _ _ (c .before .loop .i) 32 (c .before .loop .inv .1) (omega arith) refl
 
 pub corrections-in-spec : {M : Type 1} → statement M
 corrections-in-spec =
@@ -57,6 +49,7 @@ corrections-in-spec =
     (tie.spec
     Inv-loop
     μ-loop
+    no-correction-requires
     loop-holds
     correction-in-requires
     mul-cs

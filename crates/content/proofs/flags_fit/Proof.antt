@@ -9,8 +9,6 @@ use Rattle.content.proofs.Checked.{flags-more}
 use borrow.Author.Needs.{needs}
 use Rattle.content.proofs.flags_fit.Statement.{statement}
 use Rattle.content.proofs.flags_fit.Tie as tie
-use Rattle.content.proofs.flags_fit.Reads as reads
-use Rattle.content.proofs.flags_fit.Lts as lts
 
 abbrev Inv-loop : tie.InvT-loop
 Inv-loop f all₀ i₀ all i = (i ≤ 32) × (all ≡ flagsFit (correctionsIn f i))
@@ -18,39 +16,31 @@ Inv-loop f all₀ i₀ all i = (i ≤ 32) × (all ≡ flagsFit (correctionsIn f 
 abbrev μ-loop : tie.MeasureT-loop
 μ-loop f all₀ i₀ all i = 32 - i
 
--- src/lib.rt:283:5
 loop-holds : tie.Need-loop-holds Inv-loop μ-loop
 unfolding flagsFit correctionsIn
 loop-holds c = (search needs, refl)
 
--- src/lib.rt:284:24
 mul-all : tie.Need-mul-all Inv-loop μ-loop
 mul-all c = search needs
 
--- src/lib.rt:284:24
 add-all : tie.Need-add-all Inv-loop μ-loop
 add-all c = search needs
 
--- src/lib.rt:284:22
 shared-slice-read-all : tie.Need-shared-slice-read-all Inv-loop μ-loop
 shared-slice-read-all c = search needs
 
--- src/lib.rt:285:9
 add-i : tie.Need-add-i Inv-loop μ-loop
 add-i c = search needs
 
--- src/lib.rt:283:5
 loop-less : tie.Need-loop-less Inv-loop μ-loop
 loop-less c = search needs
 
--- src/lib.rt:283:5
 loop-again : tie.Need-loop-again Inv-loop μ-loop
 loop-again c =
     let f = c .before .before .before .args .f .now in
     let i = c .before .before .loop .i in
     (search needs, ap (λ all. all && ltb (getD f (37 * i + 36) 0) 4) (c .before .before .loop .inv .1) ∙ sym (flags-more f i))
 
--- src/lib.rt:277:1
 returns : tie.Need-returns Inv-loop μ-loop
 returns c =
     let last : c .before .loop .i ≡ 32 = omega arith in

@@ -4,31 +4,22 @@ use Rattle.content.specs.Laws.{lengthIn-bytes}
 use borrow.Author.Needs.{needs}
 use Rattle.content.proofs.length_in.Statement.{statement}
 use Rattle.content.proofs.length_in.Tie as tie
-use Rattle.content.proofs.length_in.Reads as reads
-use Rattle.content.proofs.length_in.Lts as lts
-use Rattle.content.proofs.byte.Reads as byte-reads
 
--- src/lib.rt:186:6
 byte-requires : tie.Need-byte-requires
 byte-requires c κs = search needs
 
--- src/lib.rt:186:26
 byte-requires-2 : tie.Need-byte-requires-2
 byte-requires-2 c κs = search needs
 
--- src/lib.rt:186:20
 mul-result : tie.Need-mul-result
 mul-result c = search needs
 
--- src/lib.rt:186:6
 add-result : tie.Need-add-result
 add-result c = search needs
 
--- src/lib.rt:186:5
 cast-result : tie.Need-cast-result
 cast-result c = search needs
 
--- src/lib.rt:182:1
 returns : tie.Need-returns
 returns c = (ap₂ (λ x y. x + 256 * y) (c .before .byte .ensures .0) (c .byte2 .ensures .0) ∙ sym (lengthIn-bytes (c .before .before .before .args .b .now)), search needs)
 

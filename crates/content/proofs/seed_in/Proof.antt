@@ -4,24 +4,16 @@ use Rattle.content.proofs.Stored.{whole}
 use borrow.Author.Needs.{needs}
 use Rattle.content.proofs.seed_in.Statement.{statement}
 use Rattle.content.proofs.seed_in.Tie as tie
-use Rattle.content.proofs.seed_in.Reads as reads
-use Rattle.content.proofs.seed_in.Lts as lts
-use Rattle.chacha20.proofs.key_words.Reads as key-words-reads
-use Rattle.words.proofs.copy.Reads as copy-reads
 
--- src/lib.rt:208:17
 slice-aggregate-copy : tie.Need-slice-aggregate-copy
 slice-aggregate-copy c = search needs
 
--- src/lib.rt:208:5
 copy-requires : tie.Need-copy-requires
 copy-requires c κs = search needs
 
--- src/lib.rt:209:5
 key-words-requires : tie.Need-key-words-requires
 key-words-requires c κs = search needs
 
--- src/lib.rt:203:1
 returns : tie.Need-returns
 returns c = c .key-words .ensures ∙ ap (wordsAt 8) (whole _ _ _ 32 (c .before .before .before .before .before .before .pre) (search needs) (c .before .before .before .copy .ensures))
 
