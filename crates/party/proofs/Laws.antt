@@ -5,11 +5,12 @@ use mathlib.Core.List.{List}
 use Prim.Native.Nat.{ℕ}
 use borrow.Author.Tests.{not-true, not-false, eq-eqb, ne-eqb}
 use lib.Dec.{eqb, leb}
+use lib.ListN.{replicate}
 use Rattle.measure.specs.Measure.{isCode}
 use Rattle.share.specs.Share.{share, word}
 use Rattle.content.specs.declared.Set.{Set}
-use Rattle.content.specs.Content.{lengthFits}
-use Rattle.party.specs.Party.{stateFits, boxShare}
+use Rattle.content.specs.Content.{lengthFits, noSet}
+use Rattle.party.specs.Party.{idle, stateFits, boxShare}
 
 -- ---- the tests of a state
 
@@ -25,6 +26,13 @@ module _ (party phase code n : ℕ) where
   pub with-set : not (leb party 1) ≡ false → (phase ≡ 0 → ⊥) → (c l : Bool) → c ≡ isCode code → l ≡ lengthFits n → leb phase 3 && (c && l) ≡ stateFits party phase code n
   unfolding stateFits
   with-set h e c l ec el = rw (not-false (leb party 1) h, ne-eqb phase 0 e, ec, el) refl
+
+-- ---- states
+
+pub idle-law : (name key : List ℕ) (party last : ℕ) (s : Set) → s ≡ noSet
+    → record { name = name; party = party; key = key; last = last; phase = 0; set = s; masked = replicate 512 0; own = 0; word = 0 } ≡ idle name party key last
+unfolding idle
+idle-law name key party last s e = λ i. record { name = name; party = party; key = key; last = last; phase = 0; set = e i; masked = replicate 512 0; own = 0; word = 0 }
 
 -- ---- a box's share
 

@@ -1,3 +1,4 @@
+use Rattle.party.proofs.Laws.{idle-law}
 use borrow.Author.Needs.{needs}
 use Rattle.party.proofs.idle.Statement.{statement}
 use Rattle.party.proofs.idle.Tie as tie
@@ -9,7 +10,7 @@ no-set-requires : tie.Need-no-set-requires
 no-set-requires c κs = search needs
 
 returns : tie.Need-returns
-returns c = ?
+returns c = idle-law _ _ _ _ _ (c .no-set .ensures)
 
 pub idle-spec : {M : Type 1} → statement M
 idle-spec = tie.close (tie.spec no-set-requires returns)
