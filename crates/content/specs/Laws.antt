@@ -232,7 +232,12 @@ pub fits-reads : (name : List ℕ) (party count : ℕ) (b : List ℕ) → conten
     → (lengthIn b ≤ 512) × (size (lengthIn b) ≤ length b)
 unfolding contentFits setIn lengthFits
 fits-reads name party count b h l =
-    let long = both-right (isCode (getD (field b 2) 0 0)) _ (both-right (eqb (getD (field b 1) 0 0) party) _ (both-right (same (field b 0) name) _ h)) in
-    let most = leb-true (lengthIn b) 512 (both-right (leb 1 (lengthIn b)) _ (both-left _ _ long)) in
-    let many = eqb-true (blocks (lengthIn b)) count (both-left _ _ (both-right _ _ long)) in
+    let rest = flagsFit (correctionsIn (field b 10) 32) && zeros (drop (size (lengthIn b)) b) in
+    let many = eqb (blocks (lengthIn b)) count in
+    let range = leb 1 (lengthIn b) && leb (lengthIn b) 512 in
+    let code = isCode (getD (field b 2) 0 0) in
+    let owned = eqb (getD (field b 1) 0 0) party in
+    let tests : range && (many && rest) ≡ true = both-right code (range && (many && rest)) (both-right owned (code && (range && (many && rest))) (both-right (same (field b 0) name) (owned && (code && (range && (many && rest)))) h)) in
+    let most = leb-true (lengthIn b) 512 (both-right (leb 1 (lengthIn b)) (leb (lengthIn b) 512) (both-left range (many && rest) tests)) in
+    let count = eqb-true (blocks (lengthIn b)) count (both-left many rest (both-right range (many && rest) tests)) in
     (most, omega (arith, size-le (lengthIn b)))
