@@ -2,13 +2,13 @@
 use mathlib.Core.Path.{_≡_, refl, sym, ap, ap₂, _∙_}
 use mathlib.Core.Bool.{Bool, true, false, _&&_, true≢false}
 use mathlib.Core.List.{List, [], _∷_, _++_, append-assoc, append-nil}
-use Prim.Native.Nat.{ℕ, zero, suc, _+_, _*_, _-_, _/_, _%_, _^_, _≤_, _<_}
+use Prim.Native.Nat.{ℕ, zero, suc, _+_, _*_, _-_, _/_, _%_, _^_, _≤_}
 use native.Mathlib.Omega.{arith}
 use native.Mathlib.Numerals.{add-one}
-use borrow.Author.Tests.{le-leb, ltb-true}
+use borrow.Author.Tests.{le-leb}
 use borrow.Rule.Slice.PartMut.{putMid}
 use lib.Dec.{eqb}
-use lib.ListN.{length, getD, take-append-drop, take, drop, replicate, length-append, length-drop, drop-of-length-le}
+use lib.ListN.{length, take-append-drop, take, drop, replicate, length-append, length-drop, drop-of-length-le}
 use lib.Seq.{length-take-le, take-at, drop-at, drop-append-add, drop-drop}
 use Rattle.words.specs.List.{over, over-eq, over-all, over-next}
 use Rattle.words.specs.Bytes.{le32, bytesOf, wordAt}
@@ -17,12 +17,8 @@ use Rattle.aead.specs.declared.Sealed.{Sealed}
 use Rattle.aead.specs.Aead.{cipher, tagFor, within, sealed, sealedText, opens, openedText as openedTextOf}
 use Rattle.aead.specs.Claims.{length-cipher}
 use Rattle.lanes.specs.Lanes.{flat}
-use Rattle.measure.specs.Measure.{isCode}
-use Rattle.node.specs.declared.Correction.{Correction}
-use Rattle.node.specs.Node.{none}
 use Rattle.content.specs.declared.Set.{Set}
-use Rattle.content.specs.Content.{part, fields, size, blocks, noCorrection, Corrections, Proper}
-use Rattle.content.specs.Bytes.{FlagBytes}
+use Rattle.content.specs.Content.{part, fields, size, blocks, Proper}
 use Rattle.content.specs.Laws.{blocks-bounds, take-laid}
 use Rattle.half.specs.Half.{header, block, firstBlocks, half, setNumber, blockFits, firstFit, blockAt, openedText}
 use Rattle.half.specs.Laws.{part-front, length-tag, length-block, length-blocks, length-part}
@@ -127,19 +123,6 @@ firstBlocks-take key p set m (suc k) h l =
     ap₂ (λ (a b : List ℕ). a ++ block key set k b) (firstBlocks-take key p set m k h (omega arith)) front
 
 module _ (key name : List ℕ) (party : ℕ) (s : Set) (named : length name ≡ 16) (p : Proper s) where
-  pub code-byte : s .code < 256
-  unfolding isCode
-  code-byte = omega (arith, ltb-true (s .code) 3 (p .code-fits))
-
-  pub flag-bytes : FlagBytes (s .key .corrections)
-  unfolding FlagBytes Corrections
-  flag-bytes i l = rw (getD-any (s .key .corrections) i none noCorrection l) (omega (arith, p .corrections-fit i l .2))
-    where
-      getD-any : (l : List Correction) (i : ℕ) (d e : Correction) → i < length l → getD l i d ≡ getD l i e
-      getD-any [] i d e h = absurd (omega arith)
-      getD-any (x ∷ l) zero d e h = refl
-      getD-any (x ∷ l) (suc i) d e h = getD-any l i d e (omega arith)
-
   pub few-blocks : blocks (s .n) ≤ 16
   few-blocks = blocks-bounds (s .n) (p .some) (p .most) .1
 
@@ -188,11 +171,11 @@ module _ (key b out0 n t o z : List ℕ) (set i x s : ℕ) (r : Bool) (lb : leng
         let opens-so : opens key n n o t ≡ true = sym er ∙ last-true (eqb x i) (eqb s set) r ok in
         ez ∙ rw opens-so (ap₂ (cipher key) nonce-is text-part)
 
-and-left : (a b : Bool) → a && b ≡ true → a ≡ true
+pub and-left : (a b : Bool) → a && b ≡ true → a ≡ true
 and-left true b e = refl
 and-left false b e = absurd (true≢false (sym e))
 
-and-right : (a b : Bool) → a && b ≡ true → b ≡ true
+pub and-right : (a b : Bool) → a && b ≡ true → b ≡ true
 and-right true b e = e
 and-right false b e = absurd (true≢false (sym e))
 

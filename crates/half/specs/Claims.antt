@@ -17,7 +17,7 @@ use Rattle.messages.specs.Laws.{unless-none}
 use Rattle.content.specs.declared.Set.{Set}
 use Rattle.content.specs.Content.{part, size, blocks, plain, field, setIn, correctionsIn, lengthIn, lengthFits, flagsFit, zeros, contentFits, Proper}
 use Rattle.content.specs.Laws.{blocks-bounds, length-plain, lengthIn-plain, lengthIn-take, setIn-plain, fits-plain}
-use Rattle.half.specs.Half.{block, firstBlocks, half, blockAt, setNumber, blockFits, firstFit, openedText, wholeBlocks, whyNot, openedSet}
+use Rattle.half.specs.Half.{block, firstBlocks, half, blockAt, setNumber, blockFits, firstFit, openedText, wholeBlocks, whyNotOpened, whyNot, openedSet}
 use Rattle.half.specs.Laws.{length-part, length-blocks, block-at, set-of-block, index-of-block, are-fit, are-opened}
 
 and-parts : (a b : Bool) → a && b ≡ true → (a ≡ true) × (b ≡ true)
@@ -82,7 +82,7 @@ module _ (key name : List ℕ) (party : ℕ) (named : length name ≡ 16) where
 
     -- it is taken where the last number is below its own ..
     pub half-taken : (last : ℕ) → last < s .number → whyNot key name party last (half key name party s) ≡ 0
-    unfolding whyNot wholeBlocks unless
+    unfolding whyNot whyNotOpened wholeBlocks unless
     half-taken last l =
         let none : length (half key name party s) % 512 ≡ 0 = omega (arith, length-half) in
         rw (
@@ -113,7 +113,7 @@ module _ (key name : List ℕ) (party : ℕ) (named : length name ≡ 16) where
     content : contentFits name party (length h / 512) (openedText key h (length h / 512)) ≡ true
 
   taken : (last : ℕ) (h : List ℕ) → whyNot key name party last h ≡ 0 → Taken h
-  unfolding whyNot wholeBlocks
+  unfolding whyNot whyNotOpened wholeBlocks
   taken last h e =
       let w = unless-none (wholeBlocks h) 4 _ (λ z. omega arith) e in
       let n = unless-none (ltb last (setNumber h)) 7 _ (λ z. omega arith) (w .1) in

@@ -57,14 +57,15 @@ openedText key h (suc i) = openedText key h i ++ cipher key (part 0 12 (blockAt 
 unfoldable pub wholeBlocks : List ℕ → Bool
 wholeBlocks h = eqb (length h % 512) 0 && (leb 3 (length h / 512) && leb (length h / 512) 16)
 
--- why a half is turned down at a box of this key, padded name and party whose last number is `last`; 0 if it is not
-unfoldable pub whyNot : List ℕ → List ℕ → ℕ → ℕ → List ℕ → ℕ
-whyNot key name party last h =
+-- why whole blocks are turned down, at a box of this key, padded name and party: 10 and 11; 0 if they are not
+unfoldable pub whyNotOpened : List ℕ → List ℕ → ℕ → List ℕ → ℕ
+whyNotOpened key name party h =
     let count : ℕ = length h / 512 in
-    unless (wholeBlocks h) 4
-    (unless (ltb last (setNumber h)) 7
-    (unless (firstFit key h count) 10
-    (unless (contentFits name party count (openedText key h count)) 11 0)))
+    unless (firstFit key h count) 10 (unless (contentFits name party count (openedText key h count)) 11 0)
+
+-- why a half is turned down where the box's last number is `last`
+unfoldable pub whyNot : List ℕ → List ℕ → ℕ → ℕ → List ℕ → ℕ
+whyNot key name party last h = unless (wholeBlocks h) 4 (unless (ltb last (setNumber h)) 7 (whyNotOpened key name party h))
 
 -- the set that it opens to
 unfoldable pub openedSet : List ℕ → List ℕ → Set

@@ -1,13 +1,14 @@
 // Seals a half in blocks, and examines one (01, "The sealed half" and "When a call is turned down").
 ghost use mathlib.Core.Path.{_≡_};
-ghost use mathlib.Core.Bool.{true};
-ghost use Prim.Native.Nat.{_+_, _*_, _≤_, _^_, _<_};
+ghost use mathlib.Core.Bool.{true, _&&_};
+ghost use Prim.Native.Nat.{_*_, _/_, _%_, _≤_, _<_};
+ghost use lib.Dec.{eqb, leb};
 ghost use lib.ListN.{length};
 ghost use Rattle.words.specs.List.{over};
-ghost use Rattle.poly1305.specs.Poly1305.{number as numberOf};
 ghost use Rattle.aead.specs.Aead.{cipher};
 ghost use Rattle.content.specs.Content.{part, blocks, Proper};
-ghost use Rattle.half.specs.Half.{header as headerOf, block, firstBlocks, half, blockFits, firstFit, openedText, setNumber};
+ghost use Rattle.half.specs.Half.{header as headerOf, block, firstBlocks, half, blockFits, firstFit, openedText, setNumber, whyNotOpened};
+ghost use Rattle.half.specs.Examined.{refused as refusedFor, answerFor, examined};
 use content::Set;
 
 // A block's first twelve bytes: the set's number and the block's index.
@@ -115,4 +116,82 @@ fn open_blocks(key: &[u8; 32], number: u64, count: usize, h: &[u8], out: &mut [u
         i += 1;
     }
     fit
+}
+
+fn is_whole(bytes: usize) -> bool
+    ensures { λ r. ⌜ r ≡ eqb (bytes % 512) 0 && (leb 3 (bytes / 512) && leb (bytes / 512) 16) ⌝ }
+{
+    (bytes % 512 == 0) & ((3 <= bytes / 512) & (bytes / 512 <= 16))
+}
+
+// What examining a half finds: why it is turned down (0 if it is not), and the set, or no set.
+pub struct Examined {
+    pub why: u32,
+    pub set: Set,
+}
+
+fn refused(why: u32) -> Examined
+    ensures { λ r. ⌜ r ≡ refusedFor why ⌝ }
+{
+    Examined {
+        why,
+        set: content::no_set(),
+    }
+}
+
+// Opens whole blocks into `text`.
+fn open_whole(
+    key: &[u8; 32],
+    name: [u8; 16],
+    party: u32,
+    number: u64,
+    h: &[u8],
+    text: &mut [u8],
+) -> Examined
+    requires { ⌜ (3 ≤ length (now h) / 512) × (length (now h) / 512 ≤ 16) × (number ≡ setNumber (now h)) × (length (now text) ≡ 484 * (length (now h) / 512)) ⌝ }
+    ensures { λ r. ⌜ r ≡ answerFor (whyNotOpened (now (key .entry)) name party (now (h .entry))) (now (key .entry)) (now (h .entry)) ⌝ }
+{
+    let count = h.len() / 512;
+    if !open_blocks(key, number, count, h, text) {
+        return refused(10);
+    }
+    if !content::content_fits(name, party, count, text) {
+        return refused(11);
+    }
+    Examined {
+        why: 0,
+        set: content::read_set(number, text),
+    }
+}
+
+// The same, with room for any half.
+fn open_within(
+    key: &[u8; 32],
+    name: [u8; 16],
+    party: u32,
+    number: u64,
+    h: &[u8],
+    room: [u8; 7744],
+) -> Examined
+    requires { ⌜ (3 ≤ length (now h) / 512) × (length (now h) / 512 ≤ 16) × (number ≡ setNumber (now h)) ⌝ }
+    ensures { λ r. ⌜ r ≡ answerFor (whyNotOpened (now (key .entry)) name party (now (h .entry))) (now (key .entry)) (now (h .entry)) ⌝ }
+{
+    let mut text = room;
+    let size = 484 * (h.len() / 512);
+    open_whole(key, name, party, number, h, &mut text[..size])
+}
+
+// Examines a half for a box of this key, padded name and party whose last number is `last`. Any
+// bytes may be handed in, and nothing is committed.
+pub fn examine(key: &[u8; 32], name: [u8; 16], party: u32, last: u64, h: &[u8]) -> Examined
+    ensures { λ r. ⌜ r ≡ examined (now (key .entry)) name party last (now (h .entry)) ⌝ }
+{
+    if !is_whole(h.len()) {
+        return refused(4);
+    }
+    let number = load_number(h);
+    if !(last < number) {
+        return refused(7);
+    }
+    open_within(key, name, party, number, h, [0; 7744])
 }

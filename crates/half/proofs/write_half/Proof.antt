@@ -1,19 +1,15 @@
 use native.Mathlib.Omega.{arith}
-use Rattle.half.proofs.Laws.{code-byte, flag-bytes, few-blocks, half-law}
+use Rattle.content.specs.Laws.{code-byte, flag-bytes}
+use Rattle.half.proofs.Laws.{few-blocks, half-law}
 use borrow.Author.Needs.{needs}
 use Rattle.half.proofs.write_half.Statement.{statement}
 use Rattle.half.proofs.write_half.Tie as tie
-use Rattle.half.proofs.write_half.Reads as reads
-use Rattle.half.proofs.write_half.Lts as lts
-use Rattle.content.proofs.blocks_of.Reads as blocks-of-reads
-use Rattle.content.proofs.lay_out.Reads as lay-out-reads
-use Rattle.half.proofs.write_blocks.Reads as write-blocks-reads
 
 blocks-of-requires : tie.Need-blocks-of-requires
 blocks-of-requires c κs = search needs
 
 lay-out-requires : tie.Need-lay-out-requires
-lay-out-requires c κs = ((c .before .before .pre .0 .0, code-byte (c .before .before .args .key .now) (c .before .before .args .name) (c .before .before .args .party) (c .before .before .args .s) (search needs) (c .before .before .pre .1), c .before .before .pre .1 .most), flag-bytes (c .before .before .args .key .now) (c .before .before .args .name) (c .before .before .args .party) (c .before .before .args .s) (search needs) (c .before .before .pre .1))
+lay-out-requires c κs = ((c .before .before .pre .0 .0, code-byte (c .before .before .args .s) (c .before .before .pre .1), c .before .before .pre .1 .most), flag-bytes (c .before .before .args .s) (c .before .before .pre .1))
 
 slice-aggregate-write-blocks : tie.Need-slice-aggregate-write-blocks
 slice-aggregate-write-blocks c = search needs

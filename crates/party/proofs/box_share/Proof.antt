@@ -2,9 +2,6 @@ use Rattle.party.proofs.Laws.{share-camera, share-office}
 use borrow.Author.Needs.{needs}
 use Rattle.party.proofs.box_share.Statement.{statement}
 use Rattle.party.proofs.box_share.Tie as tie
-use Rattle.party.proofs.box_share.Reads as reads
-use Rattle.party.proofs.box_share.Lts as lts
-use Rattle.share.proofs.share_of.Reads as share-of-reads
 
 slice-aggregate-share-of : tie.Need-slice-aggregate-share-of
 slice-aggregate-share-of c = search needs

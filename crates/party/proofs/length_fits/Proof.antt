@@ -2,8 +2,6 @@ use Rattle.content.specs.Content.{lengthFits}
 use mathlib.Core.Path.{refl}
 use Rattle.party.proofs.length_fits.Statement.{statement}
 use Rattle.party.proofs.length_fits.Tie as tie
-use Rattle.party.proofs.length_fits.Reads as reads
-use Rattle.party.proofs.length_fits.Lts as lts
 
 returns : tie.Need-returns
 unfolding lengthFits

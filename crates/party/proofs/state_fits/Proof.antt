@@ -2,10 +2,6 @@ use Rattle.party.proofs.Laws.{no-party, with-none, with-set}
 use borrow.Author.Needs.{needs}
 use Rattle.party.proofs.state_fits.Statement.{statement}
 use Rattle.party.proofs.state_fits.Tie as tie
-use Rattle.party.proofs.state_fits.Reads as reads
-use Rattle.party.proofs.state_fits.Lts as lts
-use Rattle.measure.proofs.is_code.Reads as is-code-reads
-use Rattle.party.proofs.length_fits.Reads as length-fits-reads
 
 returns : tie.Need-returns
 returns c = no-party _ _ _ _ (c .if1 .taken)

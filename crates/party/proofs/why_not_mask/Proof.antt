@@ -3,9 +3,6 @@ use Rattle.messages.specs.Laws.{turned-down, goes-on}
 use borrow.Author.Needs.{needs}
 use Rattle.party.proofs.why_not_mask.Statement.{statement}
 use Rattle.party.proofs.why_not_mask.Tie as tie
-use Rattle.party.proofs.why_not_mask.Reads as reads
-use Rattle.party.proofs.why_not_mask.Lts as lts
-use Rattle.measure.proofs.all_in_range.Reads as all-in-range-reads
 
 returns : tie.Need-returns
 returns c = turned-down _ _ _ (c .if1 .taken)

@@ -2,8 +2,6 @@ use mathlib.Core.Path.{refl}
 use Rattle.messages.specs.Laws.{turned-down, goes-on}
 use Rattle.party.proofs.why_not_message.Statement.{statement}
 use Rattle.party.proofs.why_not_message.Tie as tie
-use Rattle.party.proofs.why_not_message.Reads as reads
-use Rattle.party.proofs.why_not_message.Lts as lts
 
 returns : tie.Need-returns
 returns c = turned-down _ _ _ (c .if1 .taken)

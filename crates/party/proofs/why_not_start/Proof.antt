@@ -5,9 +5,6 @@ use Rattle.messages.specs.Laws.{turned-down, goes-on}
 use borrow.Author.Needs.{needs}
 use Rattle.party.proofs.why_not_start.Statement.{statement}
 use Rattle.party.proofs.why_not_start.Tie as tie
-use Rattle.party.proofs.why_not_start.Reads as reads
-use Rattle.party.proofs.why_not_start.Lts as lts
-use Rattle.messages.proofs.name_fits.Reads as name-fits-reads
 
 name-fits-requires : tie.Need-name-fits-requires
 name-fits-requires c κs = search needs
