@@ -1,4 +1,5 @@
 use mathlib.Core.Path.{sym}
+use native.Mathlib.Omega.{arith}
 use lib.Seq.{length-take-le}
 use Rattle.content.specs.Content.{blocks, size}
 use Rattle.content.proofs.Checked.{too-short, too-long, other-count, fits-law}
@@ -19,7 +20,7 @@ blocks-of-requires : tie.Need-blocks-of-requires
 blocks-of-requires c κs = search needs
 
 returns-3 : tie.Need-returns-3
-returns-3 c = other-count (c .before .before .before .before .before .before .args .t1) (c .before .before .before .before .before .before .args .party) (c .before .before .before .before .before .before .args .count) (c .before .before .before .before .before .before .args .b .now) (c .before .before .before .before .length-in .result) (c .before .before .before .before .length-in .ensures .0) _ (c .before .blocks-of .ensures) (c .if3 .taken)
+returns-3 c = other-count (c .before .before .before .before .before .before .args .t1) (c .before .before .before .before .before .before .args .party) (c .before .before .before .before .before .before .args .count) (c .before .before .before .before .before .before .args .b .now) (c .before .before .before .before .length-in .result) (c .before .before .before .before .length-in .ensures .0) _ (c .before .blocks-of .ensures) (λ e. omega arith)
 
 mul-key-at : tie.Need-mul-key-at
 mul-key-at c = search needs
@@ -86,7 +87,7 @@ all-zero-requires c κs = search needs
 
 returns-4 : tie.Need-returns-4
 returns-4 c =
-    fits-law (c .before .before .before .before .before .before .before .before .before .before .before .before .before .before .before .before .args .t1) (c .before .before .before .before .before .before .before .before .before .before .before .before .before .before .before .before .args .party) (c .before .before .before .before .before .before .before .before .before .before .before .before .before .before .before .before .args .count) (c .before .before .before .before .before .before .before .before .before .before .before .before .before .before .before .before .args .b .now) (c .before .before .before .before .before .before .before .before .before .before .before .before .before .before .length-in .result) (c .before .before .before .before .before .before .before .before .before .before .before .before .before .before .length-in .ensures .0) _ _ _ _ _ _ _ (search needs) (search needs) (c .before .before .before .before .before .before .before .before .before .before .before .blocks-of .ensures) (c .before .before .before .before .before .before .before .before .before .before .if3 .left)
+    fits-law (c .before .before .before .before .before .before .before .before .before .before .before .before .before .before .before .before .args .t1) (c .before .before .before .before .before .before .before .before .before .before .before .before .before .before .before .before .args .party) (c .before .before .before .before .before .before .before .before .before .before .before .before .before .before .before .before .args .count) (c .before .before .before .before .before .before .before .before .before .before .before .before .before .before .before .before .args .b .now) (c .before .before .before .before .before .before .before .before .before .before .before .before .before .before .length-in .result) (c .before .before .before .before .before .before .before .before .before .before .before .before .before .before .length-in .ensures .0) _ _ _ _ _ _ _ (search needs) (search needs) (c .before .before .before .before .before .before .before .before .before .before .before .blocks-of .ensures) (search needs)
     (c .before .before .before .before .before .before .before .equal .ensures) (c .before .before .before .before .before .before .byte .ensures .0) (c .before .before .before .before .before .byte2 .ensures .0) (c .before .before .before .before .is-code .ensures) (c .before .before .flags-fit .ensures) (c .all-zero .ensures)
 
 pub content-fits-spec : {M : Type 1} → statement M
