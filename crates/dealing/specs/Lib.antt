@@ -1,1 +1,2 @@
 pub mod Dealing
+pub mod Laws

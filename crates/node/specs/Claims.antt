@@ -22,7 +22,7 @@ use Rattle.node.specs.Node.{child, node, first, packed, unpacked, correc
 
 -- ---- a child's seed has eight words, whatever was opened
 
-seed-length : (i : ℕ) (s : List ℕ) (d : Bool) → length ((node i s d) .seed) ≡ 8
+pub seed-length : (i : ℕ) (s : List ℕ) (d : Bool) → length ((node i s d) .seed) ≡ 8
 unfolding node child block start
 seed-length i s d =
     let b : List ℕ = block s (only d 1) (0 ∷ 0 ∷ 0 ∷ []) in
@@ -88,7 +88,7 @@ shares k0 k1 r u hr hu =
 
 -- ---- a node in bytes: "Bytes 0 to 31 are the child seed, 32 to 35 its word v, the lowest bit of byte 36 its flag"
 
-blockword-lt : (s t : List ℕ) (i : ℕ) → getD (added s t) i 0 < 2 ^ 32
+pub blockword-lt : (s t : List ℕ) (i : ℕ) → getD (added s t) i 0 < 2 ^ 32
 unfolding added
 blockword-lt [] t i = omega arith
 blockword-lt (a ∷ s) [] i = omega arith
