@@ -1,6 +1,10 @@
 pub mod Accepted
 pub mod Dealt
 pub mod Goes
+pub mod Halves
 pub mod History
+pub mod Invariant
+pub mod Keeps
 pub mod Once
 pub mod Slots
+pub mod Written
