@@ -2,23 +2,26 @@
 use mathlib.Core.Path.{_≡_, refl, sym, subst, ap, _∙_, fun-ext}
 use mathlib.Core.Bool.{cond, true}
 use mathlib.Core.List.{List, [], _∷_}
-use Prim.Native.Nat.{ℕ, suc, _-_, _<_, _≤_}
+use Prim.Native.Nat.{ℕ, _*_, _-_, _<_, _≤_}
 use native.Mathlib.Omega.{arith}
 use lib.ListN.{length, replicate, length-append, length-replicate}
 use Rattle.messages.specs.Messages.{ifTaken, padded}
 use Rattle.content.specs.declared.Set.{Set}
+use Rattle.content.specs.Content.{blocks}
 use Rattle.dealer.specs.declared.Dealer.{Dealer}
-use Rattle.dealer.specs.Dealer.{Deal, startDealer}
+use Rattle.dealer.specs.Dealer.{Deal, startDealer, whyNotDeal, halfSize, halfFor, keyOf}
 use Rattle.party.specs.declared.Party.{Party}
 use Rattle.party.specs.Party.{idle, startParty}
 use Rattle.lock.specs.declared.Lock.{Lock}
 use Rattle.lock.specs.Lock.{startLock}
-use Rattle.calls.specs.Lists.{Box, camera, office, partyOf, World, Starts, Started, beginning, Event, In, deals, vectors, lastDealt, lastLoaded, lastJoined}
+use Rattle.calls.specs.Lists.{Box, camera, office, partyOf, World, Starts, Started, beginning, written, Event, In, deals, vectors, lastDealt, lastLoaded, lastJoined}
 use Rattle.calls.proofs.Accepted.{lock-tells}
+use Rattle.calls.proofs.Dealt.{setOf, set-n, set-proper, Sound}
+use Rattle.calls.proofs.Halves.{HalfLaws}
 use Rattle.calls.proofs.Once.{Once, once-none, unique}
-use Rattle.calls.proofs.History.{door, Good, Dealt, Vector, Pair, in-deals, in-vectors}
+use Rattle.calls.proofs.History.{door, halfOf, Good, Dealt, Vector, Pair, in-deals, in-vectors}
 use Rattle.calls.proofs.Slots.{Slot, fresh, masked, worded, setIn, Slots}
-use Rattle.calls.proofs.Written.{new}
+use Rattle.calls.proofs.Written.{new, written-is}
 
 -- ---- how a box's state shows its sets: none, or one at its phase
 
@@ -103,6 +106,22 @@ module _ (S : Starts) where
         };
         lock-is = new _ _ _ (f .lock-taken);
       }
+
+  -- ---- what an accepted deal writes
+
+  half-is : (s : Dealer) (last : ℕ) → s ≡ dealerWith last → (d : Deal) (b : Box) → halfFor s d (partyOf b) ≡ halfOf S d b
+  unfolding halfFor keyOf
+  half-is s last e d camera = ap (λ z. halfFor z d 0) e
+  half-is s last e d office = ap (λ z. halfFor z d 1) e
+
+  pub wrote : HalfLaws → length (door S) ≡ 16 → (s : Dealer) (last : ℕ) → s ≡ dealerWith last → (d : Deal) → Sound d → (out0 out1 : List ℕ)
+      → whyNotDeal s d (length out0) (length out1) ≡ 0 → (b : Box) → written s d out0 out1 b ≡ halfOf S d b
+  unfolding halfSize
+  wrote L long s last e d k out0 out1 z b =
+      let size : length (halfFor s d (partyOf b)) ≡ 512 * blocks (d .n) = ap length (half-is s last e d b)
+      ∙ L .half-long (S .key b) (door S) (partyOf b) (setOf d b) long (set-proper d b k)
+      ∙ ap (λ n. 512 * blocks n) (set-n d b) in
+      written-is s d out0 out1 b z size ∙ half-is s last e d b
 
   -- ---- one deal of a number, one vector of a box under it
 

@@ -32,8 +32,8 @@ use Rattle.calls.proofs.Once.{once-cond}
 use Rattle.calls.proofs.History.{door, halfOf, EventOk, Dealt, Vector, Pair, look}
 use Rattle.calls.proofs.Slots.{Slot, fresh, masked, worded, setIn, Word, Away, Slots, slots-away, slots-load, slots-mask, slots-take, slots-close, slots-drop}
 use Rattle.calls.proofs.Halves.{HalfLaws}
-use Rattle.calls.proofs.Written.{new, written-is, masked-is}
-use Rattle.calls.proofs.Invariant.{showing, lastAt, BoxIs, dealerWith, lockWith, Inv, one-deal, one-pair}
+use Rattle.calls.proofs.Written.{new, masked-is}
+use Rattle.calls.proofs.Invariant.{showing, lastAt, BoxIs, dealerWith, lockWith, Inv, wrote, one-deal, one-pair}
 
 -- ---- which events leave which part alone
 
@@ -361,14 +361,9 @@ module _ (S : Starts) where
     abbrev dealtBy : Deal → Dealer → Dealer
     dealtBy d s = record { name = s .name; key0 = s .key0; key1 = s .key1; last = d .number }
 
-    half-is : (d : Deal) (b : Box) → halfFor (w .dealer) d (partyOf b) ≡ halfOf S d b
-    unfolding halfFor keyOf
-    half-is d camera = ap (λ s. halfFor s d 0) (I .dealer-is)
-    half-is d office = ap (λ s. halfFor s d 1) (I .dealer-is)
-
     on-deal : HalfLaws → length (door S) ≡ 16 → (d : Deal) (out0 out1 : List ℕ) → d .number < 2 ^ 64
         → Inv S (step w (deal d out0 out1) .event ∷ h) (step w (deal d out0 out1) .world)
-    unfolding DealerCalls.deal ifTaken halfSize
+    unfolding DealerCalls.deal ifTaken
     on-deal L long d out0 out1 fits = go (eqb (whyNotDeal (w .dealer) d (length out0) (length out1)) 0) refl
       where
         go : (t : Bool) → eqb (whyNotDeal (w .dealer) d (length out0) (length out1)) 0 ≡ t
@@ -379,10 +374,8 @@ module _ (S : Starts) where
             let tells = deal-tells (w .dealer) d (length out0) (length out1) e in
             let k : Sound d = record { number-fits = fits; code-fits = tells .code-fits; some = tells .some; most = tells .most; threshold-fits = tells .threshold-fits } in
             let above : lastDealt (S .dealerFloor) h < d .number = subst (λ s. s .last < d .number) (I .dealer-is) (tells .above) in
-            let size : (b : Box) → length (halfFor (w .dealer) d (partyOf b)) ≡ 512 * blocks (d .n) = λ b.
-            ap length (half-is d b) ∙ L .half-long (S .key b) (door S) (partyOf b) (setOf d b) long (set-proper d b k) ∙ ap (λ n. 512 * blocks n) (set-n d b) in
             record {
-              good = (I .good, (k, λ b. written-is (w .dealer) d out0 out1 b e (size b) ∙ half-is d b));
+              good = (I .good, (k, wrote S L long (w .dealer) _ (I .dealer-is) d k out0 out1 e));
               deals-once = λ n. once-cond d (deals n h) (eqb (d .number) n) (I .deals-once n) (λ t. omega (arith, eqb→eq (d .number) n t)) (λ t q. omega (arith, eqb→eq (d .number) n t)) (λ q. omega arith);
               dealer-is = ap (dealtBy d) (I .dealer-is);
               box-is = λ b. box-away h _ b (w .box b) (no-box-dealt d _ .away b) (I .box-is b);

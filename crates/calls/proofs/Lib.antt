@@ -6,5 +6,7 @@ pub mod History
 pub mod Invariant
 pub mod Keeps
 pub mod Once
+pub mod Runs
 pub mod Slots
+pub mod Unmoved
 pub mod Written
