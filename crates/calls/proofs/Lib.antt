@@ -1,10 +1,12 @@
 pub mod Accepted
+pub mod Claims
 pub mod Dealt
 pub mod Goes
 pub mod Halves
 pub mod History
 pub mod Invariant
 pub mod Keeps
+pub mod NotEmpty
 pub mod Once
 pub mod Runs
 pub mod Slots
