@@ -170,6 +170,180 @@ pub mod ours {
     }
 }
 
+/// The verified calls of dealer and box: crates/door_c.
+#[cfg(feature = "door")]
+pub mod door {
+    use super::ours::ComparisonKey;
+    use super::*;
+    use second::dealer::Order;
+    use second::{dcf, party};
+
+    /// A dealer's state, as crates/dealer has it.
+    #[repr(C)]
+    #[derive(Clone, Copy)]
+    pub struct Dealer {
+        name: [u8; 16],
+        key0: Key,
+        key1: Key,
+        last: u64,
+    }
+
+    #[repr(C)]
+    struct DealerAnswer {
+        why: u32,
+        dealer: Dealer,
+    }
+
+    /// An opened set, as crates/content has it.
+    #[repr(C)]
+    #[derive(Clone, Copy)]
+    struct Set {
+        number: u64,
+        code: u32,
+        n: usize,
+        mask: [u32; 512],
+        x: [u32; 512],
+        y: [u32; 512],
+        c: u32,
+        r: u32,
+        seed: dcf::Seed,
+        key: ComparisonKey,
+    }
+
+    /// A box's state, as crates/party has it.
+    #[repr(C)]
+    #[derive(Clone, Copy)]
+    pub struct Party {
+        name: [u8; 16],
+        party: u32,
+        key: Key,
+        last: u64,
+        phase: u32,
+        set: Set,
+        masked: [u32; 512],
+        own: u32,
+        word: u32,
+    }
+
+    #[repr(C)]
+    struct PartyAnswer {
+        why: u32,
+        party: Party,
+        word: u32,
+    }
+
+    impl Party {
+        /// The same state as the second implementation has it.
+        pub fn plain(&self) -> party::Party {
+            let set = &self.set;
+            party::Party {
+                name: self.name,
+                party: self.party,
+                key: self.key,
+                last: self.last,
+                phase: self.phase,
+                set: party::OpenSet {
+                    number: set.number,
+                    code: set.code,
+                    length: set.n as u32,
+                    own_mask: set.mask,
+                    x_share: set.x,
+                    y_share: set.y,
+                    c: set.c,
+                    r: set.r,
+                    seed: set.seed,
+                    key: set.key.plain(),
+                },
+                check: party::Check {
+                    masked: self.masked,
+                    own: self.own,
+                    word: self.word,
+                },
+            }
+        }
+    }
+
+    #[link(name = "door_c", kind = "static")]
+    extern "C" {
+        fn door_start_dealer(
+            name: *const u8,
+            name_len: usize,
+            floor: u64,
+            key0: *const u8,
+            key0_len: usize,
+            key1: *const u8,
+            key1_len: usize,
+        ) -> DealerAnswer;
+        fn door_deal(
+            dealer: Dealer,
+            code: u32,
+            length: u32,
+            threshold: u32,
+            number: u64,
+            seed: *const u8,
+            seed_len: usize,
+            out0: *mut u8,
+            out0_len: usize,
+            out1: *mut u8,
+            out1_len: usize,
+        ) -> DealerAnswer;
+        fn door_start_party(
+            name: *const u8,
+            name_len: usize,
+            party: u32,
+            key: *const u8,
+            key_len: usize,
+            floor: u64,
+        ) -> PartyAnswer;
+        fn door_load(party: Party, half: *const u8, half_len: usize) -> PartyAnswer;
+    }
+
+    pub fn start_dealer(name: &[u8], floor: u64, keys: &[Key; 2]) -> Dealer {
+        let (name, name_len) = (name.as_ptr(), name.len());
+        let [key0, key1] = keys.each_ref().map(|key| key.as_ptr());
+        let answer = unsafe { door_start_dealer(name, name_len, floor, key0, 32, key1, 32) };
+        assert_eq!(answer.why, 0, "door_start_dealer");
+        answer.dealer
+    }
+
+    /// Writes both halves; the next state is not wanted.
+    pub fn deal(dealer: &Dealer, order: &Order, out: [&mut [u8]; 2]) {
+        let (code, length) = (order.code as u32, order.length as u32);
+        let (seed, seed_len) = (order.seed.as_ptr(), order.seed.len());
+        let [(out0, out0_len), (out1, out1_len)] = out.map(|out| (out.as_mut_ptr(), out.len()));
+        let answer = unsafe {
+            door_deal(
+                *dealer,
+                code,
+                length,
+                order.threshold,
+                order.number,
+                seed,
+                seed_len,
+                out0,
+                out0_len,
+                out1,
+                out1_len,
+            )
+        };
+        assert_eq!(answer.why, 0, "door_deal");
+    }
+
+    pub fn start_party(name: &[u8], party: u32, key: &Key, floor: u64) -> Party {
+        let (name, name_len) = (name.as_ptr(), name.len());
+        let (key, key_len) = (key.as_ptr(), key.len());
+        let answer = unsafe { door_start_party(name, name_len, party, key, key_len, floor) };
+        assert_eq!(answer.why, 0, "door_start_party");
+        answer.party
+    }
+
+    pub fn load(party: &Party, half: &[u8]) -> Party {
+        let answer = unsafe { door_load(*party, half.as_ptr(), half.len()) };
+        assert_eq!(answer.why, 0, "door_load");
+        answer.party
+    }
+}
+
 pub mod sodium {
     use super::*;
     use std::ptr::{null, null_mut};

@@ -3,6 +3,8 @@
 #![deny(unsafe_code)]
 
 mod check;
+#[cfg(feature = "door")]
+mod door;
 mod foreign;
 mod measure;
 mod report;
@@ -36,7 +38,11 @@ fn main() -> ExitCode {
 fn run() -> Result<report::Report, String> {
     foreign::sodium::init();
     let input = rows::Input::new();
+    #[cfg(feature = "door")]
+    let doors = door::doors();
     let mut rows = rows::rows(&input);
+    #[cfg(feature = "door")]
+    rows.extend(door::rows(&doors));
     for row in &mut rows {
         row.check()?;
     }

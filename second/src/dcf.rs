@@ -43,12 +43,26 @@ pub struct Correction {
     pub right: bool,
 }
 
+/// What changes nothing.
+const NO_CORRECTION: Correction = Correction {
+    seed: [0; 8],
+    word: 0,
+    left: false,
+    right: false,
+};
+
 /// A key for a point, without the two parties' seeds.
 #[derive(Clone, Debug, PartialEq, Eq)]
 pub struct Key {
     pub corrections: [Correction; LEVELS],
     pub final_word: u32,
 }
+
+/// A key of zeros.
+pub const NO_KEY: Key = Key {
+    corrections: [NO_CORRECTION; LEVELS],
+    final_word: 0,
+};
 
 /// The seed of 32 bytes.
 pub fn seed(bytes: &[u8; 32]) -> Seed {
@@ -145,6 +159,18 @@ fn make_level(nodes: &mut [Node; 2], v: &mut u32, bit: usize) -> Correction {
     correction
 }
 
+impl Correction {
+    fn from_bytes(bytes: &[u8; CORRECTION_BYTES]) -> Option<Correction> {
+        let flags = bytes[36];
+        (flags < 4).then(|| Correction {
+            seed: seed(bytes[..32].try_into().unwrap()),
+            word: u32::from_le_bytes(bytes[32..36].try_into().unwrap()),
+            left: flags & 1 == 1,
+            right: flags & 2 == 2,
+        })
+    }
+}
+
 impl Key {
     /// The key for a point under the key seeds of party 0 and 1 ("Key for a point").
     pub fn new(seeds: &[Seed; 2], point: u32) -> Key {
@@ -187,6 +213,18 @@ impl Key {
         }
         bytes.extend(self.final_word.to_le_bytes());
         bytes
+    }
+
+    /// The key stored in these bytes, if no flag byte is above 3.
+    pub fn from_bytes(bytes: &[u8; KEY_BYTES]) -> Option<Key> {
+        let (stored, final_word) = bytes.split_at(LEVELS * CORRECTION_BYTES);
+        let mut key = NO_KEY;
+        let levels = key.corrections.iter_mut();
+        for (correction, bytes) in levels.zip(stored.chunks_exact(CORRECTION_BYTES)) {
+            *correction = Correction::from_bytes(bytes.try_into().unwrap())?;
+        }
+        key.final_word = u32::from_le_bytes(final_word.try_into().unwrap());
+        Some(key)
     }
 }
 
@@ -265,10 +303,15 @@ mod tests {
             right: true,
         };
         key.final_word = 0x0c0b0a09;
-        let bytes = key.to_bytes();
+        let mut bytes = key.to_bytes();
         assert_eq!(bytes.len(), KEY_BYTES);
         let last = &bytes[31 * CORRECTION_BYTES..];
         assert_eq!(last[..32], [1, 2, 3, 4].repeat(8));
         assert_eq!(last[32..], [5, 6, 7, 8, 2, 9, 10, 11, 12]);
+
+        let read = |bytes: &[u8]| Key::from_bytes(bytes.try_into().unwrap());
+        assert_eq!(read(&bytes), Some(key));
+        bytes[36] = 4;
+        assert_eq!(read(&bytes), None);
     }
 }

@@ -1,6 +1,6 @@
-//! ChaCha20-Poly1305 written from RFC 8439, and the two boxes' check written from
-//! the scope document 01, both from nothing else, so that their answers are worth
-//! comparing with those of another implementation.
+//! ChaCha20-Poly1305 written from RFC 8439, and the door with its dealer, boxes and
+//! lock written from the scope document 01, both from nothing else, so that their
+//! answers are worth comparing with those of another implementation.
 
 #![forbid(unsafe_code)]
 
@@ -9,12 +9,22 @@ pub mod cases;
 pub mod chacha20;
 pub mod check_cases;
 pub mod checks;
+pub mod content;
 pub mod dcf;
+pub mod dealer;
+pub mod dealing;
 pub mod field;
 pub mod generated;
+pub mod half_cases;
+pub mod halves;
+pub mod lock;
 pub mod measure;
+pub mod message;
+pub mod party;
 pub mod poly1305;
+pub mod refusal;
 pub mod rfc8439;
 pub mod sample;
 pub mod script;
+pub mod sealed;
 pub mod share;

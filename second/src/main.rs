@@ -1,11 +1,13 @@
 //! Prints a test script, or the answers that it must get.
 
 use second::script::{self, Case, Runner, MAX_LINE};
-use second::{check_cases, checks, generated, rfc8439};
+use second::{check_cases, checks, generated, half_cases, halves, rfc8439};
 use std::io::Write;
 use std::process::ExitCode;
 
-const USAGE: &str = "usage: second vectors-stdin | vectors-stdout | checks-stdin | checks-stdout";
+const USAGE: &str =
+    "usage: second vectors-stdin | vectors-stdout | checks-stdin | checks-stdout | \
+                     halves-stdin | halves-stdout";
 
 fn main() -> ExitCode {
     let arguments: Vec<String> = std::env::args().skip(1).collect();
@@ -15,6 +17,8 @@ fn main() -> ExitCode {
         ["vectors-stdout"] => print(&vectors(), script::run, |case| &case.expected),
         ["checks-stdin"] => print(&check_cases::cases(), checks::run, |case| &case.line),
         ["checks-stdout"] => print(&check_cases::cases(), checks::run, |case| &case.expected),
+        ["halves-stdin"] => print(&half_cases::cases(), halves::run, |case| &case.line),
+        ["halves-stdout"] => print(&half_cases::cases(), halves::run, |case| &case.expected),
         _ => Err(USAGE.to_string()),
     };
     match result {

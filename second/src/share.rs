@@ -18,6 +18,7 @@ pub struct Draws {
 }
 
 /// One party's part of a set.
+#[derive(Clone, Debug, PartialEq, Eq)]
 pub struct Half {
     /// 0 or 1.
     pub party: usize,
@@ -97,7 +98,11 @@ impl Half {
 
     /// Call 3: the word, from this party's own vector and both masked ones.
     pub fn word(&self, own_vector: &[i32], mx: &[u32], my: &[u32]) -> u32 {
-        let own = self.measure.own(own_vector) as u32;
+        self.word_with(self.measure.own(own_vector) as u32, mx, my)
+    }
+
+    /// The same from this party's own term.
+    pub fn word_with(&self, own: u32, mx: &[u32], my: &[u32]) -> u32 {
         (self.measure.k() as u32)
             .wrapping_mul(self.share(mx, my))
             .wrapping_add(own)

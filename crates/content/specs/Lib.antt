@@ -1,1 +1,4 @@
 pub mod Content
+pub mod Bytes
+pub mod Pieces
+pub mod Laws

@@ -131,6 +131,10 @@ inner-same : (n : ℕ) {a a′ b b′ : List ℕ} → Same a a′ → Same b b�
 unfolding inner
 inner-same n ea eb = sum-ext _ _ n (λ i h. ap₂ mul (ea .at i) (eb .at i))
 
+pub other-c-fill : (n : ℕ) (a b : List ℕ) (c : ℕ) → otherC n (fill a) (fill b) c ≡ otherC n a b c
+unfolding otherC
+other-c-fill n a b c = ap (λ p. sub p c) (inner-same n (filled a) (filled b))
+
 module _ (party n c : ℕ) where
   share-same : {mx mx′ my my′ sx sx′ sy sy′ : List ℕ} → Same mx mx′ → Same my my′ → Same sx sx′ → Same sy sy′
       → share party n c mx my sx sy ≡ share party n c mx′ my′ sx′ sy′

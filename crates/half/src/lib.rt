@@ -1,1 +1,118 @@
 // Seals a half in blocks, and examines one (01, "The sealed half" and "When a call is turned down").
+ghost use mathlib.Core.Path.{_≡_};
+ghost use mathlib.Core.Bool.{true};
+ghost use Prim.Native.Nat.{_+_, _*_, _≤_, _^_, _<_};
+ghost use lib.ListN.{length};
+ghost use Rattle.words.specs.List.{over};
+ghost use Rattle.poly1305.specs.Poly1305.{number as numberOf};
+ghost use Rattle.aead.specs.Aead.{cipher};
+ghost use Rattle.content.specs.Content.{part, blocks, Proper};
+ghost use Rattle.half.specs.Half.{header as headerOf, block, firstBlocks, half, blockFits, firstFit, openedText, setNumber};
+use content::Set;
+
+// A block's first twelve bytes: the set's number and the block's index.
+fn header(number: u64, i: u32) -> [u8; 12]
+    ensures { λ r. ⌜ r ≡ headerOf number i ⌝ }
+{
+    let w = [
+        (number % 4294967296) as u32,
+        (number / 4294967296) as u32,
+        i,
+    ];
+    let mut out = [0u8; 12];
+    words::store_all(&mut out, 0, &w);
+    out
+}
+
+// Block i: 484 bytes of text, sealed.
+fn write_block(key: &[u8; 32], number: u64, i: u32, text: &[u8], out: &mut [u8])
+    requires { ⌜ (length (now text) ≡ 484) × (length (now out) ≡ 512) ⌝ }
+    ensures { λ _. ⌜ now (out .exit) ≡ block (now (key .entry)) number i (now (text .entry)) ⌝ }
+{
+    let h = header(number, i);
+    words::copy(out, 0, &h);
+    words::copy(out, 12, text);
+    let aad = h;
+    let sealed = aead::seal(key, &h, &aad, &mut out[12..496]);
+    let tag = sealed.tag;
+    words::copy(out, 496, &tag);
+}
+
+// The first `count` blocks of plain content p, from the start of out.
+fn write_blocks(key: &[u8; 32], number: u64, count: usize, p: &[u8], out: &mut [u8])
+    requires { ⌜ (count ≤ 16) × (484 * count ≤ length (now p)) × (512 * count ≤ length (now out)) ⌝ }
+    ensures { λ _. ⌜ now (out .exit) ≡ over 0 (firstBlocks (now (key .entry)) number (now (p .entry)) count) (now (out .entry)) ⌝ }
+{
+    let mut i: usize = 0;
+    while i < count {
+        write_block(
+            key,
+            number,
+            i as u32,
+            &p[484 * i..484 * i + 484],
+            &mut out[512 * i..512 * i + 512],
+        );
+        i += 1;
+    }
+}
+
+// A party's half of a set, from the start of out.
+pub fn write_half(key: &[u8; 32], name: [u8; 16], party: u32, s: Set, out: &mut [u8])
+    requires { ⌜ (party < 256) × (512 * blocks (s .n) ≤ length (now out)) ⌝ }
+    requires { ⌜ Proper s ⌝ }
+    ensures { λ _. ⌜ now (out .exit) ≡ over 0 (half (now (key .entry)) name party s) (now (out .entry)) ⌝ }
+{
+    let number = s.number;
+    let count = content::blocks_of(s.n);
+    let p = content::lay_out(name, party, s);
+    write_blocks(key, number, count, &p, out);
+}
+
+// The set number in a block's first eight bytes.
+fn load_number(b: &[u8]) -> u64
+    requires { ⌜ 8 ≤ length (now b) ⌝ }
+    ensures { λ r. ⌜ r ≡ setNumber (now (b .entry)) ⌝ }
+{
+    words::load(b, 0) as u64 + words::load(b, 4) as u64 * 4294967296
+}
+
+// Whether b is block i of the set; where it is, its text is opened into out.
+fn open_block(key: &[u8; 32], number: u64, i: u32, b: &[u8], out: &mut [u8]) -> bool
+    requires { ⌜ (length (now b) ≡ 512) × (length (now out) ≡ 484) ⌝ }
+    ensures { λ r. ⌜ r ≡ blockFits (now (key .entry)) number i (now (b .entry)) ⌝ }
+    ensures { λ r. ⌜ (r ≡ true → now (out .exit) ≡ cipher (now (key .entry)) (part 0 12 (now (b .entry))) (part 12 484 (now (b .entry)))) ⌝ }
+{
+    let mut nonce = [0u8; 12];
+    words::copy(&mut nonce, 0, &b[0..12]);
+    let aad = nonce;
+    let mut tag = [0u8; 16];
+    words::copy(&mut tag, 0, &b[496..512]);
+    words::copy(out, 0, &b[12..496]);
+    let opens = aead::open(key, &nonce, &aad, out, &tag);
+    let index = words::load(b, 8);
+    let set = load_number(b);
+    (index == i) & ((set == number) & opens)
+}
+
+// Whether the first `count` blocks of h are those of the set; where they are, their text is opened
+// into out.
+fn open_blocks(key: &[u8; 32], number: u64, count: usize, h: &[u8], out: &mut [u8]) -> bool
+    requires { ⌜ (count ≤ 16) × (512 * count ≤ length (now h)) × (length (now out) ≡ 484 * count) × (number ≡ setNumber (now h)) ⌝ }
+    ensures { λ r. ⌜ r ≡ firstFit (now (key .entry)) (now (h .entry)) count ⌝ }
+    ensures { λ r. ⌜ (r ≡ true → now (out .exit) ≡ openedText (now (key .entry)) (now (h .entry)) count) ⌝ }
+{
+    let mut fit = true;
+    let mut i: usize = 0;
+    while i < count {
+        let this = open_block(
+            key,
+            number,
+            i as u32,
+            &h[512 * i..512 * i + 512],
+            &mut out[484 * i..484 * i + 484],
+        );
+        fit = fit & this;
+        i += 1;
+    }
+    fit
+}

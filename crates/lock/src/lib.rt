@@ -1,4 +1,6 @@
-// The lock: joins the two boxes' answers to a yes or no. Its join is a C function too.
+// The lock: joins the two boxes' answers to a yes or no.
+ghost use mathlib.Core.Path.{_≡_};
+ghost use Rattle.lock.specs.Lock.{startLock, whyNotJoin, join as joinOf};
 use messages::Label;
 
 // The door's padded name and the last joined number.
@@ -14,4 +16,89 @@ pub struct LockAnswer {
     pub why: u32,
     pub lock: Lock,
     pub bit: u32,
+}
+
+impl Lock {
+    pub fn start(name: &[u8], floor: u64) -> LockAnswer
+        ensures { λ r. ⌜ r ≡ startLock (now (name .entry)) floor ⌝ }
+    {
+        if !messages::name_fits(name) {
+            return LockAnswer {
+                why: 1,
+                lock: Lock {
+                    name: [0; 16],
+                    last: 0,
+                },
+                bit: 0,
+            };
+        }
+        LockAnswer {
+            why: 0,
+            lock: Lock {
+                name: messages::padded(name),
+                last: floor,
+            },
+            bit: 0,
+        }
+    }
+
+    // Party 0's answer comes first.
+    pub fn join(
+        self,
+        label0: Label,
+        name0: &[u8],
+        answer0: u32,
+        label1: Label,
+        name1: &[u8],
+        answer1: u32,
+    ) -> LockAnswer
+        ensures { λ r. ⌜ r ≡ joinOf self label0 (now (name0 .entry)) answer0 label1 (now (name1 .entry)) answer1 ⌝ }
+    {
+        let why = why_not_join(self, label0, name0, answer0, label1, name1, answer1);
+        if why != 0 {
+            return LockAnswer {
+                why,
+                lock: self,
+                bit: 0,
+            };
+        }
+        let name = self.name;
+        LockAnswer {
+            why,
+            lock: Lock {
+                name,
+                last: label0.number,
+            },
+            bit: words::add(answer0, answer1),
+        }
+    }
+}
+
+fn why_not_join(
+    lock: Lock,
+    label0: Label,
+    name0: &[u8],
+    answer0: u32,
+    label1: Label,
+    name1: &[u8],
+    answer1: u32,
+) -> u32
+    ensures { λ r. ⌜ r ≡ whyNotJoin lock label0 (now (name0 .entry)) answer0 label1 (now (name1 .entry)) answer1 ⌝ }
+{
+    if !((name0.len() == 16) & (name1.len() == 16)) {
+        return 4;
+    }
+    let door = lock.name;
+    let first = messages::expected(2, door, 0, label0, name0);
+    let second = messages::expected(2, door, 1, label1, name1);
+    if !(first & second) {
+        return 6;
+    }
+    if !((lock.last < label0.number) & (label1.number == label0.number)) {
+        return 7;
+    }
+    if !(words::add(answer0, answer1) <= 1) {
+        return 12;
+    }
+    0
 }

@@ -35,13 +35,16 @@ startParty name party key floor =
     record { why = why; party = ifTaken why (idle (padded name) party key floor) noParty; word = 0 }
 
 -- 3: "or the state handed in holds a phase or party, or at its phase a code or L, that no call leaves"
-unfoldable pub stateFits : Party → Bool
-stateFits s =
-    leb (s .party) 1
-    && cond (eqb (s .phase) 0) (eqb (s .set .code) 0 && eqb (s .set .n) 0) (leb (s .phase) 3 && (isCode (s .set .code) && lengthFits (s .set .n)))
+unfoldable pub stateFits : ℕ → ℕ → ℕ → ℕ → Bool
+stateFits party phase code n =
+    leb party 1 && cond (eqb phase 0) (eqb code 0 && eqb n 0) (leb phase 3 && (isCode code && lengthFits n))
 
+unfoldable pub sound : Party → Bool
+sound s = stateFits (s .party) (s .phase) (s .set .code) (s .set .n)
+
+-- 3: "A box call is out of its turn"
 unfoldable pub inTurn : ℕ → Party → Bool
-inTurn phase s = eqb (s .phase) phase && stateFits s
+inTurn phase s = eqb (s .phase) phase && sound s
 
 -- load
 
@@ -140,7 +143,7 @@ finish s l name w =
 -- drop
 
 unfoldable pub whyNotDrop : Party → ℕ
-whyNotDrop s = unless (not (eqb (s .phase) 0) && stateFits s) 3 0
+whyNotDrop s = unless (not (eqb (s .phase) 0) && sound s) 3 0
 
 unfoldable pub drop : Party → PartyAnswer
 drop s =

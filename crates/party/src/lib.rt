@@ -1,6 +1,15 @@
 // A box: loads a half, masks its vector, takes the other's masked vector and word, and answers (01,
 // "One check at a box"). A call takes the state by value and hands the next one back; a refused one
 // hands it back as it was, with the refusal's number, and leaves every lent buffer as it was.
+ghost use mathlib.Core.Path.{_≡_};
+ghost use mathlib.Core.Bool.{Bool, not, _&&_};
+ghost use Prim.Native.Nat.{_-_, _≤_};
+ghost use lib.Dec.{eqb, leb};
+ghost use lib.ListN.{length};
+ghost use Rattle.measure.specs.Measure.{allInRange};
+ghost use Rattle.messages.specs.Messages.{unless, isKey, isName, expected, nameFits};
+ghost use Rattle.content.specs.Content.{lengthFits};
+ghost use Rattle.party.specs.Party.{idle as idleOf, whyNotParty, startParty, stateFits, load as loadOf, mask as maskOf, maskOut, take as takeOf, wordOf, finish as finishOf, drop as dropOf};
 use content::Set;
 use messages::Label;
 
@@ -26,4 +35,100 @@ pub struct PartyAnswer {
     pub why: u32,
     pub party: Party,
     pub word: u32,
+}
+
+fn length_fits(n: usize) -> bool
+    ensures { λ r. ⌜ r ≡ lengthFits n ⌝ }
+{
+    (1 <= n) & (n <= 512)
+}
+
+// Whether a call could have left this party, phase, code and length in a state.
+fn state_fits(party: u32, phase: u32, code: u32, n: usize) -> bool
+    ensures { λ r. ⌜ r ≡ stateFits party phase code n ⌝ }
+{
+    let empty = (code == 0) & (n == 0);
+    let opened = (phase <= 3) & (measure::is_code(code) & length_fits(n));
+    (party <= 1) & if phase == 0 { empty } else { opened }
+}
+
+// A box with no set open.
+fn idle(name: [u8; 16], party: u32, key: [u8; 32], last: u64) -> Party
+    ensures { λ r. ⌜ r ≡ idleOf name party key last ⌝ }
+{
+    Party {
+        name,
+        party,
+        key,
+        last,
+        phase: 0,
+        set: content::no_set(),
+        masked: [0; 512],
+        own: 0,
+        word: 0,
+    }
+}
+
+fn why_not_start(name: &[u8], party: u32, key: &[u8]) -> u32
+    ensures { λ r. ⌜ r ≡ whyNotParty (now (name .entry)) party (now (key .entry)) ⌝ }
+{
+    if !messages::name_fits(name) {
+        return 1;
+    }
+    if party > 1 {
+        return 2;
+    }
+    if key.len() != 32 {
+        return 4;
+    }
+    0
+}
+
+// Call 2's refusals, from what decides them: whether the state and the turn fit, the set's length
+// and code, the vector, and the room in the buffer.
+fn why_not_mask(turn: bool, n: usize, code: u32, v: &[u32], room: usize) -> u32
+    ensures { λ r. ⌜ r ≡ unless turn 3 (unless (eqb (length (now (v .entry))) n) 4 (unless (leb n room) 5 (unless (allInRange code (now (v .entry))) 8 0))) ⌝ }
+{
+    if !turn {
+        return 3;
+    }
+    if v.len() != n {
+        return 4;
+    }
+    if room < n {
+        return 5;
+    }
+    if !measure::all_in_range(code, v) {
+        return 8;
+    }
+    0
+}
+
+// The refusals of calls 3 and 4 after those of lengths: 6 and 7.
+fn why_not_message(fits: bool, number: u64, current: u64) -> u32
+    ensures { λ r. ⌜ r ≡ unless fits 6 (unless (eqb number current) 7 0) ⌝ }
+{
+    if !fits {
+        return 6;
+    }
+    if number != current {
+        return 7;
+    }
+    0
+}
+
+// A box's word: MX is party 0's masked vector, MY party 1's.
+fn word_of(set: Set, party: u32, masked: [u32; 512], own: u32, other: &[u32]) -> u32
+    requires { ⌜ (set .n ≤ 512) × (set .n ≤ length (now other)) ⌝ }
+    ensures { λ r. ⌜ r ≡ wordOf set party masked own (now (other .entry)) ⌝ }
+{
+    let n = set.n;
+    let x = set.x;
+    let y = set.y;
+    let share = if party == 0 {
+        share::share_of(party, n, set.c, &masked, other, &x, &y)
+    } else {
+        share::share_of(party, n, set.c, other, &masked, &x, &y)
+    };
+    share::word(set.code, share, own, set.r)
 }

@@ -3,16 +3,16 @@ use mathlib.Core.Path.{_≡_, refl, sym, ap, _∙_}
 use mathlib.Core.List.{List, [], _∷_, _++_}
 use Prim.Native.Nat.{ℕ, suc, _+_, _*_, _/_, _%_, _^_, _≤_, _<_}
 use native.Mathlib.Nat.{add-zero, pow-suc, add-mul-mod-self-right, add-mul-div-right}
-use native.Mathlib.Numerals.{add-one}
 use native.Mathlib.Omega.{arith}
 use lib.Dec.{T, ltb, lit<}
 use lib.ListN.{length, getD, take, drop, replicate, length-drop}
-use lib.Seq.{drop-cons, take-all, getD-take}
+use lib.Seq.{take-all, getD-take}
 use Rattle.algebra.specs.Mod.{m-eq}
 use Rattle.algebra.specs.Ring.{ring=, reify}
 use Rattle.words.specs.List.{over}
 use Rattle.words.specs.Bytes.{le32, wordAt}
 use Rattle.poly1305.specs.Poly1305.{number, bytes, clamp, rOf, sOf, tagOf}
+use Rattle.poly1305.specs.Numbers.{number4, last4, word, word-after}
 use Rattle.limbs.specs.Limbs.{words4, low128}
 
 -- ---- words out of bytes
@@ -21,35 +21,6 @@ pub number-append : (s t : List ℕ) → number (s ++ t) ≡ number s + 256 ^ le
 unfolding number
 number-append [] t = omega arith
 number-append (b ∷ s) t = rw (number-append s t, pow-suc) (omega arith)
-
-number4 : (a b c d : ℕ) (s : List ℕ) → number (a ∷ b ∷ c ∷ d ∷ s) ≡ a + b * 2 ^ 8 + c * 2 ^ 16 + d * 2 ^ 24 + number s * 2 ^ 32
-unfolding number
-number4 a b c d s = ring= _ _ (a ∷ b ∷ c ∷ d ∷ number s ∷ []) (search reify depth 40 fits 9000) refl
-
-last4 : (a b c d : ℕ) → number (a ∷ b ∷ c ∷ d ∷ []) ≡ a + b * 2 ^ 8 + c * 2 ^ 16 + d * 2 ^ 24 + 0 * 2 ^ 32
-unfolding number
-last4 a b c d = number4 a b c d []
-
-drop-one : (m : List ℕ) (i : ℕ) → i < length m → drop i m ≡ getD m i 0 ∷ drop (i + 1) m
-drop-one m i h = rw (add-one, drop-cons m i 0)
-
-drop-more : (m : List ℕ) (i k j : ℕ) → i + k < length m → i + k + 1 ≡ i + j → drop (i + k) m ≡ getD m (i + k) 0 ∷ drop (i + j) m
-drop-more m i k j h e = drop-one m (i + k) h ∙ ap (λ (n : ℕ). getD m (i + k) 0 ∷ drop n m) e
-
-word : (m : List ℕ) (i n : ℕ) → i + 4 ≤ length m → number (take (suc (suc (suc (suc n)))) (drop i m)) ≡ wordAt m i + number (take n (drop (i + 4) m)) * 2 ^ 32
-unfolding wordAt
-word m i n h = ap (λ (l : List ℕ). number (take (suc (suc (suc (suc n)))) l)) four ∙ number4 (getD m i 0) (getD m (i + 1) 0) (getD m (i + 2) 0) (getD m (i + 3) 0) (take n (drop (i + 4) m))
-  where
-    four : drop i m ≡ getD m i 0 ∷ getD m (i + 1) 0 ∷ getD m (i + 2) 0 ∷ getD m (i + 3) 0 ∷ drop (i + 4) m
-    four =
-        drop-one m i (omega arith)
-        ∙ ap (λ (l : List ℕ). getD m i 0 ∷ l) (drop-more m i 1 2 (omega arith) (omega arith)
-        ∙ ap (λ (l : List ℕ). getD m (i + 1) 0 ∷ l) (drop-more m i 2 3 (omega arith) (omega arith)
-        ∙ ap (λ (l : List ℕ). getD m (i + 2) 0 ∷ l) (drop-more m i 3 4 (omega arith) (omega arith))))
-
-word-after : (m : List ℕ) (i k j n : ℕ) → i + k + 4 ≤ length m → i + k + 4 ≡ i + j
-    → number (take (suc (suc (suc (suc n)))) (drop (i + k) m)) ≡ wordAt m (i + k) + number (take n (drop (i + j) m)) * 2 ^ 32
-word-after m i k j n h e = word m (i + k) n h ∙ ap (λ (x : ℕ). wordAt m (i + k) + number (take n (drop x m)) * 2 ^ 32) e
 
 -- four words, each with what is above it
 words : (w0 w1 w2 w3 : ℕ) {n0 n1 n2 n3 : ℕ} → n0 ≡ w0 + n1 * 2 ^ 32 → n1 ≡ w1 + n2 * 2 ^ 32 → n2 ≡ w2 + n3 * 2 ^ 32 → n3 ≡ w3 + 0 * 2 ^ 32

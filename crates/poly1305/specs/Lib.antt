@@ -1,3 +1,4 @@
 pub mod Poly1305
 pub mod Blocks
 pub mod Laws
+pub mod Numbers

@@ -1,15 +1,16 @@
 -- What the functions of this crate come to, over plain numbers and lists. Assumes nothing.
 use mathlib.Core.Path.{_≡_, refl, sym, _∙_, ap, ap₂}
 use mathlib.Core.Bool.{Bool, true, false}
-use mathlib.Core.List.{List}
-use Prim.Native.Nat.{ℕ, zero, suc, _+_, _-_, _/_, _%_, _^_, _<_}
+use mathlib.Core.List.{List, [], _∷_}
+use Prim.Native.Nat.{ℕ, _+_, _-_, _/_, _^_, _<_}
 use native.Mathlib.Omega.{arith}
 use lib.Dec.{ltb}
 use borrow.Author.Tests.{ltb-true, ltb-false}
 use lib.ListN.{getD, set}
-use Rattle.algebra.specs.Word.{add, sub, mul, sub-lt}
+use Rattle.algebra.specs.Word.{words, add, sub, mul, _≈_, add-lt, same-word}
 use Rattle.algebra.specs.Bit.{only, less, odd, less-lt, less-ge}
-use Rattle.algebra.specs.Sum.{sum-more}
+use Rattle.algebra.specs.Ring.{ring}
+use Rattle.algebra.specs.Sum.{sum, sum-more}
 use Rattle.words.specs.List.{over, tab, over-tab}
 use Rattle.share.specs.Share.{inner, share}
 
@@ -20,28 +21,29 @@ below-half z h = go (ltb z (2 ^ 31)) refl
     go true e = let l = ltb-true z (2 ^ 31) e in (let q : 1 - z / 2 ^ 31 ≡ 1 = omega arith in q) ∙ sym (less-lt z (2 ^ 31) l)
     go false e = let l = ltb-false z (2 ^ 31) e in (let q : 1 - z / 2 ^ 31 ≡ 0 = omega arith in q) ∙ sym (less-ge z (2 ^ 31) l)
 
--- party 0 adds nothing, party 1 the product of the masked vectors
-module _ (party n c : ℕ) (mx my sx sy : List ℕ) (p q d s : ℕ) (ep : p ≡ inner n mx sy) (eq : q ≡ inner n my sx) (ed : d ≡ sub c p) (es : s ≡ sub d q) where
-  difference : s ≡ sub (sub c (inner n mx sy)) (inner n my sx)
-  difference = es ∙ ap₂ sub (ed ∙ ap (sub c) ep) eq
+-- a share of no places, and one place more
+pub share-none : (party c : ℕ) (mx my sx sy : List ℕ) → c < 2 ^ 32 → c ≡ share party 0 c mx my sx sy
+unfolding share inner sum only
+share-none party c mx my sx sy h = same-word (zero-place (odd party) c) h (add-lt _ _)
+  where
+    zero-place : (b : Bool) (c : ℕ) → c ≈ add (sub (sub c 0) 0) (only b 0)
+    zero-place true c = ring (c ∷ []) (search words depth 40 fits 5000) refl
+    zero-place false c = ring (c ∷ []) (search words depth 40 fits 5000) refl
 
-  pub share-even : party % 2 ≡ 0 → s ≡ share party n c mx my sx sy
-  unfolding share odd only add
-  share-even e = difference ∙ rw e (plain (sub (sub c (inner n mx sy)) (inner n my sx)) (sub-lt _ _))
-    where
-      plain : (x : ℕ) → x < 2 ^ 32 → x ≡ (x + 0) % 2 ^ 32
-      plain x h = omega arith
+place-more : (b : Bool) (c p q r x y u v : ℕ)
+    → add (add (sub (sub c p) q) (only b r)) (sub (mul x (sub (only b y) v)) (mul y u))
+    ≈ add (sub (sub c (add p (mul x v))) (add q (mul y u))) (only b (add r (mul x y)))
+unfolding only
+place-more true c p q r x y u v = ring (c ∷ p ∷ q ∷ r ∷ x ∷ y ∷ u ∷ v ∷ []) (search words depth 40 fits 9000) refl
+place-more false c p q r x y u v = ring (c ∷ p ∷ q ∷ r ∷ x ∷ y ∷ u ∷ v ∷ []) (search words depth 40 fits 9000) refl
 
-  pub share-odd : (r k : ℕ) → (party % 2 ≡ 0 → ⊥) → k ≡ inner n mx my → r ≡ add s k → r ≡ share party n c mx my sx sy
-  unfolding share odd only
-  share-odd r k h ek er =
-      let e : party % 2 ≡ 1 = rest (party % 2) (omega arith) h in
-      rw e (er ∙ ap₂ add difference ek)
-    where
-      rest : (x : ℕ) → x < 2 → (x ≡ 0 → ⊥) → x ≡ 1
-      rest zero l h = absurd (h refl)
-      rest (suc zero) l h = refl
-      rest (suc (suc x)) l h = absurd (let no : ⊥ = omega arith in no)
+pub share-more : (party i c : ℕ) (mx my sx sy : List ℕ) (t o f a b d s : ℕ) → t ≡ share party i c mx my sx sy → o ≡ only (odd party) (getD my i 0) → f ≡ sub o (getD sy i 0)
+    → a ≡ mul (getD mx i 0) f → b ≡ mul (getD my i 0) (getD sx i 0) → d ≡ sub a b → s ≡ add t d → s ≡ share party (i + 1) c mx my sx sy
+unfolding share inner
+share-more party i c mx my sx sy t o f a b d s et eo ef ea eb ed es =
+    es ∙ ap₂ add et (ed ∙ ap₂ sub (ea ∙ ap (mul (getD mx i 0)) (ef ∙ ap (λ (x : ℕ). sub x (getD sy i 0)) eo)) eb)
+    ∙ same-word (place-more (odd party) c _ _ _ (getD mx i 0) (getD my i 0) (getD sx i 0) (getD sy i 0)) (add-lt _ _) (add-lt _ _)
+    ∙ rw (sum-more (λ j. mul (getD mx j 0) (getD sy j 0)) i, sum-more (λ j. mul (getD my j 0) (getD sx j 0)) i, sum-more (λ j. mul (getD mx j 0) (getD my j 0)) i) refl
 
 -- one place more of a sum of vectors and of a sum of products
 pub add-more : (a b out₀ out : List ℕ) (i v : ℕ) → out ≡ over 0 (tab (λ j. add (getD a j 0) (getD b j 0)) i) out₀ → v ≡ add (getD a i 0) (getD b i 0)

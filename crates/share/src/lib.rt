@@ -51,18 +51,21 @@ pub fn other_r(r: u32, t: u32, r0: u32) -> u32
 }
 
 // A party's share of the product, from the masked vectors mx and my and its shares sx and sy of the
-// two masks. Only party 1 adds the product of the masked vectors.
+// two masks. Only party 1 adds the product of the masked vectors: it is put together with mx times
+// sy, so that a place takes two products and not three.
 pub fn share_of(party: u32, n: usize, c: u32, mx: &[u32], my: &[u32], sx: &[u32], sy: &[u32]) -> u32
     requires { ⌜ (n ≤ length (now mx)) × (n ≤ length (now my)) × (n ≤ length (now sx)) × (n ≤ length (now sy)) ⌝ }
     ensures { λ r. ⌜ r ≡ shareOf party n c (now (mx .entry)) (now (my .entry)) (now (sx .entry)) (now (sy .entry)) ⌝ }
 {
-    let p = inner(n, mx, sy);
-    let q = inner(n, my, sx);
-    let s = words::sub(words::sub(c, p), q);
-    if party % 2 == 0 {
-        return s;
+    let mut total = c;
+    let mut i: usize = 0;
+    while i < n {
+        let factor = words::sub(node::only(party, my[i]), sy[i]);
+        let place = words::sub(words::mul(mx[i], factor), words::mul(my[i], sx[i]));
+        total = words::add(total, place);
+        i += 1;
     }
-    words::add(s, inner(n, mx, my))
+    total
 }
 
 // A box's word, from its share, its own term and its r word.

@@ -1,43 +1,105 @@
-use Rattle.share.proofs.Laws.{share-even, share-odd}
+use Rattle.share.proofs.Laws.{share-none, share-more}
+use Rattle.share.specs.Share.{share}
+use native.Mathlib.Omega.{arith}
+use Prim.Native.Nat.{_-_, _≤_}
+use mathlib.Core.Path.{_≡_}
 use borrow.Author.Needs.{needs}
 use Rattle.share.proofs.share_of.Statement.{statement}
 use Rattle.share.proofs.share_of.Tie as tie
 
-inner-requires : tie.Need-inner-requires
-inner-requires c κs = search needs
+abbrev Inv-loop : tie.InvT-loop
+Inv-loop party n c mx my sx sy total₀ i₀ total i = (i ≤ n) × (total ≡ share party i c mx my sx sy)
 
-inner-requires-2 : tie.Need-inner-requires-2
-inner-requires-2 c κs = search needs
+abbrev μ-loop : tie.MeasureT-loop
+μ-loop party n c mx my sx sy total₀ i₀ total i = n - i
 
-sub-requires : tie.Need-sub-requires
+loop-holds : tie.Need-loop-holds Inv-loop μ-loop
+loop-holds c = (search needs, share-none _ _ _ _ _ _ (search needs))
+
+mul-only : tie.Need-mul-only Inv-loop μ-loop
+mul-only c = search needs
+
+shared-slice-read-only : tie.Need-shared-slice-read-only Inv-loop μ-loop
+shared-slice-read-only c = search needs
+
+only-requires : tie.Need-only-requires Inv-loop μ-loop
+only-requires c κs = search needs
+
+mul-sub : tie.Need-mul-sub Inv-loop μ-loop
+mul-sub c = search needs
+
+shared-slice-read-sub : tie.Need-shared-slice-read-sub Inv-loop μ-loop
+shared-slice-read-sub c = search needs
+
+sub-requires : tie.Need-sub-requires Inv-loop μ-loop
 sub-requires c κs = search needs
 
-sub-requires-2 : tie.Need-sub-requires-2
+mul-mul : tie.Need-mul-mul Inv-loop μ-loop
+mul-mul c = search needs
+
+shared-slice-read-mul : tie.Need-shared-slice-read-mul Inv-loop μ-loop
+shared-slice-read-mul c = search needs
+
+mul-requires : tie.Need-mul-requires Inv-loop μ-loop
+mul-requires c κs = search needs
+
+mul-mul-2 : tie.Need-mul-mul-2 Inv-loop μ-loop
+mul-mul-2 c = search needs
+
+shared-slice-read-mul-2 : tie.Need-shared-slice-read-mul-2 Inv-loop μ-loop
+shared-slice-read-mul-2 c = search needs
+
+mul-mul-3 : tie.Need-mul-mul-3 Inv-loop μ-loop
+mul-mul-3 c = search needs
+
+shared-slice-read-mul-3 : tie.Need-shared-slice-read-mul-3 Inv-loop μ-loop
+shared-slice-read-mul-3 c = search needs
+
+mul-requires-2 : tie.Need-mul-requires-2 Inv-loop μ-loop
+mul-requires-2 c κs = search needs
+
+sub-requires-2 : tie.Need-sub-requires-2 Inv-loop μ-loop
 sub-requires-2 c κs = search needs
 
-returns : tie.Need-returns
-returns c =
-    share-even (c .before .before .before .before .before .before .before .before .before .args .party) (c .before .before .before .before .before .before .before .before .before .args .n) (c .before .before .before .before .before .before .before .before .before .args .c) _ _ _ _ _ _ _ _ (c .before .before .before .before .inner .ensures) (c .before .before .before .inner2 .ensures) (c .before .before .sub .ensures) (c .before .sub2 .ensures) (c .if1 .taken)
-
-inner-requires-3 : tie.Need-inner-requires-3
-inner-requires-3 c κs = search needs
-
-add-requires : tie.Need-add-requires
+add-requires : tie.Need-add-requires Inv-loop μ-loop
 add-requires c κs = search needs
 
-returns-2 : tie.Need-returns-2
-returns-2 c =
-    share-odd (c .before .before .before .before .before .before .before .before .before .before .before .args .party) (c .before .before .before .before .before .before .before .before .before .before .before .args .n) (c .before .before .before .before .before .before .before .before .before .before .before .args .c) _ _ _ _ _ _ _ _ (c .before .before .before .before .before .before .inner .ensures) (c .before .before .before .before .before .inner2 .ensures) (c .before .before .before .before .sub .ensures) (c .before .before .before .sub2 .ensures) _ _ (c .before .before .if1 .left) (c .before .inner3 .ensures) (c .add .ensures)
+add-i : tie.Need-add-i Inv-loop μ-loop
+add-i c = search needs
+
+loop-less : tie.Need-loop-less Inv-loop μ-loop
+loop-less c = search needs
+
+loop-again : tie.Need-loop-again Inv-loop μ-loop
+loop-again c = (search needs, share-more (c .before .before .before .before .before .before .before .before .before .before .before .before .before .before .before .before .before .args .party) (c .before .before .before .before .before .before .before .before .before .before .before .before .loop .i) (c .before .before .before .before .before .before .before .before .before .before .before .before .before .before .before .before .before .args .c) (c .before .before .before .before .before .before .before .before .before .before .before .before .before .before .before .before .before .args .mx .now) (c .before .before .before .before .before .before .before .before .before .before .before .before .before .before .before .before .before .args .my .now) (c .before .before .before .before .before .before .before .before .before .before .before .before .before .before .before .before .before .args .sx .now) (c .before .before .before .before .before .before .before .before .before .before .before .before .before .before .before .before .before .args .sy .now) _ _ _ _ _ _ _ (c .before .before .before .before .before .before .before .before .before .before .before .before .loop .inv .1) (c .before .before .before .before .before .before .before .before .before .only .ensures) (c .before .before .before .before .before .before .before .sub .ensures) (c .before .before .before .before .before .mul .ensures) (c .before .before .mul2 .ensures) (c .before .sub2 .ensures) (c .add .ensures))
+
+returns : tie.Need-returns Inv-loop μ-loop
+returns c = let done : c .before .loop .i ≡ c .before .before .before .before .before .before .args .n = omega arith in rw done at (c .before .loop .inv .1)
 
 pub share-of-spec : {M : Type 1} → statement M
 share-of-spec =
     tie.close
     (tie.spec
-    inner-requires
-    inner-requires-2
+    Inv-loop
+    μ-loop
+    loop-holds
+    mul-only
+    shared-slice-read-only
+    only-requires
+    mul-sub
+    shared-slice-read-sub
     sub-requires
+    mul-mul
+    shared-slice-read-mul
+    mul-requires
+    mul-mul-2
+    shared-slice-read-mul-2
+    mul-mul-3
+    shared-slice-read-mul-3
+    mul-requires-2
     sub-requires-2
-    returns
-    inner-requires-3
     add-requires
-    returns-2)
+    add-i
+    loop-less
+    loop-again
+    returns)

@@ -1,0 +1,208 @@
+-- A set that was laid out is read back, and its plain content fits. Assumes nothing.
+use mathlib.Core.Path.{_≡_, refl, sym, ap, ap₂, _∙_, subst}
+use mathlib.Core.Bool.{true, _&&_}
+use mathlib.Core.List.{List, [], _∷_, _++_, map, append-nil}
+use Prim.Native.Nat.{ℕ, zero, suc, _+_, _*_, _-_, _^_, _<_, _≤_}
+use native.Mathlib.Omega.{arith}
+use borrow.Author.Tests.{eq-eqb, le-leb, lt-ltb}
+use lib.ListN.{length, getD, take, drop, replicate, length-append, length-replicate, length-map}
+use lib.Seq.{take-at, drop-at, take-suc, take-all, getD-take, getD-drop, take-append-add}
+use Rattle.words.specs.List.{same, same-refl}
+use Rattle.words.specs.Bytes.{le32, bytesOf, wordAt, wordsAt, length-bytesOf}
+use Rattle.lanes.specs.Lanes.{flat}
+use Rattle.poly1305.specs.Poly1305.{bytes, number}
+use Rattle.node.specs.declared.Correction.{Correction}
+use Rattle.measure.specs.Measure.{isCode}
+use Rattle.content.specs.declared.Set.{Set}
+use Rattle.content.specs.Content.{part, fill, correctionBytes, fields, widths, size, blocks, plain, cut, lengthIn, field, correctionIn, correctionsIn, setIn, noCorrection, lengthFits, flagsFit, zeros, contentFits, Words, Filled, Corrections, Proper}
+use Rattle.content.specs.Pieces.{offset, length-flat, cut-flat, cut-at, part-flat, take-replicate, wordAt-past, getD-past, length-even, wordsAt-bytesOf, words-back, wordAt-le32}
+
+-- ---- sizes
+
+pub blocks-bounds : (n : ℕ) → 1 ≤ n → n ≤ 512 → (3 ≤ blocks n) × (blocks n ≤ 16)
+unfolding blocks size
+blocks-bounds n h k = (omega arith, omega arith)
+
+pub size-le : (n : ℕ) → size n ≤ 484 * blocks n
+unfolding blocks size
+size-le n = omega arith
+
+-- ---- an array of n words
+
+pub take-fill : (n : ℕ) (a l : List ℕ) → length l ≡ n → a ≡ fill l → take n a ≡ l
+unfolding fill
+take-fill n a l h e = ap (take n) e ∙ take-at l (replicate (512 - length l) 0) n h
+
+pub words-filled : (n : ℕ) (a : List ℕ) → Filled n a → Words n (take n a)
+unfolding Filled
+words-filled n a f = subst (Words n) (sym (take-fill n a (f .0) (f .1 .long) (f .2))) (f .1)
+
+-- read back from its bytes
+pub fill-filled : (n : ℕ) (a : List ℕ) → Filled n a → fill (wordsAt n (bytesOf (take n a))) ≡ a
+unfolding Filled
+fill-filled n a f = ap fill (words-back n (take n a) (words-filled n a f) ∙ take-fill n a (f .0) (f .1 .long) (f .2)) ∙ sym (f .2)
+
+-- ---- corrections
+
+pub length-correctionBytes : (c : Correction) → length (c .seed) ≡ 8 → length (correctionBytes c) ≡ 37
+unfolding correctionBytes le32
+length-correctionBytes c h = length-append (bytesOf (c .seed)) (le32 (c .word) ++ (c .flags ∷ [])) ∙ omega (arith, length-bytesOf (c .seed))
+
+getD-map : (f : Correction → List ℕ) (cs : List Correction) (i : ℕ) → i < length cs → getD (map f cs) i [] ≡ f (getD cs i noCorrection)
+getD-map f [] i h = absurd (omega arith)
+getD-map f (c ∷ cs) zero h = refl
+getD-map f (c ∷ cs) (suc i) h = getD-map f cs i (omega arith)
+
+-- a correction's own bytes
+pub correction-back : (c : Correction) (f : List ℕ) (i : ℕ) → part (37 * i) 37 f ≡ correctionBytes c → Words 8 (c .seed) → c .word < 2 ^ 32 → correctionIn f i ≡ c
+unfolding correctionIn correctionBytes le32
+correction-back c f i e seed word =
+    let rest : List ℕ = le32 (c .word) ++ (c .flags ∷ []) in
+    let long : length (bytesOf (c .seed)) ≡ 32 = length-bytesOf (c .seed) ∙ omega (arith, seed .long) in
+    let s = ap (wordsAt 8) e ∙ wordsAt-bytesOf 8 (c .seed) rest seed in
+    let w = ap (λ (b : List ℕ). wordAt b 32) e ∙ wordAt-past (bytesOf (c .seed)) rest 32 0 long ∙ wordAt-le32 (c .word) (c .flags ∷ []) word in
+    let g = ap (λ (b : List ℕ). getD b 36 0) e ∙ getD-past (bytesOf (c .seed)) rest 32 4 long in
+    λ k. record { seed = s k; word = w k; flags = g k }
+
+module _ (cs : List Correction) (fit : Corrections cs) where
+  each : (i : ℕ) → i < length cs → length (getD (map correctionBytes cs) i []) ≡ 37
+  unfolding Corrections
+  each i h = ap length (getD-map correctionBytes cs i h) ∙ length-correctionBytes (getD cs i noCorrection) (fit i h .0 .long)
+
+  length-corrections : length (flat (map correctionBytes cs)) ≡ 37 * length cs
+  length-corrections = length-even 37 (map correctionBytes cs) (λ i h. each i (rw length-map at h)) ∙ rw length-map refl
+
+  corrections-back : (k : ℕ) → k ≤ length cs → correctionsIn (flat (map correctionBytes cs)) k ≡ take k cs
+  unfolding correctionsIn Corrections
+  corrections-back zero h = refl
+  corrections-back (suc k) h =
+      let l : k < length cs = omega arith in
+      let at = part-flat 37 (map correctionBytes cs) k (λ i li. each i (rw length-map at li)) (rw length-map l) ∙ getD-map correctionBytes cs k l in
+      ap₂ (λ (p : List Correction) (c : Correction). p ++ (c ∷ [])) (corrections-back k (omega arith)) (correction-back (getD cs k noCorrection) (flat (map correctionBytes cs)) k at (fit k l .0) (fit k l .1)) ∙ sym (take-suc cs k noCorrection l)
+
+-- ---- what contentFits asks
+
+flags-fit : (cs : List Correction) → Corrections cs → flagsFit cs ≡ true
+unfolding flagsFit Corrections
+flags-fit [] h = refl
+flags-fit (c ∷ cs) h = ap₂ _&&_ (lt-ltb (c .flags) 4 (h 0 (omega arith) .2)) (flags-fit cs (λ i l. h (suc i) (omega arith)))
+
+pub zeros-replicate : (k : ℕ) → zeros (replicate k 0) ≡ true
+unfolding zeros
+zeros-replicate zero = refl
+zeros-replicate (suc k) = zeros-replicate k
+
+-- ---- L is read from bytes 18 and 19
+
+pub lengthIn-bytes : (b : List ℕ) → lengthIn b ≡ getD b 18 0 + 256 * getD b 19 0
+unfolding lengthIn part number
+lengthIn-bytes b = two (drop 18 b) ∙ ap₂ (λ (x y : ℕ). x + 256 * y) (getD-drop 18 b 0 0) (getD-drop 18 b 1 0)
+  where
+    two : (l : List ℕ) → number (take 2 l) ≡ getD l 0 0 + 256 * getD l 1 0
+    two [] = refl
+    two (x ∷ []) = refl
+    two (x ∷ y ∷ l) = omega arith
+
+-- so that any list that begins as b does has b's L
+pub lengthIn-take : (k : ℕ) (b : List ℕ) → 20 ≤ k → lengthIn (take k b) ≡ lengthIn b
+lengthIn-take k b h =
+    lengthIn-bytes (take k b) ∙ ap₂ (λ (x y : ℕ). x + 256 * y) (getD-take k b 18 0 (omega arith)) (getD-take k b 19 0 (omega arith)) ∙ sym (lengthIn-bytes b)
+
+pub lengthIn-agree : (k : ℕ) (a b : List ℕ) → 20 ≤ k → take k a ≡ take k b → lengthIn a ≡ lengthIn b
+lengthIn-agree k a b h e = sym (lengthIn-take k a h) ∙ ap lengthIn e ∙ lengthIn-take k b h
+
+-- ---- plain content
+
+module _ (name : List ℕ) (party : ℕ) (s : Set) (named : length name ≡ 16) (p : Proper s) where
+  vector : (a : List ℕ) → Filled (s .n) a → length (bytesOf (take (s .n) a)) ≡ 4 * s .n
+  vector a f = length-bytesOf (take (s .n) a) ∙ ap (λ (k : ℕ). 4 * k) (words-filled (s .n) a f .long)
+
+  lengths : map length (fields name party s) ≡ widths (s .n)
+  unfolding fields widths bytes le32
+  lengths =
+      let m = vector (s .mask) (p .masked) in
+      let x = vector (s .x) (p .x-filled) in
+      let y = vector (s .y) (p .y-filled) in
+      let e : length (bytesOf (s .seed)) ≡ 32 = length-bytesOf (s .seed) ∙ omega (arith, p .seed-fits .long) in
+      let c : length (flat (map correctionBytes (s .key .corrections))) ≡ 32 * 37 = length-corrections (s .key .corrections) (p .corrections-fit) ∙ omega (arith, p .levels) in
+      λ k. named k ∷ 1 ∷ 1 ∷ 2 ∷ m k ∷ x k ∷ y k ∷ 4 ∷ 4 ∷ e k ∷ c k ∷ 4 ∷ []
+
+  pub length-fields : length (flat (fields name party s)) ≡ size (s .n)
+  unfolding size widths offset fields
+  length-fields = length-flat (fields name party s) ∙ ap (λ (ws : List ℕ). offset ws 12) lengths ∙ omega arith
+
+  pub length-plain : length (plain name party s) ≡ 484 * blocks (s .n)
+  unfolding plain
+  length-plain =
+      length-append (flat (fields name party s)) (replicate (484 * blocks (s .n) - size (s .n)) 0)
+      ∙ omega (arith, length-fields, length-replicate {A = ℕ} (484 * blocks (s .n) - size (s .n)) 0, size-le (s .n))
+
+  -- laid out in an array of 16 blocks, the plain content is what its own blocks hold
+  pub take-laid : take (484 * blocks (s .n)) (flat (fields name party s) ++ replicate (7744 - size (s .n)) 0) ≡ plain name party s
+  unfolding plain
+  take-laid =
+      let f = flat (fields name party s) in
+      let z : List ℕ = replicate (7744 - size (s .n)) 0 in
+      let k = 484 * blocks (s .n) - size (s .n) in
+      let e : 484 * blocks (s .n) ≡ length f + k = omega (arith, length-fields, size-le (s .n)) in
+      ap (λ (i : ℕ). take i (f ++ z)) e ∙ take-append-add f z k
+      ∙ ap (λ (l : List ℕ). f ++ l) (take-replicate k (7744 - size (s .n)) (omega (arith, blocks-bounds (s .n) (p .some) (p .most))))
+
+  drop-plain : drop (size (s .n)) (plain name party s) ≡ replicate (484 * blocks (s .n) - size (s .n)) 0
+  unfolding plain
+  drop-plain = drop-at (flat (fields name party s)) (replicate (484 * blocks (s .n) - size (s .n)) 0) (size (s .n)) length-fields
+
+  cut-plain : cut (widths (s .n)) (plain name party s) ≡ fields name party s
+  unfolding plain
+  cut-plain = cut-flat (widths (s .n)) (fields name party s) (replicate (484 * blocks (s .n) - size (s .n)) 0) lengths
+
+  pub lengthIn-plain : lengthIn (plain name party s) ≡ s .n
+  unfolding lengthIn widths offset fields bytes number
+  lengthIn-plain =
+      let at : part 18 2 (plain name party s) ≡ bytes 2 (s .n) = sym (cut-at (widths (s .n)) (plain name party s) 3) ∙ ap (λ (f : List (List ℕ)). getD f 3 []) cut-plain in
+      ap number at ∙ omega (arith, p .most)
+
+  pub field-plain : (i : ℕ) → field (plain name party s) i ≡ getD (fields name party s) i []
+  unfolding field
+  field-plain i = ap (λ (n : ℕ). getD (cut (widths n) (plain name party s)) i []) lengthIn-plain ∙ ap (λ (f : List (List ℕ)). getD f i []) cut-plain
+
+  array : (i : ℕ) (a : List ℕ) → getD (fields name party s) i [] ≡ bytesOf (take (s .n) a) → Filled (s .n) a → fill (wordsAt (lengthIn (plain name party s)) (field (plain name party s) i)) ≡ a
+  array i a e f = ap₂ (λ (n : ℕ) (b : List ℕ). fill (wordsAt n b)) lengthIn-plain (field-plain i ∙ e) ∙ fill-filled (s .n) a f
+
+  word : (i x : ℕ) → getD (fields name party s) i [] ≡ le32 x → x < 2 ^ 32 → wordAt (field (plain name party s) i) 0 ≡ x
+  word i x e h = ap (λ (b : List ℕ). wordAt b 0) (field-plain i ∙ e ∙ sym (append-nil (le32 x))) ∙ wordAt-le32 x [] h
+
+  corrections : correctionsIn (field (plain name party s) 10) 32 ≡ s .key .corrections
+  unfolding fields
+  corrections =
+      ap (λ (b : List ℕ). correctionsIn b 32) (field-plain 10)
+      ∙ corrections-back (s .key .corrections) (p .corrections-fit) 32 (omega (arith, p .levels))
+      ∙ take-all 32 (s .key .corrections) (omega (arith, p .levels))
+
+  -- what was laid out is read back
+  pub setIn-plain : setIn (s .number) (plain name party s) ≡ s
+  unfolding setIn fields
+  setIn-plain =
+      let code = ap (λ (b : List ℕ). getD b 0 0) (field-plain 2) in
+      let n = lengthIn-plain in
+      let mask = array 4 (s .mask) refl (p .masked) in
+      let x = array 5 (s .x) refl (p .x-filled) in
+      let y = array 6 (s .y) refl (p .y-filled) in
+      let c = word 7 (s .c) refl (p .c-fits) in
+      let r = word 8 (s .r) refl (p .r-fits) in
+      let seed = ap (wordsAt 8) (field-plain 9) ∙ words-back 8 (s .seed) (p .seed-fits) in
+      let last = word 11 (s .key .last) refl (p .last-fits) in
+      λ k. record { number = s .number; code = code k; n = n k; mask = mask k; x = x k; y = y k; c = c k; r = r k; seed = seed k; key = record { corrections = corrections k; last = last k } }
+
+  -- and it fits
+  pub fits-plain : contentFits name party (blocks (s .n)) (plain name party s) ≡ true
+  unfolding contentFits setIn lengthFits fields
+  fits-plain =
+      let named : same (field (plain name party s) 0) name ≡ true = ap (λ (b : List ℕ). same b name) (field-plain 0) ∙ same-refl name in
+      let owned = eq-eqb (getD (field (plain name party s) 1) 0 0) party (ap (λ (b : List ℕ). getD b 0 0) (field-plain 1)) in
+      let code = ap (λ (b : List ℕ). isCode (getD b 0 0)) (field-plain 2) ∙ p .code-fits in
+      let long = ap lengthFits lengthIn-plain ∙ ap₂ _&&_ (le-leb 1 (s .n) (p .some)) (le-leb (s .n) 512 (p .most)) in
+      let count = eq-eqb (blocks (lengthIn (plain name party s))) (blocks (s .n)) (ap blocks lengthIn-plain) in
+      let flags = ap flagsFit corrections ∙ flags-fit (s .key .corrections) (p .corrections-fit) in
+      let rest = ap (λ (n : ℕ). zeros (drop (size n) (plain name party s))) lengthIn-plain ∙ ap zeros drop-plain ∙ zeros-replicate (484 * blocks (s .n) - size (s .n)) in
+      ap₂ _&&_ named (ap₂ _&&_ owned (ap₂ _&&_ code (ap₂ _&&_ long (ap₂ _&&_ count (ap₂ _&&_ flags rest)))))

@@ -1,0 +1,42 @@
+use native.Mathlib.Omega.{arith}
+use borrow.Author.Needs.{needs}
+use Rattle.dealing.specs.Dealing.{x, y}
+use Rattle.dealing.proofs.Laws.{at-most}
+use Rattle.dealing.proofs.set_for.Statement.{statement}
+use Rattle.dealing.proofs.set_for.Tie as tie
+
+mul-words-from : tie.Need-mul-words-from
+mul-words-from c = omega (arith, at-most (c .before .args .party) (c .before .args .n) (c .before .pre .0))
+
+words-from-requires : tie.Need-words-from-requires
+words-from-requires c κs = (c .before .pre .1, omega (arith, at-most (c .before .args .party) (c .before .args .n) (c .before .pre .0)))
+
+add-words-from : tie.Need-add-words-from
+add-words-from c = search needs
+
+mul-words-from-2 : tie.Need-mul-words-from-2
+mul-words-from-2 c = omega (arith, at-most (c .before .before .args .party) (c .before .before .args .n) (c .before .before .pre .0))
+
+words-from-requires-2 : tie.Need-words-from-requires-2
+words-from-requires-2 c κs = (c .before .before .pre .1, omega (arith, at-most (c .before .before .args .party) (c .before .before .args .n) (c .before .before .pre .0)))
+
+key-seed-requires : tie.Need-key-seed-requires
+key-seed-requires c κs = search needs
+
+returns : tie.Need-returns
+unfolding x y
+returns c =
+    let a = c .before .before .before .before .args in
+    λ i. record { number = a .number; code = a .code; n = a .n; mask = a .mask; x = c .before .before .words-from .ensures i; y = c .before .words-from2 .ensures i; c = a .c; r = a .r; seed = c .key-seed .ensures i; key = a .key }
+
+pub set-for-spec : {M : Type 1} → statement M
+set-for-spec =
+    tie.close
+    (tie.spec
+    mul-words-from
+    words-from-requires
+    add-words-from
+    mul-words-from-2
+    words-from-requires-2
+    key-seed-requires
+    returns)

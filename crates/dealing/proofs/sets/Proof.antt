@@ -1,0 +1,42 @@
+use mathlib.Core.Path.{sym}
+use Prim.Native.Nat.{_+_, _*_}
+use native.Mathlib.Omega.{arith}
+use lib.Seq.{length-take-le}
+use borrow.Author.Needs.{needs}
+use Rattle.dealing.specs.Dealing.{dealtSet}
+use Rattle.dealing.proofs.sets.Statement.{statement}
+use Rattle.dealing.proofs.sets.Tie as tie
+
+draw-requires : tie.Need-draw-requires
+draw-requires c κs = search needs
+
+mul-end : tie.Need-mul-end
+mul-end c = search needs
+
+add-end : tie.Need-add-end
+add-end c = search needs
+
+array-share-prefix-w : tie.Need-array-share-prefix-w
+array-share-prefix-w c = search needs
+
+slice-aggregate-sets-from : tie.Need-slice-aggregate-sets-from
+slice-aggregate-sets-from c = sym (length-take-le _ _ (search needs))
+
+sets-from-requires : tie.Need-sets-from-requires
+sets-from-requires c κs = (search needs, omega (arith, length-take-le (4 * c .before .before .args .n + 19) (c .before .draw .result) (search needs)))
+
+returns : tie.Need-returns
+unfolding dealtSet
+returns c = rw (c .before .before .draw .ensures) at (c .sets-from .ensures)
+
+pub sets-spec : {M : Type 1} → statement M
+sets-spec =
+    tie.close
+    (tie.spec
+    draw-requires
+    mul-end
+    add-end
+    array-share-prefix-w
+    slice-aggregate-sets-from
+    sets-from-requires
+    returns)

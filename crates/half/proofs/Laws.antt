@@ -1,0 +1,234 @@
+-- What the code of sealing and opening blocks comes to. Assumes nothing.
+use mathlib.Core.Path.{_≡_, refl, sym, ap, ap₂, _∙_}
+use mathlib.Core.Bool.{Bool, true, false, _&&_, true≢false}
+use mathlib.Core.List.{List, [], _∷_, _++_, append-assoc, append-nil}
+use Prim.Native.Nat.{ℕ, zero, suc, _+_, _*_, _-_, _/_, _%_, _^_, _≤_, _<_}
+use native.Mathlib.Omega.{arith}
+use native.Mathlib.Numerals.{add-one}
+use borrow.Author.Tests.{le-leb, ltb-true}
+use borrow.Rule.Slice.PartMut.{putMid}
+use lib.Dec.{eqb}
+use lib.ListN.{length, getD, take-append-drop, take, drop, replicate, length-append, length-drop, drop-of-length-le}
+use lib.Seq.{length-take-le, take-at, drop-at, drop-append-add, drop-drop}
+use Rattle.words.specs.List.{over, over-eq, over-all, over-next}
+use Rattle.words.specs.Bytes.{le32, bytesOf, wordAt}
+use Rattle.poly1305.specs.Numbers.{eight, four, number-word, number-words}
+use Rattle.aead.specs.declared.Sealed.{Sealed}
+use Rattle.aead.specs.Aead.{cipher, tagFor, within, sealed, sealedText, opens, openedText as openedTextOf}
+use Rattle.aead.specs.Claims.{length-cipher}
+use Rattle.lanes.specs.Lanes.{flat}
+use Rattle.measure.specs.Measure.{isCode}
+use Rattle.node.specs.declared.Correction.{Correction}
+use Rattle.node.specs.Node.{none}
+use Rattle.content.specs.declared.Set.{Set}
+use Rattle.content.specs.Content.{part, fields, size, blocks, noCorrection, Corrections, Proper}
+use Rattle.content.specs.Bytes.{FlagBytes}
+use Rattle.content.specs.Laws.{blocks-bounds, take-laid}
+use Rattle.half.specs.Half.{header, block, firstBlocks, half, setNumber, blockFits, firstFit, blockAt, openedText}
+use Rattle.half.specs.Laws.{part-front, length-tag, length-block, length-blocks, length-part}
+
+pub header-law : (a i : ℕ) (out t : List ℕ) → length out ≡ 12 → t ≡ over 0 (bytesOf (a % 2 ^ 32 ∷ a / 2 ^ 32 ∷ i ∷ [])) out → t ≡ header a i
+unfolding bytesOf le32 header
+header-law a i out t size e =
+    e ∙ over-all (bytesOf (a % 2 ^ 32 ∷ a / 2 ^ 32 ∷ i ∷ [])) out (sym size) ∙ ap₂ (λ (x y : List ℕ). x ++ y) (eight a) (four i)
+
+-- ---- a block
+
+-- written over what follows a front
+over-after : (a p s : List ℕ) (n : ℕ) → length a ≡ n → length p ≤ length s → over n p (a ++ s) ≡ a ++ (p ++ drop (length p) s)
+over-after a p s n e h =
+    over-eq p (a ++ s) n (omega (arith, length-append a s))
+    ∙ ap₂ (λ (x y : List ℕ). x ++ p ++ y) (take-at a s n e) (ap (λ (k : ℕ). drop (k + length p) (a ++ s)) (sym e) ∙ drop-append-add a s (length p))
+    ∙ append-assoc a p (drop (length p) s)
+
+module _ (key h text out0 : List ℕ) (lh : length h ≡ 12) (lt : length text ≡ 484) (lo : length out0 ≡ 512) where
+  abbrev rest : List ℕ
+  rest = drop 484 (drop 12 out0)
+
+  -- after the two copies
+  two : (out1 out2 : List ℕ) → out1 ≡ over 0 h out0 → out2 ≡ over 12 text out1 → out2 ≡ h ++ (text ++ rest)
+  two out1 out2 e f =
+      let first : out1 ≡ h ++ drop 12 out0 = e ∙ over-after [] h out0 0 refl (omega arith) ∙ ap (λ (k : ℕ). h ++ drop k out0) lh in
+      f ∙ ap (over 12 text) first ∙ over-after h text (drop 12 out0) 12 lh (omega (arith, length-drop 12 out0)) ∙ ap (λ (k : ℕ). h ++ (text ++ drop k (drop 12 out0))) lt
+
+  module _ (out1 out2 y out : List ℕ) (s : Sealed) (e1 : out1 ≡ over 0 h out0) (e2 : out2 ≡ over 12 text out1) where
+    middle : take 484 (drop 12 out2) ≡ text
+    middle = ap (λ (l : List ℕ). take 484 (drop 12 l)) (two out1 out2 e1 e2) ∙ ap (take 484) (drop-at h (text ++ rest) 12 lh) ∙ take-at text rest 484 lt
+
+    put : length y ≡ 484 → putMid 12 484 out2 y ≡ h ++ (y ++ rest)
+    put ly =
+        ap (λ (l : List ℕ). putMid 12 484 l y) (two out1 out2 e1 e2)
+        ∙ ap₂ (λ (a b : List ℕ). a ++ (y ++ b)) (take-at h (text ++ rest) 12 lh) (ap (drop 484) (drop-at h (text ++ rest) 12 lh) ∙ drop-at text rest 484 lt)
+
+    length-rest : length rest ≡ 16
+    length-rest = omega (arith, length-drop 484 (drop 12 out0), length-drop 12 out0)
+
+    sealed-is : y ≡ sealedText key h (take 484 (drop 12 out2)) → y ≡ cipher key h text
+    unfolding sealedText within
+    sealed-is e = e ∙ ap (sealedText key h) middle ∙ rw (le-leb (length text) ((2 ^ 32 - 1) * 64) (omega arith)) refl
+
+    tag-is : s ≡ sealed key h h (take 484 (drop 12 out2)) → s .tag ≡ tagFor key h h (cipher key h text)
+    unfolding sealed within
+    tag-is e = ap (λ z. z .tag) e ∙ ap (λ (l : List ℕ). sealed key h h l .tag) middle ∙ rw (le-leb (length text) ((2 ^ 32 - 1) * 64) (omega arith)) refl
+
+    pub length-put : y ≡ sealedText key h (take 484 (drop 12 out2)) → length (putMid 12 484 out2 y) ≡ 512
+    length-put e =
+        let ly : length y ≡ 484 = ap length (sealed-is e) ∙ length-cipher key h text ∙ lt in
+        ap length (put ly) ∙ omega (arith, length-append h (y ++ rest), length-append y rest, length-rest)
+
+    pub length-tag-is : s ≡ sealed key h h (take 484 (drop 12 out2)) → length (s .tag) ≡ 16
+    length-tag-is e = ap length (tag-is e) ∙ length-tag key h h (cipher key h text)
+
+    pub write-law : y ≡ sealedText key h (take 484 (drop 12 out2)) → s ≡ sealed key h h (take 484 (drop 12 out2)) → out ≡ over 496 (s .tag) (putMid 12 484 out2 y)
+        → out ≡ h ++ (cipher key h text ++ tagFor key h h (cipher key h text))
+    write-law e g f =
+        let ly : length y ≡ 484 = ap length (sealed-is e) ∙ length-cipher key h text ∙ lt in
+        let lf : length (h ++ y) ≡ 496 = omega (arith, length-append h y) in
+        let end : length rest ≤ length (s .tag) = omega (arith, length-rest, length-tag-is g) in
+        f ∙ ap (over 496 (s .tag)) (put ly ∙ sym (append-assoc h y rest))
+        ∙ over-after (h ++ y) (s .tag) rest 496 lf (omega (arith, length-rest, length-tag-is g))
+        ∙ append-assoc h y (s .tag ++ drop (length (s .tag)) rest)
+        ∙ ap (λ (l : List ℕ). h ++ (y ++ l)) (ap (λ (l : List ℕ). s .tag ++ l) (drop-of-length-le rest end) ∙ append-nil (s .tag))
+        ∙ ap₂ (λ (a b : List ℕ). h ++ (a ++ b)) (sealed-is e) (tag-is g)
+
+  pub is-block : (set i : ℕ) → h ≡ header set i → h ++ (cipher key h text ++ tagFor key h h (cipher key h text)) ≡ block key set i text
+  unfolding block
+  is-block set i e = ap (λ (l : List ℕ). l ++ (cipher key l text ++ tagFor key l l (cipher key l text))) e
+
+-- ---- blocks one after the other
+
+-- a part put back is written over what was there
+pub put-over : (a k : ℕ) (xs ys : List ℕ) → length ys ≡ k → a + k ≤ length xs → putMid a k xs ys ≡ over a ys xs
+put-over a k xs ys e h =
+    ap (λ (l : List ℕ). take a xs ++ (ys ++ l)) (drop-drop k a xs ∙ ap (λ (n : ℕ). drop (a + n) xs) (sym e))
+    ∙ sym (over-eq ys xs a (omega arith) ∙ append-assoc (take a xs) ys (drop (a + length ys) xs))
+
+-- one block more
+pub blocks-more : (key p out0 out b : List ℕ) (set i k m : ℕ) → 484 * (i + 1) ≤ length p → 512 * (i + 1) ≤ length out0 → length out ≡ length out0 → k ≡ 484 → m ≡ 512
+    → out ≡ over 0 (firstBlocks key set p i) out0 → b ≡ block key set i (take k (drop (484 * i) p)) → putMid (512 * i) m out b ≡ over 0 (firstBlocks key set p (i + 1)) out0
+unfolding firstBlocks part
+blocks-more key p out0 out b set i k m lp lo same ek em e eb =
+    let text : List ℕ = part (484 * i) 484 p in
+    let is : b ≡ block key set i text = eb ∙ ap (λ (n : ℕ). block key set i (take n (drop (484 * i) p))) ek in
+    let lb : length b ≡ 512 = ap length is ∙ length-block key set i text (length-part p (484 * i) 484 (omega arith)) in
+    rw (add-one i)
+    (over-next (firstBlocks key set p i) (block key set i text) out0 out (putMid (512 * i) m out b) 0 (512 * i) (length-blocks key set p i (omega arith)) e
+    (put-over (512 * i) m out b (lb ∙ sym em) (omega arith) ∙ ap₂ (λ (n : ℕ) (l : List ℕ). over n l out) (omega arith) is))
+
+-- ---- a half
+
+-- blocks of a front that holds them
+firstBlocks-take : (key p : List ℕ) (set m k : ℕ) → m ≤ length p → 484 * k ≤ m → firstBlocks key set p k ≡ firstBlocks key set (take m p) k
+unfolding firstBlocks
+firstBlocks-take key p set m zero h l = refl
+firstBlocks-take key p set m (suc k) h l =
+    let front : part (484 * k) 484 p ≡ part (484 * k) 484 (take m p) =
+    ap (part (484 * k) 484) (sym (take-append-drop m p)) ∙ part-front (take m p) (drop m p) (484 * k) 484 (omega (arith, length-take-le m p h)) in
+    ap₂ (λ (a b : List ℕ). a ++ block key set k b) (firstBlocks-take key p set m k h (omega arith)) front
+
+module _ (key name : List ℕ) (party : ℕ) (s : Set) (named : length name ≡ 16) (p : Proper s) where
+  pub code-byte : s .code < 256
+  unfolding isCode
+  code-byte = omega (arith, ltb-true (s .code) 3 (p .code-fits))
+
+  pub flag-bytes : FlagBytes (s .key .corrections)
+  unfolding FlagBytes Corrections
+  flag-bytes i l = rw (getD-any (s .key .corrections) i none noCorrection l) (omega (arith, p .corrections-fit i l .2))
+    where
+      getD-any : (l : List Correction) (i : ℕ) (d e : Correction) → i < length l → getD l i d ≡ getD l i e
+      getD-any [] i d e h = absurd (omega arith)
+      getD-any (x ∷ l) zero d e h = refl
+      getD-any (x ∷ l) (suc i) d e h = getD-any l i d e (omega arith)
+
+  pub few-blocks : blocks (s .n) ≤ 16
+  few-blocks = blocks-bounds (s .n) (p .some) (p .most) .1
+
+  pub half-law : (laid out0 out : List ℕ) (count : ℕ) → laid ≡ flat (fields name party s) ++ replicate (7744 - size (s .n)) 0 → length laid ≡ 7744 → count ≡ blocks (s .n)
+      → out ≡ over 0 (firstBlocks key (s .number) laid count) out0 → out ≡ over 0 (half key name party s) out0
+  unfolding half
+  half-law laid out0 out count e size ec eo =
+      eo
+      ∙ ap (λ (l : List ℕ). over 0 l out0)
+      (ap (firstBlocks key (s .number) laid) ec
+      ∙ firstBlocks-take key laid (s .number) (484 * blocks (s .n)) (blocks (s .n)) (omega (arith, few-blocks)) (omega arith)
+      ∙ ap (λ (l : List ℕ). firstBlocks key (s .number) l (blocks (s .n))) (ap (take (484 * blocks (s .n))) e ∙ take-laid name party s named p))
+
+-- ---- opening
+
+last-true : (a b c : Bool) → a && (b && c) ≡ true → c ≡ true
+last-true true true c h = h
+last-true true false c h = absurd (true≢false (sym h))
+last-true false b c h = absurd (true≢false (sym h))
+
+pub load-law : (b : List ℕ) (x y : ℕ) → 8 ≤ length b → x ≡ wordAt b 0 → y ≡ wordAt b 4 → x + y * 2 ^ 32 ≡ setNumber b
+unfolding setNumber part
+load-law b x y h e f = (λ i. e i + f i * 2 ^ 32) ∙ sym (number-words b 0 h)
+
+module _ (key b out0 n t o z : List ℕ) (set i x s : ℕ) (r : Bool) (lb : length b ≡ 512) (lo : length out0 ≡ 484) where
+  module _ (en : n ≡ over 0 (take 12 (drop 0 b)) (replicate 12 0)) (et : t ≡ over 0 (take 16 (drop 496 b)) (replicate 16 0)) (eo : o ≡ over 0 (take 484 (drop 12 b)) out0) where
+    nonce-is : n ≡ part 0 12 b
+    unfolding part
+    nonce-is = en ∙ over-all (take 12 b) (replicate 12 0) (length-take-le 12 b (omega arith))
+
+    tag-part : t ≡ part 496 16 b
+    unfolding part
+    tag-part = et ∙ over-all (take 16 (drop 496 b)) (replicate 16 0) (length-take-le 16 (drop 496 b) (omega (arith, length-drop 496 b)))
+
+    text-part : o ≡ part 12 484 b
+    unfolding part
+    text-part = eo ∙ over-all (take 484 (drop 12 b)) out0 (length-take-le 484 (drop 12 b) (omega (arith, length-drop 12 b)) ∙ sym lo)
+
+    pub open-fits : r ≡ opens key n n o t → x ≡ wordAt b 8 → s ≡ setNumber b → eqb x i && (eqb s set && r) ≡ blockFits key set i b
+    unfolding blockFits setNumber part
+    open-fits er ex es = rw (ex, es, er, nonce-is, tag-part, text-part, number-word b 8 (omega arith)) refl
+
+    pub open-text : r ≡ opens key n n o t → z ≡ openedTextOf key n n o t → eqb x i && (eqb s set && r) ≡ true → z ≡ cipher key (part 0 12 b) (part 12 484 b)
+    unfolding openedTextOf
+    open-text er ez ok =
+        let opens-so : opens key n n o t ≡ true = sym er ∙ last-true (eqb x i) (eqb s set) r ok in
+        ez ∙ rw opens-so (ap₂ (cipher key) nonce-is text-part)
+
+and-left : (a b : Bool) → a && b ≡ true → a ≡ true
+and-left true b e = refl
+and-left false b e = absurd (true≢false (sym e))
+
+and-right : (a b : Bool) → a && b ≡ true → b ≡ true
+and-right true b e = e
+and-right false b e = absurd (true≢false (sym e))
+
+part-is : (at n : ℕ) (l : List ℕ) → take n (drop at l) ≡ part at n l
+unfolding part
+part-is at n l = refl
+
+length-opened : (key h : List ℕ) (i : ℕ) → 512 * i ≤ length h → length (openedText key h i) ≡ 484 * i
+unfolding openedText blockAt
+length-opened key h zero l = refl
+length-opened key h (suc i) l =
+    let b : List ℕ = part (512 * i) 512 h in
+    let size : length (cipher key (part 0 12 b) (part 12 484 b)) ≡ 484 = length-cipher key (part 0 12 b) (part 12 484 b) ∙ length-part b 12 484 (omega (arith, length-part h (512 * i) 512 (omega arith))) in
+    omega (arith, length-append (openedText key h i) (cipher key (part 0 12 b) (part 12 484 b)), length-opened key h i (omega arith), size)
+
+-- one block more
+module _ (key h out0 out b : List ℕ) (set i k m : ℕ) (fit this : Bool) (es : set ≡ setNumber h) (ek : k ≡ 512) where
+  pub fit-more : fit ≡ firstFit key h i → this ≡ blockFits key set i (take k (drop (512 * i) h)) → fit && this ≡ firstFit key h (i + 1)
+  unfolding firstFit blockAt part
+  fit-more e f = rw (add-one i, e, f, es, ek) refl
+
+  pub opened-more : m ≡ 484 → 512 * (i + 1) ≤ length h → 484 * (i + 1) ≤ length out → length b ≡ 484 → (fit ≡ true → out ≡ over 0 (openedText key h i) out0)
+      → (this ≡ true → b ≡ cipher key (part 0 12 (take k (drop (512 * i) h))) (part 12 484 (take k (drop (512 * i) h)))) → fit && this ≡ true
+      → putMid (484 * i) m out b ≡ over 0 (openedText key h (i + 1)) out0
+  unfolding openedText blockAt
+  opened-more em lh lo lb f g ok =
+      let block : List ℕ = part (512 * i) 512 h in
+      let e = f (and-left fit this ok) in
+      let is : b ≡ cipher key (part 0 12 block) (part 12 484 block) =
+      g (and-right fit this ok) ∙ ap (λ (n : ℕ). cipher key (part 0 12 (take n (drop (512 * i) h))) (part 12 484 (take n (drop (512 * i) h)))) ek ∙ unfolded in
+      rw (add-one i)
+      (over-next (openedText key h i) (cipher key (part 0 12 block) (part 12 484 block)) out0 out (putMid (484 * i) m out b) 0 (484 * i) (length-opened key h i (omega arith)) e
+      (put-over (484 * i) m out b (lb ∙ sym em) (omega arith) ∙ ap₂ (λ (n : ℕ) (l : List ℕ). over n l out) (omega arith) is))
+    where
+      unfolded : cipher key (part 0 12 (take 512 (drop (512 * i) h))) (part 12 484 (take 512 (drop (512 * i) h))) ≡ cipher key (part 0 12 (part (512 * i) 512 h)) (part 12 484 (part (512 * i) 512 h))
+      unfolded = ap (λ (l : List ℕ). cipher key (part 0 12 l) (part 12 484 l)) (part-is (512 * i) 512 h)
+
+pub opened-all : (key h out0 out : List ℕ) (count : ℕ) → 512 * count ≤ length h → length out0 ≡ 484 * count → out ≡ over 0 (openedText key h count) out0 → out ≡ openedText key h count
+opened-all key h out0 out count l lo e = e ∙ over-all (openedText key h count) out0 (length-opened key h count l ∙ sym lo)

@@ -1,0 +1,34 @@
+use mathlib.Core.Path.{refl}
+use Rattle.half.proofs.Laws.{header-law}
+use borrow.Author.Needs.{needs}
+use Rattle.half.proofs.header.Statement.{statement}
+use Rattle.half.proofs.header.Tie as tie
+
+cast-t6 : tie.Need-cast-t6
+cast-t6 c = search needs
+
+cast-t8 : tie.Need-cast-t8
+cast-t8 c = search needs
+
+slice-aggregate-store-all : tie.Need-slice-aggregate-store-all
+slice-aggregate-store-all c = search needs
+
+slice-aggregate-store-all-2 : tie.Need-slice-aggregate-store-all-2
+slice-aggregate-store-all-2 c = search needs
+
+store-all-requires : tie.Need-store-all-requires
+store-all-requires c κs = search needs
+
+returns : tie.Need-returns
+returns c = header-law _ _ _ _ refl (c .before .store-all .ensures)
+
+pub header-spec : {M : Type 1} → statement M
+header-spec =
+    tie.close
+    (tie.spec
+    cast-t6
+    cast-t8
+    slice-aggregate-store-all
+    slice-aggregate-store-all-2
+    store-all-requires
+    returns)

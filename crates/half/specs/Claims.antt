@@ -1,0 +1,217 @@
+-- Claim half: the half that a deal writes for a party is taken there and opens to the dealt set; and of any whole blocks that some deals of distinct numbers wrote for that
+-- party, only one deal's whole half is taken. A deal is its set here. Assumes nothing.
+use mathlib.Core.Path.{_≡_, refl, sym, ap, ap₂, _∙_, subst}
+use mathlib.Core.Bool.{Bool, true, false, _&&_, true≢false}
+use mathlib.Core.List.{List, _++_}
+use Prim.Native.Nat.{ℕ, zero, suc, _+_, _*_, _-_, _/_, _%_, _^_, _<_, _≤_}
+use native.Mathlib.Omega.{arith}
+use borrow.Author.Tests.{eq-eqb, eqb-true, leb-true, le-leb, lt-ltb, ltb-true, ltb-false}
+use lib.Dec.{eqb, leb, ltb}
+use lib.ListN.{length, getD, take, drop}
+use lib.Seq.{take-all, take-take, take-add}
+use Rattle.words.specs.List.{same}
+use Rattle.poly1305.specs.Poly1305.{number}
+use Rattle.measure.specs.Measure.{isCode}
+use Rattle.messages.specs.Messages.{unless}
+use Rattle.messages.specs.Laws.{unless-none}
+use Rattle.content.specs.declared.Set.{Set}
+use Rattle.content.specs.Content.{part, size, blocks, plain, field, setIn, correctionsIn, lengthIn, lengthFits, flagsFit, zeros, contentFits, Proper}
+use Rattle.content.specs.Laws.{blocks-bounds, length-plain, lengthIn-plain, lengthIn-take, setIn-plain, fits-plain}
+use Rattle.half.specs.Half.{block, firstBlocks, half, blockAt, setNumber, blockFits, firstFit, openedText, wholeBlocks, whyNot, openedSet}
+use Rattle.half.specs.Laws.{length-part, length-blocks, block-at, set-of-block, index-of-block, are-fit, are-opened}
+
+and-parts : (a b : Bool) → a && b ≡ true → (a ≡ true) × (b ≡ true)
+and-parts true b h = (refl, h)
+and-parts false b h = absurd (true≢false (sym h))
+
+part-is : (at n : ℕ) (l : List ℕ) → take n (drop at l) ≡ part at n l
+unfolding part
+part-is at n l = refl
+
+-- content that fits has as many blocks as its L asks
+fits-count : (name : List ℕ) (party count : ℕ) (b : List ℕ) → contentFits name party count b ≡ true → blocks (lengthIn b) ≡ count
+unfolding contentFits setIn
+fits-count name party count b e =
+    eqb-true (blocks (lengthIn b)) count
+    (fifth (same (field b 0) name) (eqb (getD (field b 1) 0 0) party) (isCode (getD (field b 2) 0 0)) (lengthFits (lengthIn b)) (eqb (blocks (lengthIn b)) count)
+    (flagsFit (correctionsIn (field b 10) 32) && zeros (drop (size (lengthIn b)) b)) e)
+  where
+    fifth : (a b c d e f : Bool) → a && (b && (c && (d && (e && f)))) ≡ true → e ≡ true
+    fifth a b c d e f h = and-parts e f (and-parts d (e && f) (and-parts c _ (and-parts b _ (and-parts a _ h .1) .1) .1) .1) .0
+
+-- ---- a set's own half
+
+-- block 0 has the number
+number-of : (h : List ℕ) → setNumber h ≡ number (part 0 8 (blockAt h 0))
+unfolding setNumber blockAt part
+number-of h = ap number (sym (take-take 8 512 h (omega arith)))
+
+module _ (key name : List ℕ) (party : ℕ) (named : length name ≡ 16) where
+  module _ (s : Set) (p : Proper s) where
+    abbrev text : List ℕ
+    text = plain name party s
+
+    abbrev count : ℕ
+    count = blocks (s .n)
+
+    long : length text ≡ 484 * count
+    long = length-plain name party s named p
+
+    pub length-half : length (half key name party s) ≡ 512 * count
+    unfolding half
+    length-half = length-blocks key (s .number) text count (omega (arith, long))
+
+    are : (i : ℕ) → i < count → blockAt (half key name party s) i ≡ block key (s .number) i (part (484 * i) 484 text)
+    unfolding half
+    are i l = block-at key (s .number) text count i (omega (arith, long)) l
+
+    some-blocks : (3 ≤ count) × (count ≤ 16)
+    some-blocks = blocks-bounds (s .n) (p .some) (p .most)
+
+    pub half-number : setNumber (half key name party s) ≡ s .number
+    half-number =
+        number-of (half key name party s)
+        ∙ ap (λ (b : List ℕ). number (part 0 8 b)) (are 0 (omega (arith, some-blocks .0)))
+        ∙ set-of-block key (s .number) 0 (part (484 * 0) 484 text) (length-part text (484 * 0) 484 (omega (arith, long, some-blocks .0))) (p .number-fits)
+
+    counted : length (half key name party s) / 512 ≡ count
+    counted = omega (arith, length-half)
+
+    opens-to : openedText key (half key name party s) count ≡ text
+    opens-to = are-opened key (s .number) text (half key name party s) count (omega (arith, long)) are ∙ take-all (484 * count) text (omega (arith, long))
+
+    -- it is taken where the last number is below its own ..
+    pub half-taken : (last : ℕ) → last < s .number → whyNot key name party last (half key name party s) ≡ 0
+    unfolding whyNot wholeBlocks unless
+    half-taken last l =
+        let none : length (half key name party s) % 512 ≡ 0 = omega (arith, length-half) in
+        rw (
+          counted,
+          eq-eqb (length (half key name party s) % 512) 0 none,
+          le-leb 3 count (some-blocks .0),
+          le-leb count 16 (some-blocks .1),
+          half-number,
+          lt-ltb last (s .number) l,
+          are-fit key (s .number) text (half key name party s) count (omega (arith, long)) (p .number-fits) (omega (arith, some-blocks .1)) half-number are,
+          opens-to,
+          fits-plain name party s named p,
+        )
+        refl
+
+    -- .. and opens to the set
+    pub half-opened : openedSet key (half key name party s) ≡ s
+    unfolding openedSet
+    half-opened = rw (counted, half-number, opens-to) (setIn-plain name party s named p)
+
+  -- ---- nothing else is taken
+
+  -- what acceptance tells
+  record Taken (h : List ℕ) : Type 0 where
+    whole : length h ≡ 512 * (length h / 512)
+    three : 3 ≤ length h / 512
+    fit : firstFit key h (length h / 512) ≡ true
+    content : contentFits name party (length h / 512) (openedText key h (length h / 512)) ≡ true
+
+  taken : (last : ℕ) (h : List ℕ) → whyNot key name party last h ≡ 0 → Taken h
+  unfolding whyNot wholeBlocks
+  taken last h e =
+      let w = unless-none (wholeBlocks h) 4 _ (λ z. omega arith) e in
+      let n = unless-none (ltb last (setNumber h)) 7 _ (λ z. omega arith) (w .1) in
+      let f = unless-none (firstFit key h (length h / 512)) 10 _ (λ z. omega arith) (n .1) in
+      let c = unless-none (contentFits name party (length h / 512) (openedText key h (length h / 512))) 11 _ (λ z. omega arith) (f .1) in
+      let a = and-parts (eqb (length h % 512) 0) (leb 3 (length h / 512) && leb (length h / 512) 16) (w .0) in
+      let b = and-parts (leb 3 (length h / 512)) (leb (length h / 512) 16) (a .1) in
+      record { whole = omega (arith, eqb-true (length h % 512) 0 (a .0)); three = leb-true 3 (length h / 512) (b .0); fit = f .0; content = c .0 }
+
+  -- block i of those that fit
+  fits-at : (h : List ℕ) (k i : ℕ) → firstFit key h k ≡ true → i < k → blockFits key (setNumber h) i (blockAt h i) ≡ true
+  unfolding firstFit
+  fits-at h zero i e l = absurd (omega arith)
+  fits-at h (suc k) i e l = last-or (ltb i k) refl (and-parts (firstFit key h k) (blockFits key (setNumber h) k (blockAt h k)) e) (λ e l. fits-at h k i e l)
+    where
+      last-or : (t : Bool) → ltb i k ≡ t → (firstFit key h k ≡ true) × (blockFits key (setNumber h) k (blockAt h k) ≡ true)
+          → (firstFit key h k ≡ true → i < k → blockFits key (setNumber h) i (blockAt h i) ≡ true) → blockFits key (setNumber h) i (blockAt h i) ≡ true
+      last-or true q b before = before (b .0) (ltb-true i k q)
+      last-or false q b before = let same : k ≡ i = omega (arith, ltb-false i k q) in subst (λ (j : ℕ). blockFits key (setNumber h) j (blockAt h j) ≡ true) same (b .1)
+
+  -- blocks that are a list's, all of it, make the list
+  made : (set : ℕ) (p h : List ℕ) (k : ℕ) → 512 * k ≤ length h → ((i : ℕ) → i < k → blockAt h i ≡ block key set i (part (484 * i) 484 p)) → take (512 * k) h ≡ firstBlocks key set p k
+  unfolding firstBlocks blockAt
+  made set p h zero l f = refl
+  made set p h (suc k) l f =
+      let more : 512 * suc k ≡ 512 * k + 512 = omega arith in
+      rw more
+      (take-add (512 * k) 512 h
+      ∙ ap₂ (λ (a b : List ℕ). a ++ b) (made set p h k (omega arith) (λ i g. f i (omega arith))) (part-is (512 * k) 512 h ∙ f k (omega arith)))
+
+  -- some deals, whose sets' numbers are distinct
+  module _ (D : Set → Type 0) (sound : (s : Set) → D s → Proper s) (one : (s t : Set) → D s → D t → s .number ≡ t .number → s ≡ t) where
+    -- a block that some deal wrote for this party
+    pub record Wrote (b : List ℕ) : Type 0 where
+      pub set : Set
+      pub dealt : D set
+      pub place : ℕ
+      pub among : place < blocks (set .n)
+      pub is : b ≡ blockAt (half key name party set) place
+
+    module _ (h : List ℕ) (wrote : (i : ℕ) → i < length h / 512 → Wrote (blockAt h i)) (t : Taken h) where
+      -- a block that fits stands at its place, under the number of block 0
+      placed : (i : ℕ) (l : i < length h / 512) → (wrote i l .place ≡ i) × (wrote i l .set .number ≡ setNumber h)
+      unfolding blockFits
+      placed i l =
+          let w = wrote i l in
+          let s = w .set in
+          let p = sound s (w .dealt) in
+          let k = w .place in
+          let text = plain name party s in
+          let fits = fits-at h (length h / 512) i (t .fit) l in
+          let a = and-parts (eqb (number (part 8 4 (blockAt h i))) i) _ fits in
+          let b = and-parts (eqb (number (part 0 8 (blockAt h i))) (setNumber h)) _ (a .1) in
+          let whole : 484 * k + 484 ≤ length text = omega (arith, length-plain name party s named p, w .among) in
+          let at : blockAt h i ≡ block key (s .number) k (part (484 * k) 484 text) = w .is ∙ are s p k (w .among) in
+          let size = length-part text (484 * k) 484 whole in
+          let small : k < 2 ^ 32 = omega (arith, w .among, blocks-bounds (s .n) (p .some) (p .most) .1) in (
+            sym (index-of-block key (s .number) k (part (484 * k) 484 text) size small) ∙ ap (λ (b : List ℕ). number (part 8 4 b)) (sym at) ∙ eqb-true _ i (a .0),
+            sym (set-of-block key (s .number) k (part (484 * k) 484 text) size (p .number-fits)) ∙ ap (λ (b : List ℕ). number (part 0 8 b)) (sym at) ∙ eqb-true _ (setNumber h) (b .0),
+          )
+
+      none : 0 < length h / 512
+      none = omega (arith, t .three)
+
+      -- the deal whose block 0 it is
+      abbrev deal : Set
+      deal = wrote 0 none .set
+
+      proper : Proper deal
+      proper = sound deal (wrote 0 none .dealt)
+
+      all-its : (i : ℕ) (l : i < length h / 512) → (i < blocks (deal .n)) × (blockAt h i ≡ block key (deal .number) i (part (484 * i) 484 (plain name party deal)))
+      all-its i l =
+          let w = wrote i l in
+          let same : w .set ≡ deal = one (w .set) deal (w .dealt) (wrote 0 none .dealt) (placed i l .1 ∙ sym (placed 0 none .1)) in
+          let among : i < blocks (deal .n) = subst (λ (s : Set). i < blocks (s .n)) same (subst (λ (k : ℕ). k < blocks (w .set .n)) (placed i l .0) (w .among)) in
+          (among, w .is ∙ ap₂ (λ (s : Set) (k : ℕ). blockAt (half key name party s) k) same (placed i l .0) ∙ are deal proper i among)
+
+      -- as many blocks as it has
+      counts : length h / 512 ≡ blocks (deal .n)
+      counts =
+          let k = length h / 512 in
+          let text = plain name party deal in
+          let last : k - 1 < k = omega (arith, t .three) in
+          let fewer : k ≤ blocks (deal .n) = omega (arith, all-its (k - 1) last .0) in
+          let enough : 484 * k ≤ length text = omega (arith, length-plain name party deal named proper) in
+          let opened : openedText key h k ≡ take (484 * k) text = are-opened key (deal .number) text h k enough (λ i l. all-its i l .1) in
+          let n : lengthIn (openedText key h k) ≡ deal .n = ap lengthIn opened ∙ lengthIn-take (484 * k) text (omega (arith, t .three)) ∙ lengthIn-plain name party deal named proper in
+          let e = fits-count name party k (openedText key h k) (t .content) in
+          sym (sym (ap blocks n) ∙ e)
+
+      is-its : h ≡ half key name party deal
+      unfolding half
+      is-its =
+          sym (take-all (512 * (length h / 512)) h (omega (arith, t .whole)))
+          ∙ made (deal .number) (plain name party deal) h (length h / 512) (omega (arith, t .whole)) (λ i l. all-its i l .1)
+          ∙ ap (firstBlocks key (deal .number) (plain name party deal)) counts
+
+    -- Of whole blocks each of which some deal wrote for this party, what is taken is one deal's whole half
+    pub only-whole : (last : ℕ) (h : List ℕ) → ((i : ℕ) → i < length h / 512 → Wrote (blockAt h i)) → whyNot key name party last h ≡ 0 → (s : Set) × D s × (h ≡ half key name party s)
+    only-whole last h wrote e = let t = taken last h e in (deal h wrote t, wrote 0 (none h wrote t) .dealt, is-its h wrote t)

@@ -1,0 +1,156 @@
+//! The plain content of a half: 01, "The sealed half".
+
+use crate::chacha20;
+use crate::dcf::{self, Key, Seed, KEY_BYTES};
+use crate::measure::{Measure, MAX_LENGTH};
+use crate::share::Half;
+
+/// The plain bytes of a block.
+pub const TEXT_BYTES: usize = 484;
+
+/// A door's name, zero after its end.
+pub type Name = [u8; 16];
+
+/// The bytes before the masks: name, party, code, L.
+const HEAD_BYTES: usize = 16 + 1 + 1 + 2;
+
+/// The bytes after the masks: c, r, key seed, key.
+const TAIL_BYTES: usize = 4 + 4 + 32 + KEY_BYTES;
+
+/// The bytes of the content for vectors of this length, without the fill.
+pub fn bytes(length: usize) -> usize {
+    HEAD_BYTES + 3 * 4 * length + TAIL_BYTES
+}
+
+/// The blocks of a half for vectors of this length.
+pub fn blocks(length: usize) -> usize {
+    bytes(length).div_ceil(TEXT_BYTES)
+}
+
+/// The content with its fill: whole blocks.
+pub fn lay_out(name: &Name, half: &Half) -> Vec<u8> {
+    let length = half.own_mask.len();
+    let mut content = Vec::with_capacity(TEXT_BYTES * blocks(length));
+    content.extend(name);
+    content.extend([half.party as u8, half.measure.code() as u8]);
+    content.extend((length as u16).to_le_bytes());
+    for words in [&half.own_mask, &half.x_share, &half.y_share] {
+        put_words(&mut content, words);
+    }
+    put_words(&mut content, &[half.c, half.r]);
+    put_words(&mut content, &half.seed);
+    content.extend(half.key.to_bytes());
+    content.resize(TEXT_BYTES * blocks(length), 0);
+    content
+}
+
+fn put_words(bytes: &mut Vec<u8>, words: &[u32]) {
+    bytes.extend(words.iter().flat_map(|word| word.to_le_bytes()));
+}
+
+/// The half of a content with its fill, if it is one of this door and party and
+/// nothing in it is out of range (the tests of refusal 11).
+pub fn read(content: &[u8], name: &Name, party: usize) -> Option<Half> {
+    let (head, rest) = content.split_at(HEAD_BYTES);
+    let measure = Measure::from_code(u32::from(head[17]))?;
+    let length = usize::from(u16::from_le_bytes([head[18], head[19]]));
+    let good = head[..16] == name[..]
+        && usize::from(head[16]) == party
+        && (1..=MAX_LENGTH).contains(&length)
+        && content.len() == TEXT_BYTES * blocks(length)
+        && content[bytes(length)..].iter().all(|&byte| byte == 0);
+    if !good {
+        return None;
+    }
+    let (masks, rest) = rest.split_at(3 * 4 * length);
+    let (words, rest) = rest.split_at(8);
+    let (seed, rest) = rest.split_at(32);
+    let mask = |place: usize| get_words(&masks[4 * length * place..][..4 * length]);
+    let words = get_words(words);
+    Some(Half {
+        party,
+        measure,
+        own_mask: mask(0),
+        x_share: mask(1),
+        y_share: mask(2),
+        c: words[0],
+        r: words[1],
+        seed: get_seed(seed),
+        key: Key::from_bytes(rest[..KEY_BYTES].try_into().expect("a key's bytes"))?,
+    })
+}
+
+fn get_words(bytes: &[u8]) -> Vec<u32> {
+    let mut words = vec![0; bytes.len() / 4];
+    chacha20::load_words(&mut words, bytes);
+    words
+}
+
+fn get_seed(bytes: &[u8]) -> Seed {
+    dcf::seed(bytes.try_into().expect("32 bytes"))
+}
+
+#[cfg(test)]
+mod tests {
+    use super::*;
+    use crate::dealing::deal;
+
+    const NAME: Name = *b"Hut 4, east door";
+
+    /// The numbers of 01: 1,248 + 12 L bytes, and the blocks of five lengths.
+    #[test]
+    fn bytes_and_blocks() {
+        assert_eq!(bytes(1), 1260);
+        assert_eq!(bytes(512), 1248 + 12 * 512);
+        for (length, count) in [(1, 3), (17, 3), (18, 4), (138, 6), (139, 7), (512, 16)] {
+            assert_eq!(blocks(length), count, "{length}");
+        }
+        for length in [17, 138, 259, 380, 501] {
+            assert_eq!(bytes(length) % TEXT_BYTES, 0, "{length}");
+        }
+    }
+
+    #[test]
+    fn content_is_laid_out_in_order() {
+        let [_, half] = deal(Measure::Hamming, 3, 2, &[1; 32]);
+        let content = lay_out(&NAME, &half);
+        assert_eq!(content.len(), 3 * TEXT_BYTES);
+        assert_eq!(content[..20], [&NAME[..], &[1, 2, 3, 0]].concat());
+        let word = |at: usize| u32::from_le_bytes(content[at..at + 4].try_into().unwrap());
+        assert_eq!([word(20), word(28)], [half.own_mask[0], half.own_mask[2]]);
+        assert_eq!([word(32), word(44)], [half.x_share[0], half.y_share[0]]);
+        assert_eq!(
+            [word(56), word(60), word(64)],
+            [half.c, half.r, half.seed[0]]
+        );
+        assert_eq!(word(96), half.key.corrections[0].seed[0]);
+        assert_eq!(word(96 + 32 * 37), half.key.final_word);
+        assert!(content[96 + 32 * 37 + 4..].iter().all(|&byte| byte == 0));
+    }
+
+    #[test]
+    fn content_is_read_back() {
+        for measure in Measure::ALL {
+            for length in [1, 17, 18, 256, 512] {
+                for half in deal(measure, length, 7, &[length as u8; 32]) {
+                    let content = lay_out(&NAME, &half);
+                    assert_eq!(read(&content, &NAME, half.party), Some(half));
+                }
+            }
+        }
+    }
+
+    /// Each byte set to 4 in turn: just those that are tested refuse it.
+    #[test]
+    fn every_tested_byte_is_tested() {
+        let [half, _] = deal(Measure::Scalar, 1, 0, &[3; 32]);
+        let content = lay_out(&NAME, &half);
+        for at in 0..content.len() {
+            let mut changed = content.clone();
+            changed[at] = 4;
+            let flag = (72..72 + 32 * 37).contains(&at) && (at - 72) % 37 == 36;
+            let tested = at < 20 || flag || at >= 1260;
+            assert_eq!(read(&changed, &NAME, 0).is_none(), tested, "{at}");
+        }
+    }
+}
