@@ -2,7 +2,6 @@
 use mathlib.Core.Path.{_≡_, sym, subst}
 use mathlib.Core.List.{List, [], _∷_}
 use Rattle.calls.specs.Lists.{Starts, Started, beginning, Call, camera, office, joined, after, events, history, Admissible, Answered, NoWrongReport, NoReuse, AlwaysAnswered, NotEmpty}
-use Rattle.calls.proofs.Halves.{HalfLaws}
 use Rattle.calls.proofs.Once.{single}
 use Rattle.calls.proofs.History.{look, in-deals, in-vectors}
 use Rattle.calls.proofs.Invariant.{Inv, starts, door-long}
@@ -10,14 +9,14 @@ use Rattle.calls.proofs.Keeps.{keeps}
 use Rattle.calls.proofs.Runs.{ready, run-goes, answered}
 use Rattle.calls.proofs.NotEmpty.{examples}
 
-always : HalfLaws → (s : Starts) → Started s → (cs : List Call) → Admissible s cs → Inv s (history s cs) (after (beginning s) cs)
-always L s f [] a = starts s f
-always L s f (c ∷ cs) a = keeps s (history s cs) (after (beginning s) cs) (always L s f cs (a .0)) L (door-long s f) c (a .1) (a .2)
+always : (s : Starts) → Started s → (cs : List Call) → Admissible s cs → Inv s (history s cs) (after (beginning s) cs)
+always s f [] a = starts s f
+always s f (c ∷ cs) a = keeps s (history s cs) (after (beginning s) cs) (always s f cs (a .0)) (door-long s f) c (a .1) (a .2)
 
-no-wrong-report : HalfLaws → NoWrongReport
+no-wrong-report : NoWrongReport
 unfolding NoWrongReport
-no-wrong-report L s f cs a n bit i =
-    let I = always L s f cs a in
+no-wrong-report s f cs a n bit i =
+    let I = always s f cs a in
     let r = look s (history s cs) (joined n bit) (I .good) i in
     let t = r .0 in
     record {
@@ -30,25 +29,25 @@ no-wrong-report L s f cs a n bit i =
       right = r .1;
     }
 
-no-reuse : HalfLaws → NoReuse
+no-reuse : NoReuse
 unfolding NoReuse
-no-reuse L s f cs a b n = let k = always L s f cs a .box-is b .ok in (k .vectors-once n .few, k .words-once n .few)
+no-reuse s f cs a b n = let k = always s f cs a .box-is b .ok in (k .vectors-once n .few, k .words-once n .few)
 
-always-answered : HalfLaws → AlwaysAnswered
+always-answered : AlwaysAnswered
 unfolding AlwaysAnswered
-always-answered L s f cs a d v R F rs g r c q =
+always-answered s f cs a d v R F rs g r c q =
     let w = after (beginning s) cs in
-    let A = ready s d v (history s cs) w (always L s f cs a) F in
-    subst (Answered d v) (sym (run-goes s d v L (door-long s f) R w A rs g r c q)) (answered s d v c g (events w rs) q)
+    let A = ready s d v (history s cs) w (always s f cs a) F in
+    subst (Answered d v) (sym (run-goes s d v (door-long s f) R w A rs g r c q)) (answered s d v c g (events w rs) q)
 
-not-empty : HalfLaws → NotEmpty
+not-empty : NotEmpty
 unfolding NotEmpty
-not-empty L s f b = examples L s f b
+not-empty s f b = examples s f b
 
 -- what stands for demand 3
 pub Demand3 : Type 0
 Demand3 = NoWrongReport × NoReuse × AlwaysAnswered × NotEmpty
 
-pub demand-3 : HalfLaws → Demand3
+pub demand-3 : Demand3
 unfolding Demand3
-demand-3 L = (no-wrong-report L, no-reuse L, always-answered L, not-empty L)
+demand-3 = (no-wrong-report, no-reuse, always-answered, not-empty)

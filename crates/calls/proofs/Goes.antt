@@ -16,7 +16,7 @@ use Rattle.half.specs.Half.{whyNot}
 use Rattle.dealer.specs.declared.Dealer.{Dealer}
 use Rattle.dealer.specs.Dealer.{Deal, halfSize, whyNotDeal}
 use Rattle.party.specs.declared.Party.{Party}
-use Rattle.party.specs.Party.{stateFits, inTurn, whyNotLoad, whyNotMask, whyNotTake, whyNotFinish}
+use Rattle.party.specs.Party.{stateFits, sound, inTurn, whyNotLoad, whyNotMask, whyNotTake, whyNotFinish}
 use Rattle.lock.specs.declared.Lock.{Lock}
 use Rattle.lock.specs.Lock.{whyNotJoin}
 use Rattle.calls.proofs.Accepted.{Heard}
@@ -52,7 +52,7 @@ door-long kind sender number door l name h e = rw (h .name-is) (eq-eqb (length d
 -- ---- a box: its turn, with no set open and at a later phase
 
 idle-turn : (s : Party) → s .phase ≡ 0 → s .party ≤ 1 → s .set .code ≡ 0 → s .set .n ≡ 0 → inTurn 0 s ≡ true
-unfolding inTurn stateFits
+unfolding inTurn sound stateFits
 idle-turn s e p c n = rw (eq-eqb (s .phase) 0 e, le-leb (s .party) 1 p, eq-eqb (s .set .code) 0 c, eq-eqb (s .set .n) 0 n) refl
 
 -- what 01's third refusal asks of a state with a set open
@@ -66,7 +66,7 @@ pub record OpenAt (k : ℕ) (s : Party) : Type 0 where
   pub most : s .set .n ≤ 512
 
 open-turn : (k : ℕ) (s : Party) → OpenAt k s → inTurn k s ≡ true
-unfolding inTurn stateFits lengthFits
+unfolding inTurn sound stateFits lengthFits
 open-turn k s o =
     rw (
       eq-eqb (s .phase) k (o .phase-is),

@@ -14,6 +14,7 @@ use Rattle.messages.specs.declared.Label.{Label}
 use Rattle.messages.specs.Messages.{ifTaken}
 use Rattle.content.specs.declared.Set.{Set}
 use Rattle.content.specs.Content.{blocks, fill, Proper}
+use Rattle.half.specs.Claims.{length-half, half-number, half-opened, Wrote, only-whole}
 use Rattle.half.specs.Half.{half, blockAt, setNumber, whyNot, openedSet}
 use Rattle.dealer.specs.declared.Dealer.{Dealer}
 use Rattle.dealer.specs.Dealer as DealerCalls
@@ -31,7 +32,6 @@ use Rattle.calls.proofs.Dealt.{setOf, set-number, set-code, set-n, set-
 use Rattle.calls.proofs.Once.{once-cond}
 use Rattle.calls.proofs.History.{door, halfOf, EventOk, Dealt, Vector, Pair, look}
 use Rattle.calls.proofs.Slots.{Slot, fresh, masked, worded, setIn, Word, Away, Slots, slots-away, slots-load, slots-mask, slots-take, slots-close, slots-drop}
-use Rattle.calls.proofs.Halves.{HalfLaws}
 use Rattle.calls.proofs.Written.{new, masked-is}
 use Rattle.calls.proofs.Invariant.{showing, lastAt, BoxIs, dealerWith, lockWith, Inv, wrote, one-deal, one-pair}
 
@@ -301,7 +301,7 @@ module _ (S : Starts) where
     abbrev Loading : Box → List ℕ → Party → Type 0
     Loading b x z = whyNotLoad z x ≡ 0 → Stepped h b (BoxCalls.loaded z (openedSet (z .key) x)) (loaded b (setNumber x))
 
-    module _ (L : HalfLaws) (long : length (door S) ≡ 16) (b : Box) where
+    module _ (long : length (door S) ≡ 16) (b : Box) where
       -- the sets that were dealt to box b
       abbrev Mine : Set → Type 0
       Mine s = (d : Deal) × (f : Box → List ℕ) × In (dealt d f) h × (s ≡ setOf d b)
@@ -319,11 +319,11 @@ module _ (S : Starts) where
       one-mine s t m n e =
           m .3 ∙ ap (λ d. setOf d b) (one-deal S h w I (t .number) (mine-dealt s (t .number) m e) (mine-dealt t (t .number) n refl)) ∙ sym (n .3)
 
-      mine-block : (x : List ℕ) → Written h b x → (s : Set) × Mine s × (j : ℕ) × (j < blocks (s .n)) × (x ≡ blockAt (half (S .key b) (door S) (partyOf b) s) j)
+      mine-block : (x : List ℕ) → Written h b x → Wrote (S .key b) (door S) (partyOf b) long Mine mine-proper one-mine x
       mine-block x (d, f, i, j, l, e) =
           let k = sound d f i in
-          let long : length (f b) ≡ 512 * blocks (setOf d b .n) = ap length (k .1) ∙ L .half-long (S .key b) (door S) (partyOf b) (setOf d b) long (set-proper d b (k .0)) in
-          (setOf d b, (d, f, i, refl), j, omega arith, e ∙ ap (λ z. blockAt z j) (k .1))
+          let size : length (f b) ≡ 512 * blocks (setOf d b .n) = ap length (k .1) ∙ length-half (S .key b) (door S) (partyOf b) long (setOf d b) (set-proper d b (k .0)) in
+          record { set = setOf d b; dealt = (d, f, i, refl); place = j; among = omega arith; is = e ∙ ap (λ z. blockAt z j) (k .1) }
 
       last-own : (n : ℕ) → lastAt S b (loaded b n ∷ h) ≡ n
       last-own n = rw (own-box b) refl
@@ -334,11 +334,11 @@ module _ (S : Starts) where
       loading x ad [] few k e =
           let z : Party = showing S b (lastAt S b h) [] in
           let tells = load-tells z x e in
-          let r = L .load-law (S .key b) (door S) (partyOf b) (lastAt S b h) Mine long mine-proper one-mine x (λ i l. mine-block (blockAt x i) (ad i l)) (tells .examined) in
+          let r = only-whole (S .key b) (door S) (partyOf b) long Mine mine-proper one-mine (lastAt S b h) x (λ i l. mine-block (blockAt x i) (ad i l)) (tells .examined) in
           let s : Set = r .0 in
           let good : Proper s = mine-proper s (r .1) in
-          let n : setNumber x ≡ s .number = ap setNumber (r .2) ∙ L .number-back (S .key b) (door S) (partyOf b) s long good in
-          let o : openedSet (S .key b) x ≡ s = ap (openedSet (S .key b)) (r .2) ∙ L .opened (S .key b) (door S) (partyOf b) s long good in
+          let n : setNumber x ≡ s .number = ap setNumber (r .2) ∙ half-number (S .key b) (door S) (partyOf b) long s good in
+          let o : openedSet (S .key b) x ≡ s = ap (openedSet (S .key b)) (r .2) ∙ half-opened (S .key b) (door S) (partyOf b) long s good in
           let above : lastAt S b h < s .number = subst (λ i. lastAt S b h < i) n (tells .above) in
           let ok : Slots (loaded b (s .number) ∷ h) b (s .number) (fresh s ∷ []) = slots-load h b (lastAt S b h) [] k s above (mine-dealt s (s .number) (r .1) refl) (r .1 .3) in
           let new : Stepped h b (BoxCalls.loaded z s) (loaded b (s .number)) = (
@@ -361,10 +361,10 @@ module _ (S : Starts) where
     abbrev dealtBy : Deal → Dealer → Dealer
     dealtBy d s = record { name = s .name; key0 = s .key0; key1 = s .key1; last = d .number }
 
-    on-deal : HalfLaws → length (door S) ≡ 16 → (d : Deal) (out0 out1 : List ℕ) → d .number < 2 ^ 64
+    on-deal : length (door S) ≡ 16 → (d : Deal) (out0 out1 : List ℕ) → d .number < 2 ^ 64
         → Inv S (step w (deal d out0 out1) .event ∷ h) (step w (deal d out0 out1) .world)
     unfolding DealerCalls.deal ifTaken
-    on-deal L long d out0 out1 fits = go (eqb (whyNotDeal (w .dealer) d (length out0) (length out1)) 0) refl
+    on-deal long d out0 out1 fits = go (eqb (whyNotDeal (w .dealer) d (length out0) (length out1)) 0) refl
       where
         go : (t : Bool) → eqb (whyNotDeal (w .dealer) d (length out0) (length out1)) 0 ≡ t
             → Inv S (cond t (dealt d (written (w .dealer) d out0 out1)) (refused (whyNotDeal (w .dealer) d (length out0) (length out1))) ∷ h) (record { dealer = cond t (dealtBy d (w .dealer)) (w .dealer); box = w .box; lock = w .lock })
@@ -375,7 +375,7 @@ module _ (S : Starts) where
             let k : Sound d = record { number-fits = fits; code-fits = tells .code-fits; some = tells .some; most = tells .most; threshold-fits = tells .threshold-fits } in
             let above : lastDealt (S .dealerFloor) h < d .number = subst (λ s. s .last < d .number) (I .dealer-is) (tells .above) in
             record {
-              good = (I .good, (k, wrote S L long (w .dealer) _ (I .dealer-is) d k out0 out1 e));
+              good = (I .good, (k, wrote S long (w .dealer) _ (I .dealer-is) d k out0 out1 e));
               deals-once = λ n. once-cond d (deals n h) (eqb (d .number) n) (I .deals-once n) (λ t. omega (arith, eqb→eq (d .number) n t)) (λ t q. omega (arith, eqb→eq (d .number) n t)) (λ q. omega arith);
               dealer-is = ap (dealtBy d) (I .dealer-is);
               box-is = λ b. box-away h _ b (w .box b) (no-box-dealt d _ .away b) (I .box-is b);
@@ -428,12 +428,12 @@ module _ (S : Starts) where
 
     -- ---- every call
 
-    pub keeps : HalfLaws → length (door S) ≡ 16 → (c : Call) → Fits c → Admits (door S) h c → Inv S (step w c .event ∷ h) (step w c .world)
+    pub keeps : length (door S) ≡ 16 → (c : Call) → Fits c → Admits (door S) h c → Inv S (step w c .event ∷ h) (step w c .world)
     unfolding BoxCalls.load BoxCalls.mask BoxCalls.take BoxCalls.finish BoxCalls.drop
-    keeps L long (deal d out0 out1) fits ad = on-deal L long d out0 out1 fits
-    keeps L long (load b x) fits ad = on-box b (BoxCalls.load (w .box b) x) _ _ refl (at-box b (Loading b x) (loading L long b x ad))
-    keeps L long (mask b v out) fits ad = on-box b (BoxCalls.mask (w .box b) v (length out)) _ _ refl (at-box b (Masking b v out) (masking b v out))
-    keeps L long (take b m) fits ad = on-box b (BoxCalls.take (w .box b) (m .label) (m .name) (m .content)) _ _ refl (at-box b (Taking b m) (taking b m ad))
-    keeps L long (finish b m) fits ad = on-box b (BoxCalls.finish (w .box b) (m .label) (m .name) (m .content)) _ _ refl (at-box b (Finishing b m) (finishing b m ad))
-    keeps L long (drop b) fits ad = on-box b (BoxCalls.drop (w .box b)) _ _ refl (at-box b (Dropping b) (dropping b))
-    keeps L long (join m n) fits ad = on-join m n ad
+    keeps long (deal d out0 out1) fits ad = on-deal long d out0 out1 fits
+    keeps long (load b x) fits ad = on-box b (BoxCalls.load (w .box b) x) _ _ refl (at-box b (Loading b x) (loading long b x ad))
+    keeps long (mask b v out) fits ad = on-box b (BoxCalls.mask (w .box b) v (length out)) _ _ refl (at-box b (Masking b v out) (masking b v out))
+    keeps long (take b m) fits ad = on-box b (BoxCalls.take (w .box b) (m .label) (m .name) (m .content)) _ _ refl (at-box b (Taking b m) (taking b m ad))
+    keeps long (finish b m) fits ad = on-box b (BoxCalls.finish (w .box b) (m .label) (m .name) (m .content)) _ _ refl (at-box b (Finishing b m) (finishing b m ad))
+    keeps long (drop b) fits ad = on-box b (BoxCalls.drop (w .box b)) _ _ refl (at-box b (Dropping b) (dropping b))
+    keeps long (join m n) fits ad = on-join m n ad

@@ -2,7 +2,6 @@ pub mod Accepted
 pub mod Claims
 pub mod Dealt
 pub mod Goes
-pub mod Halves
 pub mod History
 pub mod Invariant
 pub mod Keeps

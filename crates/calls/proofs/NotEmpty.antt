@@ -16,7 +16,6 @@ use Rattle.half.specs.Half.{blockAt}
 use Rattle.dealer.specs.Dealer.{Deal, halfSize}
 use Rattle.calls.specs.Lists.{Box, camera, office, partyOf, other, World, Starts, Started, beginning, Message, Call, deal, load, mask, take, finish, drop, join, Event, dealt, sent, joined, vector, word, answer, step, In, here, there, Fits, Written, Sent, SentVector, SentWord, SentAnswer, Admits, history, Admissible, verdict, Progress, nothingMade, onward, Labelled, Ready, Run, start, own, InRange, Free, Below, Example}
 use Rattle.calls.proofs.Dealt.{maskOf, wordBy, answerBy}
-use Rattle.calls.proofs.Halves.{HalfLaws}
 use Rattle.calls.proofs.Once.{All}
 use Rattle.calls.proofs.History.{door, halfOf}
 use Rattle.calls.proofs.Invariant.{starts, door-long}
@@ -47,7 +46,7 @@ module _ (name : List ℕ) (d : Deal) (v : Box → List ℕ) where
 
 -- ---- a whole run, box by box
 
-module _ (L : HalfLaws) (s : Starts) (start-ok : Started s) (d : Deal) (v : Box → List ℕ) (R : InRange d v) (F : Free s [] (d .number)) where
+module _ (s : Starts) (start-ok : Started s) (d : Deal) (v : Box → List ℕ) (R : InRange d v) (F : Free s [] (d .number)) where
   -- a run and admissible list that is so far, with these events in it
   record Reached (g : Progress) (es : List Event) : Type 0 where
     cs : List Call
@@ -64,7 +63,7 @@ module _ (L : HalfLaws) (s : Starts) (start-ok : Started s) (d : Deal) (v : Box 
   next {g} {es} t c f =
       let cs = t .cs in
       let r = f cs (t .has) in
-      let e = run-goes s d v L (door-long s start-ok) R (beginning s) (ready s d v [] (beginning s) (starts s start-ok) F) cs g (t .run) c r in
+      let e = run-goes s d v (door-long s start-ok) R (beginning s) (ready s d v [] (beginning s) (starts s start-ok) F) cs g (t .run) c r in
       record {
         cs = c ∷ cs;
         run = own (t .run) c r;
@@ -129,8 +128,8 @@ zero-verdict : (verdict (zeroDeal 0) (zeroVector camera) (zeroVector office) ≡
 unfolding zeroDeal zeroVector reached measure Measure.own element row scalarProduct signed sumℤ
 zero-verdict = (refl, refl)
 
-pub examples : HalfLaws → (s : Starts) → Started s → Below s (2 ^ 64 - 1) → Example s 1 × Example s 0
-examples L s f b = (
-  subst (Example s) (zero-verdict .0) (example L s f (zeroDeal 0) zeroVector (zero-range 0 (zero-threshold .0)) (free s 0 b)),
-  subst (Example s) (zero-verdict .1) (example L s f (zeroDeal 1) zeroVector (zero-range 1 (zero-threshold .1)) (free s 1 b)),
+pub examples : (s : Starts) → Started s → Below s (2 ^ 64 - 1) → Example s 1 × Example s 0
+examples s f b = (
+  subst (Example s) (zero-verdict .0) (example s f (zeroDeal 0) zeroVector (zero-range 0 (zero-threshold .0)) (free s 0 b)),
+  subst (Example s) (zero-verdict .1) (example s f (zeroDeal 1) zeroVector (zero-range 1 (zero-threshold .1)) (free s 1 b)),
 )

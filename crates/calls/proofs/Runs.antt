@@ -12,6 +12,7 @@ use Rattle.messages.specs.declared.Label.{Label}
 use Rattle.messages.specs.Messages.{ifTaken}
 use Rattle.content.specs.declared.Set.{Set}
 use Rattle.content.specs.Content.{blocks, fill, noSet}
+use Rattle.half.specs.Claims.{half-taken, half-number, half-opened}
 use Rattle.half.specs.Half.{setNumber, openedSet}
 use Rattle.dealer.specs.declared.Dealer.{Dealer}
 use Rattle.dealer.specs.Dealer as DealerCalls
@@ -26,7 +27,6 @@ use Rattle.calls.specs.Lists.{Box, camera, office, partyOf, other, World
 use Rattle.calls.proofs.Accepted.{Heard}
 use Rattle.calls.proofs.Goes.{OpenAt, deal-goes, load-goes, mask-goes, take-goes, finish-goes, join-goes}
 use Rattle.calls.proofs.Dealt.{setOf, set-number, set-code, set-n, set-proper, Sound, maskOf, ownOf, mask-long, wordBy, answerBy, answers-join}
-use Rattle.calls.proofs.Halves.{HalfLaws}
 use Rattle.calls.proofs.History.{door, halfOf}
 use Rattle.calls.proofs.Slots.{Slot, fresh, masked, worded}
 use Rattle.calls.proofs.Written.{new, masked-is}
@@ -111,7 +111,7 @@ module _ (S : Starts) (d : Deal) (v : Box → List ℕ) where
   event-is : (why : ℕ) (e g : Event) → why ≡ 0 → e ≡ g → eventOf why e ≡ g
   event-is why e g z q = new why e (refused why) z ∙ q
 
-  module _ (L : HalfLaws) (long : length (door S) ≡ 16) (R : InRange d v) where
+  module _ (long : length (door S) ≡ 16) (R : InRange d v) where
     sound : Sound d
     sound = record { number-fits = R .number-fits; code-fits = R .code-fits; some = R .some; most = R .most; threshold-fits = R .threshold-fits }
 
@@ -151,9 +151,9 @@ module _ (S : Starts) (d : Deal) (v : Box → List ℕ) where
         let s : Set = setOf d b in
         let k = set-proper d b sound in
         let above : last < s .number = rw (set-number d b) l in
-        let z = load-goes (showing S b last []) x refl (party-fits b) refl refl (rw q (L .taken (S .key b) (door S) (partyOf b) last s long k above)) in
-        let o : openedSet (S .key b) x ≡ s = ap (openedSet (S .key b)) q ∙ L .opened (S .key b) (door S) (partyOf b) s long k in
-        let n : setNumber x ≡ d .number = ap setNumber q ∙ L .number-back (S .key b) (door S) (partyOf b) s long k ∙ set-number d b in (
+        let z = load-goes (showing S b last []) x refl (party-fits b) refl refl (rw q (half-taken (S .key b) (door S) (partyOf b) long s k last above)) in
+        let o : openedSet (S .key b) x ≡ s = ap (openedSet (S .key b)) q ∙ half-opened (S .key b) (door S) (partyOf b) long s k in
+        let n : setNumber x ≡ d .number = ap setNumber q ∙ half-number (S .key b) (door S) (partyOf b) long s k ∙ set-number d b in (
           z,
           new _ _ _ z ∙ ap (BoxCalls.loaded (showing S b last [])) o ∙ ap (λ l. showing S b l (fresh s ∷ [])) (set-number d b),
           ap (loaded b) n,
@@ -207,7 +207,7 @@ module _ (S : Starts) (d : Deal) (v : Box → List ℕ) where
     unfolding DealerCalls.deal dealtBy
     deal-made s last e l out0 out1 r0 r1 =
         let k = deal-goes s d (length out0) (length out1) (R .code-fits) (R .seed-long) (R .some) (R .most) r0 r1 (rw e l) (R .threshold-fits) in
-        (k, new _ _ _ k ∙ ap dealtBy e, ap (dealt d) (fun-ext (wrote S L long s last e d sound out0 out1 k)))
+        (k, new _ _ _ k ∙ ap dealtBy e, ap (dealt d) (fun-ext (wrote S long s last e d sound out0 out1 k)))
 
     join-made : (s : Lock) (last : ℕ) → s ≡ lockWith S last → last < d .number → (m n : Message ℕ) → Labelled (door S) 2 camera (d .number) m
         → Labelled (door S) 2 office (d .number) n → m .content ≡ answerBy d v camera → n .content ≡ answerBy d v office
