@@ -10,21 +10,20 @@ use lib.ListN.{length}
 use Rattle.words.specs.List.{same, same-eq}
 use Rattle.measure.specs.Measure.{isCode, allInRange, thresholdFits}
 use Rattle.messages.specs.declared.Label.{Label}
-use Rattle.messages.specs.Messages.{unless, nameFits, isName, expected, isKey}
-use Rattle.content.specs.Content.{lengthFits, contentFits}
-use Rattle.half.specs.Half.{whyNot, setNumber, wholeBlocks, firstFit, openedText}
+use Rattle.messages.specs.Laws.{unless-none, fits-short}
+use Rattle.messages.specs.Messages.{unless, nameFits, isName, expected}
+use Rattle.content.specs.Content.{lengthFits}
+use Rattle.half.specs.Half.{whyNot, setNumber, wholeBlocks}
 use Rattle.dealer.specs.declared.Dealer.{Dealer}
 use Rattle.dealer.specs.Dealer.{Deal, halfSize, whyNotDeal}
 use Rattle.party.specs.declared.Party.{Party}
-use Rattle.party.specs.Party.{stateFits, inTurn, whyNotLoad, whyNotMask, whyNotTake, whyNotFinish, whyNotDrop}
+use Rattle.party.specs.Party.{inTurn, whyNotLoad, whyNotMask, whyNotTake, whyNotFinish, whyNotDrop}
 use Rattle.lock.specs.declared.Lock.{Lock}
 use Rattle.lock.specs.Lock.{whyNotLock, whyNotJoin}
 
 -- where a chain of tests refuses nothing, its first test holds, and so on
 pub passed : (b : Bool) (k rest : ℕ) → unless b (suc k) rest ≡ 0 → (b ≡ true) × (rest ≡ 0)
-unfolding unless
-passed true k rest e = (refl, e)
-passed false k rest e = absurd (omega arith)
+passed b k rest e = unless-none b (suc k) rest (λ z. omega arith) e
 
 pub both : (a b : Bool) → (a && b) ≡ true → (a ≡ true) × (b ≡ true)
 both true b e = (refl, e)
@@ -32,11 +31,9 @@ both false b e = absurd (true≢false (sym e))
 
 -- ---- starts
 
-pub lock-tells : (name : List ℕ) → whyNotLock name ≡ 0 → (1 ≤ length name) × (length name ≤ 16)
-unfolding whyNotLock nameFits
-lock-tells name e =
-    let t = both (leb 1 (length name)) _ (passed _ 0 _ e .0) in
-    (leb-true _ _ (t .0), leb-true _ _ (both (leb (length name) 16) _ (t .1) .0))
+pub lock-tells : (name : List ℕ) → whyNotLock name ≡ 0 → length name ≤ 16
+unfolding whyNotLock
+lock-tells name e = fits-short name (passed (nameFits name) 0 _ e .0)
 
 -- ---- the dealer
 

@@ -1,7 +1,8 @@
 -- Demand 3, whole: no wrong report, no reuse, always answered, not empty. Assumes nothing.
-use mathlib.Core.Path.{_≡_, sym, subst}
+use mathlib.Core.Path.{sym, subst}
 use mathlib.Core.List.{List, [], _∷_}
-use Rattle.calls.specs.Lists.{Starts, Started, beginning, Call, camera, office, joined, after, events, history, Admissible, Answered, NoWrongReport, NoReuse, AlwaysAnswered, NotEmpty}
+use Rattle.calls.specs.Lists.{Starts, Started, beginning, Call, camera, office, joined, after, events, history, Admissible}
+use Rattle.calls.specs.Demand.{Answered, NoWrongReport, NoReuse, AlwaysAnswered, NotEmpty, Demand3}
 use Rattle.calls.proofs.Once.{single}
 use Rattle.calls.proofs.History.{look, in-deals, in-vectors}
 use Rattle.calls.proofs.Invariant.{Inv, starts, door-long}
@@ -43,10 +44,6 @@ always-answered s f cs a d v R F rs g r c q =
 not-empty : NotEmpty
 unfolding NotEmpty
 not-empty s f b = examples s f b
-
--- what stands for demand 3
-pub Demand3 : Type 0
-Demand3 = NoWrongReport × NoReuse × AlwaysAnswered × NotEmpty
 
 pub demand-3 : Demand3
 unfolding Demand3

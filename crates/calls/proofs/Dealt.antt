@@ -1,14 +1,14 @@
 -- What the parts of a door are to compute from a deal and the two boxes' vectors, and that the two answers then sum to the right bit. Assumes nothing.
-use mathlib.Core.Path.{_≡_, refl, sym, ap, ap₂, _∙_}
+use mathlib.Core.Path.{_≡_, refl, ap, _∙_}
 use mathlib.Core.Bool.{Bool, true, false, cond}
 use mathlib.Core.List.{List}
-use Prim.Native.Nat.{ℕ, _+_, _^_, _%_, _<_, _≤_}
+use Prim.Native.Nat.{ℕ, _^_, _%_, _<_, _≤_}
 use native.Mathlib.Omega.{arith}
 use lib.ListN.{length}
-use Rattle.algebra.specs.Word.{add, signed}
+use Rattle.algebra.specs.Word.{add}
 use Rattle.algebra.specs.Bit.{only}
 use Rattle.words.specs.List.{length-tab}
-use Rattle.measure.specs.Measure.{isCode, allInRange, thresholdFits, ownWord, measure, reached}
+use Rattle.measure.specs.Measure.{isCode, allInRange, thresholdFits, ownWord}
 use Rattle.share.specs.Share.{plus, answer, share}
 use Rattle.share.specs.Share as Share
 use Rattle.content.specs.declared.Set.{Set}
@@ -17,7 +17,8 @@ use Rattle.dealing.specs.Dealing.{dealtSet, setFrom}
 use Rattle.dealing.specs.Laws.{proper, dealt-join, share-fill-x, share-fill-y}
 use Rattle.dealer.specs.Dealer.{Deal}
 use Rattle.party.specs.Party.{maskedVector, wordOf}
-use Rattle.calls.specs.Lists.{Box, camera, office, partyOf, other, verdict}
+use Rattle.calls.specs.Lists.{Box, camera, office, partyOf, other}
+use Rattle.calls.specs.Demand.{verdict}
 
 -- the set that a box gets
 abbrev pub setOf : Deal → Box → Set

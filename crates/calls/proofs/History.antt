@@ -3,12 +3,14 @@ use mathlib.Core.Path.{_≡_, refl, sym, subst}
 use mathlib.Core.Bool.{true, _&&_}
 use mathlib.Core.List.{List, [], _∷_}
 use Prim.Native.Nat.{ℕ}
-use lib.Dec.{T, eqb, eqb-refl}
+use lib.Dec.{eqb, eqb-refl}
 use Rattle.measure.specs.Measure.{allInRange}
 use Rattle.messages.specs.Messages.{padded}
 use Rattle.half.specs.Half.{half}
 use Rattle.dealer.specs.Dealer.{Deal}
-use Rattle.calls.specs.Lists.{Box, camera, office, partyOf, sameBox, Starts, Event, Body, dealt, loaded, sent, dropped, joined, refused, vector, word, answer, In, here, there, collect, dealOf, sentOf, vectorOf, deals, vectors, verdict}
+use Rattle.calls.specs.Lists.{Box, camera, office, partyOf, sameBox, Starts, Event, dealt, loaded, sent, dropped, joined, refused, vector, word, answer, In, here, there}
+use Rattle.calls.specs.Demand.{dealOf, sentOf, vectorOf, deals, vectors, verdict}
+use Rattle.calls.proofs.Boxes.{same-both}
 use Rattle.calls.proofs.Dealt.{setOf, Sound, maskOf, wordBy, answerBy}
 use Rattle.calls.proofs.Once.{in-collect, in-cond}
 
@@ -78,10 +80,6 @@ module _ (S : Starts) where
 
 pub in-deals : (h : List Event) (n : ℕ) (t : Dealt h n) → In (t .d) (deals n h)
 in-deals h n t = in-collect (dealOf n) (dealt (t .d) (t .f)) h (in-cond (eqb (t .d .number) n) (t .d ∷ []) (rw (t .is) (eqb-refl n)) (here refl)) (t .was)
-
-same-both : (b : Box) (n : ℕ) → T (sameBox b b && eqb n n)
-same-both camera n = eqb-refl n
-same-both office n = eqb-refl n
 
 pub in-vectors : (h : List Event) (b : Box) (n : ℕ) (x : List ℕ) → Vector h b n x → In x (vectors b n h)
 in-vectors h b n x t = in-collect (sentOf vectorOf b n) (sent b n (vector x (t .0))) h (in-cond (sameBox b b && eqb n n) (x ∷ []) (same-both b n) (here refl)) (t .1)

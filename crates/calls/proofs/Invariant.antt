@@ -1,12 +1,10 @@
 -- The invariant of a door's list of calls: its events are right, each part's state is what they say, and each box's sets stand in its state. Assumes nothing.
-use mathlib.Core.Path.{_≡_, refl, sym, subst, ap, _∙_, fun-ext}
-use mathlib.Core.Bool.{cond, true}
+use mathlib.Core.Path.{_≡_, refl, ap, _∙_, fun-ext}
 use mathlib.Core.List.{List, [], _∷_}
 use Prim.Native.Nat.{ℕ, _*_, _-_, _<_, _≤_}
 use native.Mathlib.Omega.{arith}
 use lib.ListN.{length, replicate, length-append, length-replicate}
-use Rattle.messages.specs.Messages.{ifTaken, padded}
-use Rattle.content.specs.declared.Set.{Set}
+use Rattle.messages.specs.Messages.{padded}
 use Rattle.content.specs.Content.{blocks}
 use Rattle.half.specs.Claims.{length-half}
 use Rattle.dealer.specs.declared.Dealer.{Dealer}
@@ -15,11 +13,12 @@ use Rattle.party.specs.declared.Party.{Party}
 use Rattle.party.specs.Party.{idle, startParty}
 use Rattle.lock.specs.declared.Lock.{Lock}
 use Rattle.lock.specs.Lock.{startLock}
-use Rattle.calls.specs.Lists.{Box, camera, office, partyOf, World, Starts, Started, beginning, written, Event, In, deals, vectors, lastDealt, lastLoaded, lastJoined}
+use Rattle.calls.specs.Lists.{Box, camera, office, partyOf, World, Starts, Started, beginning, written, Event}
+use Rattle.calls.specs.Demand.{deals, vectors, lastDealt, lastLoaded, lastJoined}
 use Rattle.calls.proofs.Accepted.{lock-tells}
 use Rattle.calls.proofs.Dealt.{setOf, set-n, set-proper, Sound}
 use Rattle.calls.proofs.Once.{Once, once-none, unique}
-use Rattle.calls.proofs.History.{door, halfOf, Good, Dealt, Vector, Pair, in-deals, in-vectors}
+use Rattle.calls.proofs.History.{door, halfOf, Good, Dealt, Vector, in-deals, in-vectors}
 use Rattle.calls.proofs.Slots.{Slot, fresh, masked, worded, setIn, Slots}
 use Rattle.calls.proofs.Written.{new, written-is}
 

@@ -1,25 +1,24 @@
 -- From any accepted starts a run in the right order can be made to its end, and it is an admissible list. Assumes nothing.
-use mathlib.Core.Path.{_≡_, refl, sym, ap, subst, _∙_}
-use mathlib.Core.Bool.{true, false, cond, _&&_}
+use mathlib.Core.Path.{_≡_, refl, sym, ap, subst}
+use mathlib.Core.Bool.{true}
 use mathlib.Core.List.{List, [], _∷_}
 use Prim.Native.Nat.{ℕ, _-_, _/_, _^_, _<_, _≤_}
 use native.Mathlib.Omega.{arith}
-use lib.Dec.{leb, ltb}
-use lib.IntN.{ℤ, pos, negℤ, _+ℤ_, _*ℤ_}
 use lib.ListN.{length, replicate, length-replicate}
-use lib.Signed.{leZ}
 use Rattle.algebra.specs.Word.{signed}
 use Rattle.algebra.specs.Sum.{sumℤ}
 use Rattle.measure.specs.Measure.{row, scalarProduct, element, measure, reached, isCode, within, inRange, allInRange, thresholdFits}
 use Rattle.measure.specs.Measure as Measure
 use Rattle.half.specs.Half.{blockAt}
 use Rattle.dealer.specs.Dealer.{Deal, halfSize}
-use Rattle.calls.specs.Lists.{Box, camera, office, partyOf, other, World, Starts, Started, beginning, Message, Call, deal, load, mask, take, finish, drop, join, Event, dealt, sent, joined, vector, word, answer, step, In, here, there, Fits, Written, Sent, SentVector, SentWord, SentAnswer, Admits, history, Admissible, verdict, Progress, nothingMade, onward, Labelled, Ready, Run, start, own, InRange, Free, Below, Example}
+use Rattle.calls.specs.Lists.{Box, camera, office, partyOf, other, Starts, Started, beginning, Message, Call, deal, load, mask, take, finish, join, Event, In, here, there, Fits, Sent, SentVector, SentWord, SentAnswer, Admits, history, Admissible}
+use Rattle.calls.specs.Demand.{verdict, Progress, nothingMade, onward, Labelled, Ready, Run, start, own, InRange, Free, Below, Example}
 use Rattle.calls.proofs.Dealt.{maskOf, wordBy, answerBy}
 use Rattle.calls.proofs.Once.{All}
 use Rattle.calls.proofs.History.{door, halfOf}
 use Rattle.calls.proofs.Invariant.{starts, door-long}
-use Rattle.calls.proofs.Runs.{said, ready, run-goes}
+use Rattle.calls.proofs.Made.{said}
+use Rattle.calls.proofs.Runs.{ready, run-goes}
 
 -- ---- what a run's own call is handed is admitted
 

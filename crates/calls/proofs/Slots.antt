@@ -1,18 +1,20 @@
 -- A box's sets as a list with rising numbers, each with how far it is, and what a box's events keep of it. How a state shows this list is another file's matter.
 -- Assumes nothing.
 use mathlib.Core.Path.{_≡_, refl, ap}
-use mathlib.Core.Bool.{Bool, true, _&&_}
+use mathlib.Core.Bool.{_&&_}
 use mathlib.Core.List.{List, [], _∷_, _++_}
 use mathlib.Core.Logic.{_⊎_, inl, inr}
-use Prim.Native.Nat.{ℕ, _-_, _≤_, _<_}
+use Prim.Native.Nat.{ℕ, _≤_, _<_}
 use native.Mathlib.Omega.{arith}
-use lib.Dec.{T, eqb, eqb→eq}
+use lib.Dec.{eqb}
 use lib.ListN.{length, length-append}
 use Rattle.measure.specs.Measure.{ownWord}
 use Rattle.content.specs.declared.Set.{Set}
 use Rattle.content.specs.Content.{fill}
 use Rattle.party.specs.Party.{maskedVector}
-use Rattle.calls.specs.Lists.{Box, camera, office, sameBox, Event, Body, dealt, loaded, sent, dropped, joined, refused, vector, word, answer, In, here, there, sentOf, vectorOf, wordOf, vectors, words, lastLoaded, openSets}
+use Rattle.calls.specs.Lists.{Box, sameBox, Event, loaded, sent, dropped, vector, word, answer, here, there}
+use Rattle.calls.specs.Demand.{sentOf, vectorOf, wordOf, vectors, words, lastLoaded, openSets}
+use Rattle.calls.proofs.Boxes.{own-box, same-number}
 use Rattle.calls.proofs.Dealt.{setOf, maskOf, ownOf, wordBy}
 use Rattle.calls.proofs.Once.{All, Once, once-map, once-cond, once-skip}
 use Rattle.calls.proofs.History.{Dealt, Vector, dealt-later, sents-later}
@@ -126,14 +128,6 @@ all-load P u [] a q = (q, tt)
 all-load P u (t ∷ ts) a q = (a .0, all-load P u ts (a .1) q)
 
 -- ---- this box's own events
-
-own-box : (b : Box) → sameBox b b ≡ true
-own-box camera = refl
-own-box office = refl
-
-same-number : (b : Box) (n m : ℕ) → T (sameBox b b && eqb n m) → n ≡ m
-same-number camera n m t = eqb→eq n m t
-same-number office n m t = eqb→eq n m t
 
 module _ (h : List Event) (b : Box) (last : ℕ) where
   -- call 4 and drop end the first

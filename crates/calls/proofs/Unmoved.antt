@@ -1,10 +1,9 @@
 -- A call that changes no state was refused. Assumes nothing.
 use mathlib.Core.Path.{_≡_, refl, sym, ap, _∙_}
-use mathlib.Core.List.{List}
 use Prim.Native.Nat.{ℕ}
 use native.Mathlib.Omega.{arith}
-use borrow.Author.Tests.{ne-eqb}
 use lib.ListN.{length}
+use Rattle.messages.specs.Laws.{refused as stays}
 use Rattle.messages.specs.Messages.{ifTaken}
 use Rattle.dealer.specs.declared.Dealer.{Dealer}
 use Rattle.dealer.specs.Dealer as DealerCalls
@@ -14,20 +13,16 @@ use Rattle.party.specs.Party as BoxCalls
 use Rattle.party.specs.Party.{idle}
 use Rattle.lock.specs.declared.Lock.{Lock}
 use Rattle.lock.specs.Lock as LockCalls
-use Rattle.calls.specs.Lists.{Box, camera, office, World, Call, deal, load, mask, take, finish, drop, join, Event, refused, put, eventOf, onBox, step}
+use Rattle.calls.specs.Lists.{Box, World, Call, deal, load, mask, take, finish, drop, join, Event, refused, eventOf, onBox, step}
 use Rattle.calls.proofs.Accepted.{deal-tells, load-tells, mask-tells, take-tells, finish-tells, drop-tells, join-tells}
+use Rattle.calls.proofs.Boxes.{put-own}
 use Rattle.calls.proofs.Written.{new}
 
 abbrev Refused : Event → Type 0
 Refused e = (why : ℕ) × (e ≡ refused why)
 
 no-event : (why : ℕ) (e : Event) → (why ≡ 0 → ⊥) → Refused (eventOf why e)
-unfolding ifTaken
-no-event why e f = (why, rw (ne-eqb why 0 f) refl)
-
-put-own : {A : Type 0} (f : Box → A) (b : Box) (a : A) → put f b a b ≡ a
-put-own f camera a = refl
-put-own f office a = refl
+no-event why e f = (why, sym (stays e (refused why) refl f))
 
 -- an accepted call of a box moves its phase, and an accepted deal or join a number
 no-box : (w : World) (b : Box) (a : PartyAnswer) (e : Event) (s : Party) → a .party ≡ ifTaken (a .why) s (w .box b) → (a .why ≡ 0 → s .phase ≡ w .box b .phase → ⊥)

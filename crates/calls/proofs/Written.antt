@@ -1,12 +1,12 @@
 -- What an accepted call leaves: the new state, and at the start of a lent buffer what it wrote. Assumes nothing.
-use mathlib.Core.Path.{_≡_, refl, ap, ap₂, _∙_}
-use mathlib.Core.Bool.{cond}
-use mathlib.Core.List.{List, _++_}
+use mathlib.Core.Path.{_≡_, refl, sym, ap, _∙_}
+use mathlib.Core.List.{List}
 use Prim.Native.Nat.{ℕ, _+_, _≤_}
 use native.Mathlib.Omega.{arith}
 use lib.ListN.{length, take, drop}
 use lib.Seq.{take-at}
 use Rattle.words.specs.List.{over, over-eq}
+use Rattle.messages.specs.Laws.{taken}
 use Rattle.messages.specs.Messages.{ifTaken}
 use Rattle.content.specs.Content.{part}
 use Rattle.dealer.specs.declared.Dealer.{Dealer}
@@ -18,8 +18,7 @@ use Rattle.calls.proofs.Accepted.{deal-tells, mask-tells}
 use Rattle.calls.proofs.Dealt.{mask-long}
 
 pub new : {A : Type 0} (why : ℕ) (a b : A) → why ≡ 0 → ifTaken why a b ≡ a
-unfolding ifTaken
-new why a b e = rw e refl
+new why a b e = sym (taken a b refl e)
 
 start-of : (p s : List ℕ) (n : ℕ) → length p ≡ n → n ≤ length s → part 0 n (over 0 p s) ≡ p
 unfolding part
