@@ -8,7 +8,7 @@ use Rattle.calls.proofs.History.{look, in-deals, in-vectors}
 use Rattle.calls.proofs.Invariant.{Inv, starts, door-long}
 use Rattle.calls.proofs.Keeps.{keeps}
 use Rattle.calls.proofs.Runs.{ready, run-goes, answered}
-use Rattle.calls.proofs.NotEmpty.{examples}
+use Rattle.calls.proofs.NotEmpty.{examples, some-starts}
 
 always : (s : Starts) → Started s → (cs : List Call) → Admissible s cs → Inv s (history s cs) (after (beginning s) cs)
 always s f [] a = starts s f
@@ -43,7 +43,7 @@ always-answered s f cs a d v R F rs g r c q =
 
 not-empty : NotEmpty
 unfolding NotEmpty
-not-empty s f b = examples s f b
+not-empty = (examples, some-starts)
 
 pub demand-3 : Demand3
 unfolding Demand3

@@ -106,7 +106,10 @@ module _ (S : Starts) where
         lock-is = new _ _ _ (f .lock-taken);
       }
 
-  -- ---- what an accepted deal writes
+  -- ---- what an accepted deal leaves and writes
+
+  abbrev pub dealtBy : Deal → Dealer → Dealer
+  dealtBy d s = record { name = s .name; key0 = s .key0; key1 = s .key1; last = d .number }
 
   half-is : (s : Dealer) (last : ℕ) → s ≡ dealerWith last → (d : Deal) (b : Box) → halfFor s d (partyOf b) ≡ halfOf S d b
   unfolding halfFor keyOf

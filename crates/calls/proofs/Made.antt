@@ -29,7 +29,7 @@ use Rattle.calls.proofs.Dealt.{setOf, set-number, set-code, set-n, set-
 use Rattle.calls.proofs.History.{door, halfOf}
 use Rattle.calls.proofs.Slots.{Slot, fresh, masked, worded}
 use Rattle.calls.proofs.Written.{new, masked-is}
-use Rattle.calls.proofs.Invariant.{showing, dealerWith, lockWith, wrote}
+use Rattle.calls.proofs.Invariant.{showing, dealerWith, lockWith, dealtBy, wrote}
 use Rattle.calls.proofs.Boxes.{party-fits, other-party}
 
 bit-le : (b : Bool) → cond b 1 0 ≤ 1
@@ -110,7 +110,8 @@ module _ (S : Starts) (d : Deal) (v : Box → List ℕ) where
     unfolding BoxCalls.mask BoxCalls.masked
     mask-made b x out q room =
         let z : Party = shown b 0 in
-        let k = mask-goes z x (length out) (open-at b (fresh (setOf d b)) 1 (omega arith) (omega arith) refl refl) (rw (q, set-n d b) (R .vector-long b)) (rw (set-n d b) room) (rw (q, set-code d b) (R .elements-fit b)) in (
+        let o = open-at b (fresh (setOf d b)) 1 (omega arith) (omega arith) refl refl in
+        let k = mask-goes z x (length out) o (rw (q, set-n d b) (R .vector-long b)) (rw (set-n d b) room) (rw (q, set-code d b) (R .elements-fit b)) in (
           k,
           new _ _ _ k ∙ ap (BoxCalls.masked z) q,
           ap₂ (λ n m. sent b n (vector x m)) (set-number d b) (masked-is z x out k) ∙ ap (λ y. sent b (d .number) (vector y (maskOf d b y))) q,
@@ -143,16 +144,13 @@ module _ (S : Starts) (d : Deal) (v : Box → List ℕ) where
         (k, new _ _ _ k, ap₂ (λ n w. sent b n (answer w)) (set-number d b) (new _ _ _ k ∙ u))
 
     -- the same of the dealer and of the lock
-    dealtBy : Dealer → Dealer
-    dealtBy s = record { name = s .name; key0 = s .key0; key1 = s .key1; last = d .number }
-
     pub deal-made : (s : Dealer) (last : ℕ) → s ≡ dealerWith S last → last < d .number → (out0 out1 : List ℕ) → halfSize (d .n) ≤ length out0 → halfSize (d .n) ≤ length out1
         → (let a = DealerCalls.deal s d (length out0) (length out1) in
         (a .why ≡ 0) × (a .dealer ≡ dealerWith S (d .number)) × (dealt d (written s d out0 out1) ≡ dealt d (halfOf S d)))
-    unfolding DealerCalls.deal dealtBy
+    unfolding DealerCalls.deal
     deal-made s last e l out0 out1 r0 r1 =
         let k = deal-goes s d (length out0) (length out1) (R .code-fits) (R .seed-long) (R .some) (R .most) r0 r1 (rw e l) (R .threshold-fits) in
-        (k, new _ _ _ k ∙ ap dealtBy e, ap (dealt d) (fun-ext (wrote S long s last e d sound out0 out1 k)))
+        (k, new _ _ _ k ∙ ap (dealtBy S d) e, ap (dealt d) (fun-ext (wrote S long s last e d sound out0 out1 k)))
 
     pub join-made : (s : Lock) (last : ℕ) → s ≡ lockWith S last → last < d .number → (m n : Message ℕ) → Labelled (door S) 2 camera (d .number) m
         → Labelled (door S) 2 office (d .number) n → m .content ≡ answerBy d v camera → n .content ≡ answerBy d v office
@@ -169,5 +167,6 @@ module _ (S : Starts) (d : Deal) (v : Box → List ℕ) where
           number-is = ap (λ z. z .number) (y .0) ∙ sym number;
           name-is = y .1 ∙ sym name;
         } in
-        let k = join-goes s (m .label) (m .name) (m .content) (n .label) (n .name) (n .content) (rw name long) (at camera m a) (at office n b) (rw (e, number) l) (rw sum (bit-le (reached (d .code) (measure (d .code) (d .n) (v camera) (v office)) (signed (d .t))))) in
+        let bit : add (m .content) (n .content) ≤ 1 = rw sum (bit-le (reached (d .code) (measure (d .code) (d .n) (v camera) (v office)) (signed (d .t)))) in
+        let k = join-goes s (m .label) (m .name) (m .content) (n .label) (n .name) (n .content) (rw name long) (at camera m a) (at office n b) (rw (e, number) l) bit in
         (k, new _ _ _ k ∙ ap₂ (λ x y. record { name = x; last = y }) name number, ap₂ joined number (new _ _ _ k ∙ sum))

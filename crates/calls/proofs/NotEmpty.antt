@@ -9,9 +9,13 @@ use Rattle.algebra.specs.Word.{signed}
 use Rattle.algebra.specs.Sum.{sumℤ}
 use Rattle.measure.specs.Measure.{row, scalarProduct, element, measure, reached, isCode, within, inRange, allInRange, thresholdFits}
 use Rattle.measure.specs.Measure as Measure
+use Rattle.words.specs.List.{same}
+use Rattle.messages.specs.Messages.{unless, nameFits, printable, isKey}
 use Rattle.half.specs.Half.{blockAt}
-use Rattle.dealer.specs.Dealer.{Deal, halfSize}
-use Rattle.calls.specs.Lists.{Box, camera, office, partyOf, other, Starts, Started, beginning, Message, Call, deal, load, mask, take, finish, join, Event, In, here, there, Fits, Sent, SentVector, SentWord, SentAnswer, Admits, history, Admissible}
+use Rattle.party.specs.Party.{startParty, whyNotParty}
+use Rattle.lock.specs.Lock.{startLock, whyNotLock}
+use Rattle.dealer.specs.Dealer.{Deal, halfSize, startDealer, whyNotDealer}
+use Rattle.calls.specs.Lists.{Box, camera, office, partyOf, other, Starts, Started, boxStart, beginning, Message, Call, deal, load, mask, take, finish, join, Event, In, here, there, Fits, Sent, SentVector, SentWord, SentAnswer, Admits, history, Admissible}
 use Rattle.calls.specs.Demand.{verdict, Progress, nothingMade, onward, Labelled, Ready, Run, start, own, InRange, Free, Below, Example}
 use Rattle.calls.proofs.Dealt.{maskOf, wordBy, answerBy}
 use Rattle.calls.proofs.Once.{All}
@@ -132,3 +136,20 @@ examples s f b = (
   subst (Example s) (zero-verdict .0) (example s f (zeroDeal 0) zeroVector (zero-range 0 (zero-threshold .0)) (free s 0 b)),
   subst (Example s) (zero-verdict .1) (example s f (zeroDeal 1) zeroVector (zero-range 1 (zero-threshold .1)) (free s 1 b)),
 )
+
+-- ---- a door named "A", with floors of zero
+
+zeroStarts : Starts
+zeroStarts = record { name = 65 ∷ []; key = λ b. replicate 32 (partyOf b); dealerFloor = 0; boxFloor = λ b. 0; lockFloor = 0 }
+
+pub some-starts : (s : Starts) × Started s × Below s (2 ^ 64 - 1)
+unfolding zeroStarts startDealer startParty startLock whyNotDealer whyNotParty whyNotLock nameFits printable isKey same unless
+some-starts = (
+  zeroStarts,
+  record { dealer-taken = refl; box-taken = taken; lock-taken = refl },
+  record { dealer-below = omega arith; box-below = λ b. omega arith; lock-below = omega arith },
+)
+  where
+    taken : (b : Box) → boxStart zeroStarts b .why ≡ 0
+    taken camera = refl
+    taken office = refl

@@ -10,7 +10,7 @@ use Rattle.dealer.specs.Dealer.{Deal, halfSize}
 use Rattle.party.specs.declared.Party.{Party}
 use Rattle.party.specs.declared.PartyAnswer.{PartyAnswer}
 use Rattle.party.specs.Party as BoxCalls
-use Rattle.calls.specs.Lists.{Box, camera, office, World, Starts, Call, deal, load, mask, take, finish, drop, join, Event, dealt, loaded, sent, dropped, joined, refused, vector, word, answer, put, eventOf, onBox, maskedBy, step, after, events, In, here, there}
+use Rattle.calls.specs.Lists.{Box, camera, office, World, Starts, Call, deal, load, mask, take, finish, join, Event, dealt, loaded, sent, dropped, joined, refused, vector, word, answer, put, eventOf, onBox, maskedBy, step, after, events, In, here, there}
 use Rattle.calls.specs.Demand.{Progress, nothingMade, madeOne, onward, Ready, Run, start, own, aside, Answered, InRange, Free}
 use Rattle.calls.proofs.Dealt.{maskOf, wordBy, answerBy}
 use Rattle.calls.proofs.History.{door, halfOf}
@@ -21,7 +21,7 @@ use Rattle.calls.proofs.Unmoved.{unmoved}
 use Rattle.calls.proofs.Made.{said, shown, Made, load-made, mask-made, take-made, finish-made, deal-made, join-made}
 
 module _ (S : Starts) (d : Deal) (v : Box → List ℕ) where
-  -- the run's events so far
+  -- what holds of the run's events so far
   abbrev pub Exact : Event → Type 0
   Exact (dealt e f) = (b : Box) → f b ≡ halfOf S d b
   Exact (loaded b n) = Unit {0}
@@ -32,15 +32,7 @@ module _ (S : Starts) (d : Deal) (v : Box → List ℕ) where
   Exact (joined n bit) = Unit {0}
   Exact (refused why) = Unit {0}
 
-  exact : (c : Call) → Exact (said S d v c)
-  exact (deal e out0 out1) = λ b. refl
-  exact (load b x) = tt
-  exact (mask b x out) = refl
-  exact (take b m) = refl
-  exact (finish b m) = refl
-  exact (drop b) = tt
-  exact (join m n) = tt
-
+  -- a box after k of its calls
   abbrev pub Holds : Box → Party → ℕ → Type 0
   Holds b s zero = (last : ℕ) × (s ≡ showing S b last []) × (last < d .number)
   Holds b s (suc zero) = s ≡ shown S d v b 0
@@ -48,6 +40,7 @@ module _ (S : Starts) (d : Deal) (v : Box → List ℕ) where
   Holds b s (suc (suc (suc zero))) = s ≡ shown S d v b 2
   Holds b s (suc (suc (suc (suc k)))) = Unit {0}
 
+  -- .. and of its world
   pub record At (w : World) (g : Progress) (h : List Event) : Type 0 where
     pub dealer-at : (last : ℕ) × (w .dealer ≡ dealerWith S last) × (g .begun ≡ false → last < d .number)
     pub box-at : (b : Box) → Holds b (w .box b) (g .made b)
@@ -113,14 +106,22 @@ module _ (S : Starts) (d : Deal) (v : Box → List ℕ) where
       goes (deal e out0 out1) (m, q, r0, r1) = subst (λ y. Goes (deal y out0 out1)) (sym q) (deal-goes-on out0 out1 m r0 r1)
       goes (load b x) (m, f, i, q) =
           let (last, st, l) = holding b 0 m in
-          let x-is : x ≡ halfOf S d b = q ∙ A .exact-at (dealt d f) i b in
-          box-goes b (λ y. BoxCalls.load y x) (λ y. loaded b (setNumber x)) (showing S b last []) (shown S d v b 0) _ 0 m st (load-made S d v long R b last l x x-is) tt refl
+          let made = load-made S d v long R b last l x (q ∙ A .exact-at (dealt d f) i b) in
+          box-goes b (λ y. BoxCalls.load y x) (λ y. loaded b (setNumber x)) (showing S b last []) (shown S d v b 0) _ 0 m st made tt refl
       goes (mask b x out) (m, q, r) =
-          box-goes b (λ y. BoxCalls.mask y x (length out)) (λ y. sent b (y .set .number) (vector x (maskedBy y x out))) (shown S d v b 0) (shown S d v b 1) _ 1 m (holding b 1 m) (mask-made S d v long R b x out q r) refl refl
+          let call : Party → PartyAnswer = λ y. BoxCalls.mask y x (length out) in
+          let leaves : Party → Event = λ y. sent b (y .set .number) (vector x (maskedBy y x out)) in
+          box-goes b call leaves (shown S d v b 0) (shown S d v b 1) _ 1 m (holding b 1 m) (mask-made S d v long R b x out q r) refl refl
       goes (take b m) (e, a, i) =
-          box-goes b (λ y. BoxCalls.take y (m .label) (m .name) (m .content)) (λ y. sent b (y .set .number) (word (BoxCalls.take y (m .label) (m .name) (m .content) .word))) (shown S d v b 1) (shown S d v b 2) _ 2 e (holding b 2 e) (take-made S d v long R b m a (A .exact-at _ (i .1))) refl refl
+          let call : Party → PartyAnswer = λ y. BoxCalls.take y (m .label) (m .name) (m .content) in
+          let leaves : Party → Event = λ y. sent b (y .set .number) (word (call y .word)) in
+          let made = take-made S d v long R b m a (A .exact-at _ (i .1)) in
+          box-goes b call leaves (shown S d v b 1) (shown S d v b 2) _ 2 e (holding b 2 e) made refl refl
       goes (finish b m) (e, a, i) =
-          box-goes b (λ y. BoxCalls.finish y (m .label) (m .name) (m .content)) (λ y. sent b (y .set .number) (answer (BoxCalls.finish y (m .label) (m .name) (m .content) .word))) (shown S d v b 2) (BoxCalls.closed (shown S d v b 2)) _ 3 e (holding b 3 e) (finish-made S d v long R b m a (A .exact-at _ i)) refl tt
+          let call : Party → PartyAnswer = λ y. BoxCalls.finish y (m .label) (m .name) (m .content) in
+          let leaves : Party → Event = λ y. sent b (y .set .number) (answer (call y .word)) in
+          let made = finish-made S d v long R b m a (A .exact-at _ i) in
+          box-goes b call leaves (shown S d v b 2) (BoxCalls.closed (shown S d v b 2)) _ 3 e (holding b 3 e) made refl tt
       goes (join m n) (e, a, i, b, j) =
           let k = join-made S d v long R (w .lock) (A .lock-at .0) (A .lock-at .1) (A .lock-at .2 e) m n a b (A .exact-at _ i) (A .exact-at _ j) in
           let r = event-is _ _ _ (k .0) (k .2) in (

@@ -1,7 +1,7 @@
 -- A box's sets as a list with rising numbers, each with how far it is, and what a box's events keep of it. How a state shows this list is another file's matter.
 -- Assumes nothing.
 use mathlib.Core.Path.{_≡_, refl, ap}
-use mathlib.Core.Bool.{_&&_}
+use mathlib.Core.Bool.{cond, _&&_}
 use mathlib.Core.List.{List, [], _∷_, _++_}
 use mathlib.Core.Logic.{_⊎_, inl, inr}
 use Prim.Native.Nat.{ℕ, _≤_, _<_}
@@ -174,19 +174,27 @@ module _ (h : List Event) (b : Box) (last : ℕ) where
       before m P f (inl q) = inl (omega arith)
       before m P f (inr q) = elim (some-load P (fresh s) ts q) as (λ z. (last < m) ⊎ Some P ts) [ inl a ↦ inr a | inr a ↦ inl (omega (arith, f a)) ]
 
-  -- calls 2 and 3 act on the first: what they send was free, and is not from then on
-  never : (P : ℕ → Slot → Type 0) (f : (m : ℕ) (t : Slot) → P m t → setIn t .number ≡ m) (n m : ℕ) (ts : List Slot) → Rising n last ts → n ≡ m
-      → (last < m) ⊎ (⊥ ⊎ Some (P m) ts) → ⊥
-  never P f n m ts r e (inl q) = omega (arith, rising-le n last ts r)
-  never P f n m ts r e (inr (inr q)) = omega (arith, rising-some P f m n last ts r q)
+  -- calls 2 and 3 act on the first: what they send was free under its number, and is not from then on
+  send : {A : Type 0} (P : ℕ → Slot → Type 0) (f : (m : ℕ) (t : Slot) → P m t → setIn t .number ≡ m) (n m : ℕ) (t u : Slot) (ts : List Slot) → Rising n last ts
+      → (n ≡ m → P m t) → (P m u → ⊥) → (x : A) (l : List A) → Once l ((last < m) ⊎ Some (P m) (t ∷ ts))
+      → Once (cond (sameBox b b && eqb n m) (x ∷ []) [] ++ l) ((last < m) ⊎ Some (P m) (u ∷ ts))
+  send P f n m t u ts r was not-now x l o =
+      once-cond x l (sameBox b b && eqb n m) o (λ p. inr (inl (was (same-number b n m p)))) (λ p q. never (same-number b n m p) q) rest
+    where
+      never : n ≡ m → (last < m) ⊎ Some (P m) (u ∷ ts) → ⊥
+      never e (inl q) = omega (arith, rising-le n last ts r)
+      never e (inr (inl q)) = not-now q
+      never e (inr (inr q)) = omega (arith, rising-some P f m n last ts r q)
 
-  rest : {A B C : Type 0} → A ⊎ (⊥ ⊎ B) → A ⊎ (C ⊎ B)
-  rest (inl q) = inl q
-  rest (inr (inr q)) = inr (inr q)
+      rest : (last < m) ⊎ Some (P m) (u ∷ ts) → (last < m) ⊎ Some (P m) (t ∷ ts)
+      rest (inl q) = inl q
+      rest (inr (inl q)) = absurd (not-now q)
+      rest (inr (inr q)) = inr (inr q)
 
   pub slots-mask : (s : Set) (ts : List Slot) → Slots h b last (fresh s ∷ ts) → (x : List ℕ)
       → Slots (sent b (s .number) (vector x (maskedVector s x)) ∷ h) b last (masked s (fill (maskedVector s x)) (ownWord (s .code) (s .n) x) ∷ ts)
   slots-mask s ts k x =
+      let u : Slot = masked s (fill (maskedVector s x)) (ownWord (s .code) (s .n) x) in
       let t = k .holds .0 .0 in
       let e = k .holds .0 .1 in
       record {
@@ -197,7 +205,7 @@ module _ (h : List Event) (b : Box) (last : ℕ) where
         low = k .low;
         rising = k .rising;
         count = rw (own-box b) (omega (arith, k .count));
-        vectors-once = λ m. once-cond x (vectors b m h) (sameBox b b && eqb (s .number) m) (k .vectors-once m) (λ p. inr (inl (same-number b (s .number) m p))) (λ p q. never Unmasked unmasked-is (s .number) m ts (k .rising .1) (same-number b (s .number) m p) q) rest;
+        vectors-once = λ m. send Unmasked unmasked-is (s .number) m (fresh s) u ts (k .rising .1) (λ p. p) (λ q. q) x (vectors b m h) (k .vectors-once m);
         words-once = λ m. once-skip (words b m h) (sameBox b b && eqb (s .number) m) (k .words-once m) (λ q. q);
       }
 
@@ -210,5 +218,5 @@ module _ (h : List Event) (b : Box) (last : ℕ) where
         rising = k .rising;
         count = rw (own-box b) (omega (arith, k .count));
         vectors-once = λ i. once-skip (vectors b i h) (sameBox b b && eqb (s .number) i) (k .vectors-once i) (λ q. q);
-        words-once = λ i. once-cond w (words b i h) (sameBox b b && eqb (s .number) i) (k .words-once i) (λ p. inr (inl (same-number b (s .number) i p))) (λ p q. never Unworded unworded-is (s .number) i ts (k .rising .1) (same-number b (s .number) i p) q) rest;
+        words-once = λ i. send Unworded unworded-is (s .number) i (masked s m o) (worded s m o w) ts (k .rising .1) (λ p. p) (λ q. q) w (words b i h) (k .words-once i);
       }

@@ -198,6 +198,7 @@ pub record Free (s : Starts) (h : List Event) (n : ℕ) : Type 0 where
   pub above-box : (b : Box) → lastLoaded (s .boxFloor b) b h < n
   pub above-lock : lastJoined (s .lockFloor) h < n
 
+-- after every admissible list that leaves no set open: however far such a run is and whatever came in between, each of its own calls that may come next is answered
 unfoldable pub AlwaysAnswered : Type 0
 AlwaysAnswered = (s : Starts) → Started s → (cs : List Call) → Admissible s cs → (d : Deal) (v : Box → List ℕ) → InRange d v → Free s (history s cs) (d .number)
     → (let w : World = after (beginning s) cs in
@@ -222,9 +223,9 @@ pub record Example (s : Starts) (bit : ℕ) : Type 0 where
   pub run : Run (padded (s .name)) d v (beginning s) cs g
   pub says : In (joined (d .number) bit) (history s cs)
 
--- from any accepted starts with floors below 2^64 - 1
+-- from any accepted starts with floors below 2^64 - 1; and there are such starts
 unfoldable pub NotEmpty : Type 0
-NotEmpty = (s : Starts) → Started s → Below s (2 ^ 64 - 1) → Example s 1 × Example s 0
+NotEmpty = ((s : Starts) → Started s → Below s (2 ^ 64 - 1) → Example s 1 × Example s 0) × ((s : Starts) × Started s × Below s (2 ^ 64 - 1))
 
 -- ---- demand 3, whole
 

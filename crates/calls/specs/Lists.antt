@@ -183,7 +183,7 @@ pub data In {A : Type 0} (a : A) : List A → Type 0 where
   here : {x : A} {l : List A} → a ≡ x → In a (x ∷ l)
   there : {x : A} {l : List A} → In a l → In a (x ∷ l)
 
--- numbers are handed in by their types; only of a set number is that needed: it has 64 bits
+-- what is handed in fits its type: only of a dealt number is that needed, which has 64 bits ("A set has a 64-bit number")
 abbrev pub Fits : Call → Type 0
 Fits (deal d out0 out1) = d .number < 2 ^ 64
 Fits (load b h) = Unit {0}
