@@ -1,12 +1,12 @@
 -- Content laid out piece by piece over zeros. Assumes nothing.
-use mathlib.Core.Path.{_≡_, refl, sym, ap, ap₂, _∙_, subst}
+use mathlib.Core.Path.{_≡_, refl, sym, ap, ap₂, _∙_}
 use mathlib.Core.List.{List, [], _∷_, _++_, map, map-append, append-assoc, append-nil}
-use Prim.Native.Nat.{ℕ, zero, suc, _+_, _*_, _-_, _<_, _≤_}
+use Prim.Native.Nat.{ℕ, _+_, _*_, _-_, _<_, _≤_}
 use native.Mathlib.Nat.{zero-add}
 use native.Mathlib.Numerals.{add-one}
 use native.Mathlib.Omega.{arith}
-use lib.ListN.{length, getD, take, drop, replicate, length-append, length-replicate, replicate-append-replicate}
-use lib.Seq.{take-suc, take-all, drop-at, length-take-le}
+use lib.ListN.{length, getD, take, drop, replicate, length-append, length-replicate}
+use lib.Seq.{take-suc, take-all, length-take-le}
 use Rattle.words.specs.List.{over, over-next, over-all, over-eq}
 use Rattle.words.specs.Bytes.{le32, bytesOf, length-bytesOf}
 use Rattle.lanes.specs.Lanes.{flat}
@@ -14,8 +14,8 @@ use Rattle.poly1305.specs.Poly1305.{bytes}
 use Rattle.node.specs.declared.Correction.{Correction}
 use Rattle.node.specs.Node.{none}
 use Rattle.content.specs.declared.Set.{Set}
-use Rattle.content.specs.Content.{correctionBytes, fields, size}
-use Rattle.content.specs.Pieces.{flat-append}
+use Rattle.content.specs.Content.{correctionBytes, fields, size, noCorrection, FlagBytes}
+use Rattle.content.specs.Pieces.{getD-any, flat-append, drop-replicate}
 
 -- one piece more
 pub next : (p q s t u : List ℕ) (at : ℕ) → length p ≡ at → t ≡ over 0 p s → u ≡ over at q t → u ≡ over 0 (p ++ q) s
@@ -47,6 +47,11 @@ correction-law seed z a b u word flags l k e f g =
 
 abbrev pub front : List Correction → ℕ → List ℕ
 front cs i = flat (map correctionBytes (take i cs))
+
+-- an array's own default stands past its end: within it there is no difference
+pub flag-at : (cs : List Correction) (i : ℕ) → FlagBytes cs → i < length cs → getD cs i none .flags < 256
+unfolding FlagBytes
+flag-at cs i f h = rw (getD-any cs i none noCorrection h) (f i h)
 
 front-more : (cs : List Correction) (i : ℕ) → i < length cs → front cs (i + 1) ≡ front cs i ++ correctionBytes (getD cs i none)
 unfolding flat
@@ -80,11 +85,8 @@ five a b c d e z t₁ t₂ t₃ t₄ u o₁ o₂ o₃ o₄ l₁ l₂ l₃ l₄ e
 pub over-zeros : (p z : List ℕ) (k n : ℕ) → length p ≡ k → k ≤ n → z ≡ replicate n 0 → over 0 p z ≡ p ++ replicate (n - k) 0
 over-zeros p z k n l h e =
     let lz : length z ≡ n = ap length e ∙ length-replicate n 0 in
-    let whole : k + (n - k) ≡ n = omega arith in
-    let parts : z ≡ replicate k 0 ++ replicate (n - k) 0 = e ∙ ap (λ (m : ℕ). replicate m 0) (sym whole) ∙ sym (replicate-append-replicate k (n - k) 0) in
     let at : 0 + length p ≡ k = omega arith in
-    over-eq p z 0 (omega arith)
-    ∙ ap (λ (l : List ℕ). p ++ l) (ap (λ (m : ℕ). drop m z) at ∙ ap (drop k) parts ∙ drop-at (replicate k 0) (replicate (n - k) 0) k (length-replicate k 0))
+    over-eq p z 0 (omega arith) ∙ ap (λ (l : List ℕ). p ++ l) (ap₂ drop at e ∙ drop-replicate k n h)
 
 pub tail-law : (c r last : ℕ) (seed cs z t₁ t₂ t₃ t₄ u : List ℕ) → length seed ≡ 8 → length cs ≡ 1184 → length z ≡ 1228
     → t₁ ≡ over 0 (le32 c) z → t₂ ≡ over 4 (le32 r) t₁ → t₃ ≡ over 8 (bytesOf seed) t₂ → t₄ ≡ over 40 cs t₃ → u ≡ over 1224 (le32 last) t₄

@@ -1,7 +1,7 @@
 -- What a half holds (01, "The sealed half"): the plain content of a set for a party, as a list of fields in order, and the set read back from it.
 -- Bytes are numbers below 256. Assumes nothing.
 use mathlib.Core.Path.{_≡_}
-use mathlib.Core.Bool.{Bool, true, false, cond, _&&_}
+use mathlib.Core.Bool.{Bool, true, _&&_}
 use mathlib.Core.List.{List, [], _∷_, _++_, map}
 use Prim.Native.Nat.{ℕ, zero, suc, _+_, _*_, _-_, _/_, _^_, _<_, _≤_}
 use lib.Dec.{eqb, leb, ltb}
@@ -11,7 +11,6 @@ use Rattle.words.specs.Bytes.{le32, bytesOf, wordAt, wordsAt}
 use Rattle.lanes.specs.Lanes.{flat}
 use Rattle.poly1305.specs.Poly1305.{bytes, number}
 use Rattle.node.specs.declared.Correction.{Correction}
-use Rattle.node.specs.declared.Key.{Key}
 use Rattle.measure.specs.Measure.{isCode}
 use Rattle.content.specs.declared.Set.{Set}
 
@@ -141,6 +140,10 @@ Filled n a = (l : List ℕ) × Words n l × (a ≡ fill l)
 
 unfoldable pub Corrections : List Correction → Type 0
 Corrections l = (i : ℕ) → i < length l → Words 8 (getD l i noCorrection .seed) × (getD l i noCorrection .word < 2 ^ 32) × (getD l i noCorrection .flags < 4)
+
+-- flags that a byte has room for: what laying a set out asks of its corrections
+unfoldable pub FlagBytes : List Correction → Type 0
+FlagBytes l = (i : ℕ) → i < length l → getD l i noCorrection .flags < 256
 
 pub record Proper (s : Set) : Type 0 where
   pub number-fits : s .number < 2 ^ 64

@@ -1,10 +1,11 @@
 -- A set that was laid out is read back, and its plain content fits. Assumes nothing.
 use mathlib.Core.Path.{_≡_, refl, sym, ap, ap₂, _∙_, subst}
-use mathlib.Core.Bool.{true, _&&_}
+use mathlib.Core.Bool.{Bool, true, false, _&&_}
 use mathlib.Core.List.{List, [], _∷_, _++_, map, append-nil}
 use Prim.Native.Nat.{ℕ, zero, suc, _+_, _*_, _-_, _^_, _<_, _≤_}
 use native.Mathlib.Omega.{arith}
-use borrow.Author.Tests.{eq-eqb, le-leb, lt-ltb}
+use borrow.Author.Tests.{eq-eqb, eqb-true, eqb-false, le-leb, leb-true, lt-ltb, ltb-true}
+use lib.Dec.{eqb, leb}
 use lib.ListN.{length, getD, take, drop, replicate, length-append, length-replicate, length-map}
 use lib.Seq.{take-at, drop-at, take-suc, take-all, getD-take, getD-drop, take-append-add}
 use Rattle.words.specs.List.{same, same-refl}
@@ -14,7 +15,7 @@ use Rattle.poly1305.specs.Poly1305.{bytes, number}
 use Rattle.node.specs.declared.Correction.{Correction}
 use Rattle.measure.specs.Measure.{isCode}
 use Rattle.content.specs.declared.Set.{Set}
-use Rattle.content.specs.Content.{part, fill, correctionBytes, fields, widths, size, blocks, plain, cut, lengthIn, field, correctionIn, correctionsIn, setIn, noCorrection, lengthFits, flagsFit, zeros, contentFits, Words, Filled, Corrections, Proper}
+use Rattle.content.specs.Content.{part, fill, correctionBytes, fields, widths, size, blocks, plain, cut, lengthIn, field, correctionIn, correctionsIn, setIn, noCorrection, lengthFits, flagsFit, zeros, contentFits, Words, Filled, Corrections, FlagBytes, Proper}
 use Rattle.content.specs.Pieces.{offset, length-flat, cut-flat, cut-at, part-flat, take-replicate, wordAt-past, getD-past, length-even, wordsAt-bytesOf, words-back, wordAt-le32}
 
 -- ---- sizes
@@ -81,6 +82,14 @@ module _ (cs : List Correction) (fit : Corrections cs) where
       ap₂ (λ (p : List Correction) (c : Correction). p ++ (c ∷ [])) (corrections-back k (omega arith)) (correction-back (getD cs k noCorrection) (flat (map correctionBytes cs)) k at (fit k l .0) (fit k l .1)) ∙ sym (take-suc cs k noCorrection l)
 
 -- ---- what contentFits asks
+
+both-left : (a b : Bool) → a && b ≡ true → a ≡ true
+both-left true b h = refl
+both-left false b h = h
+
+both-right : (a b : Bool) → a && b ≡ true → b ≡ true
+both-right true b h = h
+both-right false b h = absurd (eqb-false 0 0 (sym h) refl)
 
 flags-fit : (cs : List Correction) → Corrections cs → flagsFit cs ≡ true
 unfolding flagsFit Corrections
@@ -206,3 +215,29 @@ module _ (name : List ℕ) (party : ℕ) (s : Set) (named : length name ≡ 16) 
       let flags = ap flagsFit corrections ∙ flags-fit (s .key .corrections) (p .corrections-fit) in
       let rest = ap (λ (n : ℕ). zeros (drop (size n) (plain name party s))) lengthIn-plain ∙ ap zeros drop-plain ∙ zeros-replicate (484 * blocks (s .n) - size (s .n)) in
       ap₂ _&&_ named (ap₂ _&&_ owned (ap₂ _&&_ code (ap₂ _&&_ long (ap₂ _&&_ count (ap₂ _&&_ flags rest)))))
+
+-- ---- what the code asks of its callers
+
+-- lay_out asks of a set what Proper says of it
+pub code-byte : (s : Set) → Proper s → s .code < 256
+unfolding isCode
+code-byte s p = omega (arith, ltb-true (s .code) 3 (p .code-fits))
+
+pub flag-bytes : (s : Set) → Proper s → FlagBytes (s .key .corrections)
+unfolding FlagBytes Corrections
+flag-bytes s p i h = omega (arith, p .corrections-fit i h .2)
+
+-- read_set asks of content what contentFits says of it
+pub fits-reads : (name : List ℕ) (party count : ℕ) (b : List ℕ) → contentFits name party count b ≡ true → length b ≡ 484 * count
+    → (lengthIn b ≤ 512) × (size (lengthIn b) ≤ length b)
+unfolding contentFits setIn lengthFits
+fits-reads name party count b h l =
+    let rest = flagsFit (correctionsIn (field b 10) 32) && zeros (drop (size (lengthIn b)) b) in
+    let many = eqb (blocks (lengthIn b)) count in
+    let range = leb 1 (lengthIn b) && leb (lengthIn b) 512 in
+    let code = isCode (getD (field b 2) 0 0) in
+    let owned = eqb (getD (field b 1) 0 0) party in
+    let tests : range && (many && rest) ≡ true = both-right code (range && (many && rest)) (both-right owned (code && (range && (many && rest))) (both-right (same (field b 0) name) (owned && (code && (range && (many && rest)))) h)) in
+    let most = leb-true (lengthIn b) 512 (both-right (leb 1 (lengthIn b)) (leb (lengthIn b) 512) (both-left range (many && rest) tests)) in
+    let count = eqb-true (blocks (lengthIn b)) count (both-left many rest (both-right range (many && rest) tests)) in
+    (most, omega (arith, size-le (lengthIn b)))

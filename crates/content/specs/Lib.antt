@@ -1,4 +1,3 @@
 pub mod Content
-pub mod Bytes
 pub mod Pieces
 pub mod Laws

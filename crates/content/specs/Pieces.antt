@@ -4,11 +4,17 @@ use mathlib.Core.List.{List, [], _∷_, _++_, map, append-assoc, append-nil}
 use Prim.Native.Nat.{ℕ, zero, suc, _+_, _*_, _-_, _^_, _<_, _≤_}
 use native.Mathlib.Omega.{arith}
 use lib.ListN.{length, getD, take, drop, length-append, length-replicate, List·getD-append, replicate, replicate-append-replicate}
-use lib.Seq.{take-append-seam, drop-append-seam, drop-drop, getD-append-add, take-at, drop-at}
+use lib.Seq.{take-append-seam, drop-append-seam, drop-drop, getD-append-add, getD-take, getD-drop, take-at, drop-at}
 use Rattle.words.specs.List.{tab, tab-ext, tab-getD}
 use Rattle.words.specs.Bytes.{le32, bytesOf, wordAt, wordsAt, length-bytesOf, wordAt-bytesOf}
 use Rattle.lanes.specs.Lanes.{flat}
 use Rattle.content.specs.Content.{part, cut, Words}
+
+-- within a list the default does not matter
+pub getD-any {ℓ} : {A : Type ℓ} (l : List A) (i : ℕ) (d e : A) → i < length l → getD l i d ≡ getD l i e
+getD-any [] i d e h = absurd (omega arith)
+getD-any (x ∷ l) zero d e h = refl
+getD-any (x ∷ l) (suc i) d e h = getD-any l i d e (omega arith)
 
 -- ---- pieces
 
@@ -67,6 +73,11 @@ take-replicate k m h =
     let e : k + (m - k) ≡ m = omega arith in
     ap (take k) (sym (replicate-append-replicate k (m - k) 0 ∙ ap (λ (i : ℕ). replicate i 0) e)) ∙ take-at (replicate k 0) (replicate (m - k) 0) k (length-replicate k 0)
 
+pub drop-replicate : (k m : ℕ) → k ≤ m → drop k (replicate m 0) ≡ replicate {A = ℕ} (m - k) 0
+drop-replicate k m h =
+    let e : k + (m - k) ≡ m = omega arith in
+    ap (drop k) (sym (replicate-append-replicate k (m - k) 0 ∙ ap (λ (i : ℕ). replicate i 0) e)) ∙ drop-at (replicate k 0) (replicate (m - k) 0) k (length-replicate k 0)
+
 -- ---- words and their bytes
 
 pub wordAt-append : (p q : List ℕ) (i : ℕ) → i + 4 ≤ length p → wordAt (p ++ q) i ≡ wordAt p i
@@ -87,6 +98,21 @@ wordAt-past p q n i h = subst (λ (m : ℕ). wordAt (p ++ q) (m + i) ≡ wordAt 
 
 pub getD-past : (p q : List ℕ) (n i : ℕ) → length p ≡ n → getD (p ++ q) (n + i) 0 ≡ getD q i 0
 getD-past p q n i h = subst (λ (m : ℕ). getD (p ++ q) (m + i) 0 ≡ getD q i 0) h (getD-append-add p q i 0)
+
+-- what stands in a part
+pub getD-part : (at w : ℕ) (b : List ℕ) (i : ℕ) → i < w → getD (part at w b) i 0 ≡ getD b (at + i) 0
+unfolding part
+getD-part at w b i h = getD-take w (drop at b) i 0 h ∙ getD-drop at b i 0
+
+pub wordAt-part : (at w : ℕ) (b : List ℕ) (i : ℕ) → i + 4 ≤ w → wordAt (part at w b) i ≡ wordAt b (at + i)
+unfolding wordAt
+wordAt-part at w b i h =
+    let byte : (k : ℕ) → i + k < w → getD (part at w b) (i + k) 0 ≡ getD b (at + i + k) 0 = λ k l. getD-part at w b (i + k) l ∙ ap (λ (j : ℕ). getD b j 0) (omega arith) in
+    rw (getD-part at w b i (omega arith), byte 1 (omega arith), byte 2 (omega arith), byte 3 (omega arith)) refl
+
+pub wordsAt-part : (n at w v : ℕ) (b : List ℕ) → 4 * n ≤ w → 4 * n ≤ v → wordsAt n (part at w b) ≡ wordsAt n (part at v b)
+unfolding wordsAt
+wordsAt-part n at w v b h k = tab-ext _ _ n (λ i l. wordAt-part at w b (4 * i) (omega arith) ∙ sym (wordAt-part at v b (4 * i) (omega arith)))
 
 -- words that fit are read back
 pub wordsAt-bytesOf : (n : ℕ) (w rest : List ℕ) → Words n w → wordsAt n (bytesOf w ++ rest) ≡ w

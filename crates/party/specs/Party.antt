@@ -105,12 +105,14 @@ whyNotTake s l name v =
     (unless (expected 0 (s .name) (1 - s .party) l name) 6
     (unless (eqb (l .number) (s .set .number)) 7 0)))
 
--- "its word: k × (share) + own + its r", from its own masked vector and the other's: MX is party 0's, MY party 1's
+-- its share, from its own masked vector and the other's: MX is party 0's, MY party 1's
+unfoldable pub boxShare : ℕ → ℕ → ℕ → List ℕ → List ℕ → List ℕ → List ℕ → ℕ
+boxShare party n c ownMasked other x y =
+    cond (eqb party 0) (Share.share party n c ownMasked other x y) (Share.share party n c other ownMasked x y)
+
+-- "its word: k × (share) + own + its r"
 unfoldable pub wordOf : Set → ℕ → List ℕ → ℕ → List ℕ → ℕ
-wordOf set party ownMasked own other =
-    let maskedX : List ℕ = cond (eqb party 0) ownMasked other in
-    let maskedY : List ℕ = cond (eqb party 0) other ownMasked in
-    Share.word (set .code) (Share.share party (set .n) (set .c) maskedX maskedY (set .x) (set .y)) own (set .r)
+wordOf set party ownMasked own other = Share.word (set .code) (boxShare party (set .n) (set .c) ownMasked other (set .x) (set .y)) own (set .r)
 
 unfoldable pub worded : Party → ℕ → Party
 worded s w =

@@ -9,7 +9,7 @@ ghost use lib.ListN.{length};
 ghost use Rattle.measure.specs.Measure.{allInRange};
 ghost use Rattle.messages.specs.Messages.{unless, isKey, isName, expected, nameFits};
 ghost use Rattle.content.specs.Content.{lengthFits};
-ghost use Rattle.party.specs.Party.{idle as idleOf, whyNotParty, startParty, stateFits, load as loadOf, mask as maskOf, maskOut, take as takeOf, wordOf, finish as finishOf, drop as dropOf};
+ghost use Rattle.party.specs.Party.{idle as idleOf, whyNotParty, startParty, stateFits, load as loadOf, mask as maskOf, maskOut, take as takeOf, boxShare, finish as finishOf, drop as dropOf};
 use content::Set;
 use messages::Label;
 
@@ -47,9 +47,13 @@ fn length_fits(n: usize) -> bool
 fn state_fits(party: u32, phase: u32, code: u32, n: usize) -> bool
     ensures { λ r. ⌜ r ≡ stateFits party phase code n ⌝ }
 {
-    let empty = (code == 0) & (n == 0);
-    let opened = (phase <= 3) & (measure::is_code(code) & length_fits(n));
-    (party <= 1) & if phase == 0 { empty } else { opened }
+    if !(party <= 1) {
+        return false;
+    }
+    if phase == 0 {
+        return (code == 0) & (n == 0);
+    }
+    (phase <= 3) & (measure::is_code(code) & length_fits(n))
 }
 
 // A box with no set open.
@@ -75,10 +79,10 @@ fn why_not_start(name: &[u8], party: u32, key: &[u8]) -> u32
     if !messages::name_fits(name) {
         return 1;
     }
-    if party > 1 {
+    if !(party <= 1) {
         return 2;
     }
-    if key.len() != 32 {
+    if !(key.len() == 32) {
         return 4;
     }
     0
@@ -92,10 +96,10 @@ fn why_not_mask(turn: bool, n: usize, code: u32, v: &[u32], room: usize) -> u32
     if !turn {
         return 3;
     }
-    if v.len() != n {
+    if !(v.len() == n) {
         return 4;
     }
-    if room < n {
+    if !(n <= room) {
         return 5;
     }
     if !measure::all_in_range(code, v) {
@@ -111,24 +115,27 @@ fn why_not_message(fits: bool, number: u64, current: u64) -> u32
     if !fits {
         return 6;
     }
-    if number != current {
+    if !(number == current) {
         return 7;
     }
     0
 }
 
-// A box's word: MX is party 0's masked vector, MY party 1's.
-fn word_of(set: Set, party: u32, masked: [u32; 512], own: u32, other: &[u32]) -> u32
-    requires { ⌜ (set .n ≤ 512) × (set .n ≤ length (now other)) ⌝ }
-    ensures { λ r. ⌜ r ≡ wordOf set party masked own (now (other .entry)) ⌝ }
+// A box's share of the product: MX is party 0's masked vector, MY party 1's.
+fn box_share(
+    party: u32,
+    n: usize,
+    c: u32,
+    masked: [u32; 512],
+    other: &[u32],
+    x: [u32; 512],
+    y: [u32; 512],
+) -> u32
+    requires { ⌜ (n ≤ 512) × (n ≤ length (now other)) ⌝ }
+    ensures { λ r. ⌜ r ≡ boxShare party n c masked (now (other .entry)) x y ⌝ }
 {
-    let n = set.n;
-    let x = set.x;
-    let y = set.y;
-    let share = if party == 0 {
-        share::share_of(party, n, set.c, &masked, other, &x, &y)
-    } else {
-        share::share_of(party, n, set.c, other, &masked, &x, &y)
-    };
-    share::word(set.code, share, own, set.r)
+    if party == 0 {
+        return share::share_of(party, n, c, &masked, other, &x, &y);
+    }
+    share::share_of(party, n, c, other, &masked, &x, &y)
 }

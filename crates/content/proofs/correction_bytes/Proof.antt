@@ -4,40 +4,28 @@ use Rattle.content.proofs.Stored.{correction-law}
 use borrow.Author.Needs.{needs}
 use Rattle.content.proofs.correction_bytes.Statement.{statement}
 use Rattle.content.proofs.correction_bytes.Tie as tie
-use Rattle.content.proofs.correction_bytes.Reads as reads
-use Rattle.content.proofs.correction_bytes.Lts as lts
-use Rattle.words.proofs.store.Reads as store-reads
-use Rattle.words.proofs.store_all.Reads as store-all-reads
 
--- src/lib.rt:89:22
 slice-aggregate-store-all : tie.Need-slice-aggregate-store-all
 slice-aggregate-store-all c = search needs
 
--- src/lib.rt:89:33
 slice-aggregate-store-all-2 : tie.Need-slice-aggregate-store-all-2
 slice-aggregate-store-all-2 c = search needs
 
--- src/lib.rt:89:5
 store-all-requires : tie.Need-store-all-requires
 store-all-requires c κs = search needs
 
--- src/lib.rt:90:18
 slice-aggregate-store : tie.Need-slice-aggregate-store
 slice-aggregate-store c = search needs
 
--- src/lib.rt:90:5
 store-requires : tie.Need-store-requires
 store-requires c κs = search needs
 
--- src/lib.rt:91:13
 cast-b : tie.Need-cast-b
 cast-b c = search needs
 
--- src/lib.rt:91:5
 array-write-b : tie.Need-array-write-b
 array-write-b c = search needs
 
--- src/lib.rt:84:1
 returns : tie.Need-returns
 unfolding over
 returns c = correction-law _ _ _ _ _ _ _ (search needs) (search needs) (c .before .before .before .before .store-all .ensures) (c .before .store .ensures) refl

@@ -5,55 +5,40 @@ use Rattle.content.proofs.Stored.{head-law}
 use borrow.Author.Needs.{needs}
 use Rattle.content.proofs.head.Statement.{statement}
 use Rattle.content.proofs.head.Tie as tie
-use Rattle.content.proofs.head.Reads as reads
-use Rattle.content.proofs.head.Lts as lts
-use Rattle.words.proofs.copy.Reads as copy-reads
 
--- src/lib.rt:75:17
 slice-aggregate-copy : tie.Need-slice-aggregate-copy
 slice-aggregate-copy c = search needs
 
--- src/lib.rt:75:28
 slice-aggregate-copy-2 : tie.Need-slice-aggregate-copy-2
 slice-aggregate-copy-2 c = search needs
 
--- src/lib.rt:75:5
 copy-requires : tie.Need-copy-requires
 copy-requires c κs = search needs
 
--- src/lib.rt:76:13
 cast-h : tie.Need-cast-h
 cast-h c = search needs
 
--- src/lib.rt:76:5
 array-write-h : tie.Need-array-write-h
 array-write-h c = search needs
 
--- src/lib.rt:77:13
 cast-h-2 : tie.Need-cast-h-2
 cast-h-2 c = search needs
 
--- src/lib.rt:77:5
 array-write-h-2 : tie.Need-array-write-h-2
 array-write-h-2 c = search needs
 
--- src/lib.rt:78:13
 cast-h-3 : tie.Need-cast-h-3
 cast-h-3 c = search needs
 
--- src/lib.rt:78:5
 array-write-h-3 : tie.Need-array-write-h-3
 array-write-h-3 c = search needs
 
--- src/lib.rt:79:13
 cast-h-4 : tie.Need-cast-h-4
 cast-h-4 c = search needs
 
--- src/lib.rt:79:5
 array-write-h-4 : tie.Need-array-write-h-4
 array-write-h-4 c = search needs
 
--- src/lib.rt:70:1
 returns : tie.Need-returns
 unfolding over bytes
 returns c = head-law (c .before .before .before .before .args .t1) _ _ _ _ _ _ (search needs) (search needs) (c .before .copy .ensures) refl

@@ -3,84 +3,61 @@ use Rattle.content.proofs.Stored.{joined-law}
 use borrow.Author.Needs.{needs}
 use Rattle.content.proofs.joined.Statement.{statement}
 use Rattle.content.proofs.joined.Tie as tie
-use Rattle.content.proofs.joined.Reads as reads
-use Rattle.content.proofs.joined.Lts as lts
-use Rattle.content.proofs.store_first.Reads as store-first-reads
-use Rattle.words.proofs.copy.Reads as copy-reads
 
--- src/lib.rt:147:17
 slice-aggregate-copy : tie.Need-slice-aggregate-copy
 slice-aggregate-copy c = search needs
 
--- src/lib.rt:147:30
 slice-aggregate-copy-2 : tie.Need-slice-aggregate-copy-2
 slice-aggregate-copy-2 c = search needs
 
--- src/lib.rt:147:5
 copy-requires : tie.Need-copy-requires
 copy-requires c κs = search needs
 
--- src/lib.rt:148:17
 slice-aggregate-store-first : tie.Need-slice-aggregate-store-first
 slice-aggregate-store-first c = search needs
 
--- src/lib.rt:148:5
 store-first-requires : tie.Need-store-first-requires
 store-first-requires c κs = search needs
 
--- src/lib.rt:149:17
 slice-aggregate-store-first-2 : tie.Need-slice-aggregate-store-first-2
 slice-aggregate-store-first-2 c = search needs
 
--- src/lib.rt:149:32
 mul-store-first : tie.Need-mul-store-first
 mul-store-first c = search needs
 
--- src/lib.rt:149:27
 add-store-first : tie.Need-add-store-first
 add-store-first c = search needs
 
--- src/lib.rt:149:5
 store-first-requires-2 : tie.Need-store-first-requires-2
 store-first-requires-2 c κs = search needs
 
--- src/lib.rt:150:17
 slice-aggregate-store-first-3 : tie.Need-slice-aggregate-store-first-3
 slice-aggregate-store-first-3 c = search needs
 
--- src/lib.rt:150:32
 mul-store-first-2 : tie.Need-mul-store-first-2
 mul-store-first-2 c = search needs
 
--- src/lib.rt:150:27
 add-store-first-2 : tie.Need-add-store-first-2
 add-store-first-2 c = search needs
 
--- src/lib.rt:150:5
 store-first-requires-3 : tie.Need-store-first-requires-3
 store-first-requires-3 c κs = search needs
 
--- src/lib.rt:151:17
 slice-aggregate-copy-3 : tie.Need-slice-aggregate-copy-3
 slice-aggregate-copy-3 c = search needs
 
--- src/lib.rt:151:32
 mul-copy : tie.Need-mul-copy
 mul-copy c = search needs
 
--- src/lib.rt:151:27
 add-copy : tie.Need-add-copy
 add-copy c = search needs
 
--- src/lib.rt:151:40
 slice-aggregate-copy-4 : tie.Need-slice-aggregate-copy-4
 slice-aggregate-copy-4 c = search needs
 
--- src/lib.rt:151:5
 copy-requires-2 : tie.Need-copy-requires-2
 copy-requires-2 c κs = search needs
 
--- src/lib.rt:135:1
 returns : tie.Need-returns
 returns c =
     let a = c .before .before .before .before .before .before .before .before .before .before .before .before .before .before .before .before .before .args in

@@ -1,14 +1,21 @@
-use mathlib.Core.Path.{refl}
-use Rattle.content.specs.Content.{noSet, noCorrection}
+use mathlib.Core.Path.{ap}
+use lib.ListN.{replicate}
+use Rattle.node.specs.declared.Correction.{Correction}
+use Rattle.content.specs.declared.Set.{Set}
+use Rattle.content.specs.Content.{noSet}
+use borrow.Author.Needs.{needs}
 use Rattle.content.proofs.no_set.Statement.{statement}
 use Rattle.content.proofs.no_set.Tie as tie
-use Rattle.content.proofs.no_set.Reads as reads
-use Rattle.content.proofs.no_set.Lts as lts
 
--- src/lib.rt:33:1
+no-correction-requires : tie.Need-no-correction-requires
+no-correction-requires c κs = search needs
+
 returns : tie.Need-returns
-unfolding noSet noCorrection
-returns c = refl
+unfolding noSet
+returns c = ap none-at (c .no-correction .ensures)
+  where
+    none-at : Correction → Set
+    none-at d = record { number = 0; code = 0; n = 0; mask = replicate 512 0; x = replicate 512 0; y = replicate 512 0; c = 0; r = 0; seed = replicate 8 0; key = record { corrections = replicate 32 d; last = 0 } }
 
 pub no-set-spec : {M : Type 1} → statement M
-no-set-spec = tie.close (tie.spec returns)
+no-set-spec = tie.close (tie.spec no-correction-requires returns)

@@ -6,15 +6,10 @@ use lib.ListN.{length}
 use Rattle.words.specs.List.{over}
 use Rattle.lanes.specs.Lanes.{flat}
 use Rattle.content.specs.Content.{correctionBytes}
-use Rattle.content.specs.Bytes.{FlagBytes}
-use Rattle.content.proofs.Stored.{front, front-next, front-all}
+use Rattle.content.proofs.Stored.{flag-at, front, front-next, front-all}
 use borrow.Author.Needs.{needs}
 use Rattle.content.proofs.store_corrections.Statement.{statement}
 use Rattle.content.proofs.store_corrections.Tie as tie
-use Rattle.content.proofs.store_corrections.Reads as reads
-use Rattle.content.proofs.store_corrections.Lts as lts
-use Rattle.content.proofs.correction_bytes.Reads as correction-bytes-reads
-use Rattle.words.proofs.copy.Reads as copy-reads
 
 abbrev Inv-loop : tie.InvT-loop
 Inv-loop out₀ at cs i₀ out i = (i ≤ 32) × (length (front cs i) ≡ 37 * i) × (out ≡ over at (front cs i) out₀) × (length out ≡ length out₀)
@@ -22,60 +17,46 @@ Inv-loop out₀ at cs i₀ out i = (i ≤ 32) × (length (front cs i) ≡ 37 * i
 abbrev μ-loop : tie.MeasureT-loop
 μ-loop out₀ at cs i₀ out i = 32 - i
 
--- src/lib.rt:103:5
 loop-holds : tie.Need-loop-holds Inv-loop μ-loop
 unfolding over flat
 loop-holds c = (search needs, refl, refl, refl)
 
--- src/lib.rt:104:17
 mul-c : tie.Need-mul-c Inv-loop μ-loop
 mul-c c = search needs
 
--- src/lib.rt:104:17
 array-copy-out-c : tie.Need-array-copy-out-c Inv-loop μ-loop
 array-copy-out-c c = search needs
 
--- src/lib.rt:106:17
 correction-bytes-requires : tie.Need-correction-bytes-requires Inv-loop μ-loop
-unfolding FlagBytes
-correction-bytes-requires c κs = c .before .before .before .before .before .pre .1 (c .before .before .before .loop .i) (search needs)
+correction-bytes-requires c κs = flag-at _ _ (c .before .before .before .before .before .pre .1) (search needs)
 
--- src/lib.rt:107:31
 mul-copy : tie.Need-mul-copy Inv-loop μ-loop
 mul-copy c = search needs
 
--- src/lib.rt:107:26
 add-copy : tie.Need-add-copy Inv-loop μ-loop
 add-copy c = search needs
 
--- src/lib.rt:107:39
 slice-aggregate-copy : tie.Need-slice-aggregate-copy Inv-loop μ-loop
 slice-aggregate-copy c = search needs
 
--- src/lib.rt:107:9
 copy-requires : tie.Need-copy-requires Inv-loop μ-loop
 copy-requires c κs = search needs
 
--- src/lib.rt:108:9
 add-i : tie.Need-add-i Inv-loop μ-loop
 add-i c = search needs
 
--- src/lib.rt:103:5
 loop-less : tie.Need-loop-less Inv-loop μ-loop
 loop-less c = search needs
 
--- src/lib.rt:103:5
 loop-again : tie.Need-loop-again Inv-loop μ-loop
 unfolding correctionBytes
 loop-again c =
     let more = front-next (c .before .before .before .before .before .before .before .before .before .before .before .args .t3) (c .before .before .before .before .before .before .before .before .before .loop .i) _ _ _ _ _ (search needs) (c .before .before .before .before .before .before .before .before .before .loop .inv .1) (c .before .before .before .before .before .before .before .before .before .loop .inv .2) (search needs) (c .before .before .before .before .before .correction-bytes .ensures) (c .before .before .copy .ensures) in
     (search needs, more .1, more .0, search needs)
 
--- src/lib.rt:96:1
 same-length : tie.Need-same-length Inv-loop μ-loop
 same-length c = search needs
 
--- src/lib.rt:96:1
 returns : tie.Need-returns Inv-loop μ-loop
 returns c =
     let cs = c .before .before .before .args .t3 in

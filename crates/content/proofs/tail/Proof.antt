@@ -4,57 +4,40 @@ use Rattle.content.proofs.Stored.{tail-law}
 use borrow.Author.Needs.{needs}
 use Rattle.content.proofs.tail.Statement.{statement}
 use Rattle.content.proofs.tail.Tie as tie
-use Rattle.content.proofs.tail.Reads as reads
-use Rattle.content.proofs.tail.Lts as lts
-use Rattle.content.proofs.store_corrections.Reads as store-corrections-reads
-use Rattle.words.proofs.store.Reads as store-reads
-use Rattle.words.proofs.store_all.Reads as store-all-reads
 
--- src/lib.rt:118:18
 slice-aggregate-store : tie.Need-slice-aggregate-store
 slice-aggregate-store c = search needs
 
--- src/lib.rt:118:5
 store-requires : tie.Need-store-requires
 store-requires c κs = search needs
 
--- src/lib.rt:119:18
 slice-aggregate-store-2 : tie.Need-slice-aggregate-store-2
 slice-aggregate-store-2 c = search needs
 
--- src/lib.rt:119:5
 store-requires-2 : tie.Need-store-requires-2
 store-requires-2 c κs = search needs
 
--- src/lib.rt:120:22
 slice-aggregate-store-all : tie.Need-slice-aggregate-store-all
 slice-aggregate-store-all c = search needs
 
--- src/lib.rt:120:33
 slice-aggregate-store-all-2 : tie.Need-slice-aggregate-store-all-2
 slice-aggregate-store-all-2 c = search needs
 
--- src/lib.rt:120:5
 store-all-requires : tie.Need-store-all-requires
 store-all-requires c κs = search needs
 
--- src/lib.rt:121:23
 slice-aggregate-store-corrections : tie.Need-slice-aggregate-store-corrections
 slice-aggregate-store-corrections c = search needs
 
--- src/lib.rt:121:5
 store-corrections-requires : tie.Need-store-corrections-requires
 store-corrections-requires c κs = search needs
 
--- src/lib.rt:122:18
 slice-aggregate-store-3 : tie.Need-slice-aggregate-store-3
 slice-aggregate-store-3 c = search needs
 
--- src/lib.rt:122:5
 store-requires-3 : tie.Need-store-requires-3
 store-requires-3 c κs = search needs
 
--- src/lib.rt:113:1
 returns : tie.Need-returns
 returns c =
     tail-law _ _ _ (c .before .before .before .before .before .before .before .before .before .before .before .before .before .before .before .before .args .t3) _ _ _ _ _ _ _ (search needs) (c .before .before .before .before .store-corrections .ensures .1) (length-replicate {A = ℕ} 1228 0)

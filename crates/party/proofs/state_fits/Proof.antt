@@ -1,0 +1,27 @@
+use Rattle.party.proofs.Laws.{no-party, with-none, with-set}
+use borrow.Author.Needs.{needs}
+use Rattle.party.proofs.state_fits.Statement.{statement}
+use Rattle.party.proofs.state_fits.Tie as tie
+use Rattle.party.proofs.state_fits.Reads as reads
+use Rattle.party.proofs.state_fits.Lts as lts
+use Rattle.measure.proofs.is_code.Reads as is-code-reads
+use Rattle.party.proofs.length_fits.Reads as length-fits-reads
+
+returns : tie.Need-returns
+returns c = no-party _ _ _ _ (c .if1 .taken)
+
+returns-2 : tie.Need-returns-2
+returns-2 c = with-none _ _ _ _ (c .before .if1 .left) (c .if2 .taken)
+
+is-code-requires : tie.Need-is-code-requires
+is-code-requires c κs = search needs
+
+length-fits-requires : tie.Need-length-fits-requires
+length-fits-requires c κs = search needs
+
+returns-3 : tie.Need-returns-3
+returns-3 c = with-set _ _ _ _ (c .before .before .before .if1 .left) (c .before .before .if2 .left) _ _ (c .before .is-code .ensures) (c .length-fits .ensures)
+
+pub state-fits-spec : {M : Type 1} → statement M
+state-fits-spec =
+    tie.close (tie.spec returns returns-2 is-code-requires length-fits-requires returns-3)

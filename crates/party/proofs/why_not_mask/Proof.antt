@@ -1,0 +1,30 @@
+use mathlib.Core.Path.{refl}
+use Rattle.messages.specs.Laws.{turned-down, goes-on}
+use borrow.Author.Needs.{needs}
+use Rattle.party.proofs.why_not_mask.Statement.{statement}
+use Rattle.party.proofs.why_not_mask.Tie as tie
+use Rattle.party.proofs.why_not_mask.Reads as reads
+use Rattle.party.proofs.why_not_mask.Lts as lts
+use Rattle.measure.proofs.all_in_range.Reads as all-in-range-reads
+
+returns : tie.Need-returns
+returns c = turned-down _ _ _ (c .if1 .taken)
+
+returns-2 : tie.Need-returns-2
+returns-2 c = goes-on _ _ _ (c .before .if1 .left) (turned-down _ _ _ (c .if2 .taken))
+
+returns-3 : tie.Need-returns-3
+returns-3 c = goes-on _ _ _ (c .before .before .if1 .left) (goes-on _ _ _ (c .before .if2 .left) (turned-down _ _ _ (c .if3 .taken)))
+
+all-in-range-requires : tie.Need-all-in-range-requires
+all-in-range-requires c κs = search needs
+
+returns-4 : tie.Need-returns-4
+returns-4 c = goes-on _ _ _ (c .before .before .before .before .if1 .left) (goes-on _ _ _ (c .before .before .before .if2 .left) (goes-on _ _ _ (c .before .before .if3 .left) (turned-down _ _ _ (rw (c .before .all-in-range .ensures) at (c .if4 .taken)))))
+
+returns-5 : tie.Need-returns-5
+returns-5 c = goes-on _ _ _ (c .before .before .before .before .if1 .left) (goes-on _ _ _ (c .before .before .before .if2 .left) (goes-on _ _ _ (c .before .before .if3 .left) (goes-on _ _ _ (rw (c .before .all-in-range .ensures) at (c .if4 .left)) (refl))))
+
+pub why-not-mask-spec : {M : Type 1} → statement M
+why-not-mask-spec =
+    tie.close (tie.spec returns returns-2 returns-3 all-in-range-requires returns-4 returns-5)

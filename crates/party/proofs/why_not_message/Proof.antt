@@ -1,0 +1,18 @@
+use mathlib.Core.Path.{refl}
+use Rattle.messages.specs.Laws.{turned-down, goes-on}
+use Rattle.party.proofs.why_not_message.Statement.{statement}
+use Rattle.party.proofs.why_not_message.Tie as tie
+use Rattle.party.proofs.why_not_message.Reads as reads
+use Rattle.party.proofs.why_not_message.Lts as lts
+
+returns : tie.Need-returns
+returns c = turned-down _ _ _ (c .if1 .taken)
+
+returns-2 : tie.Need-returns-2
+returns-2 c = goes-on _ _ _ (c .before .if1 .left) (turned-down _ _ _ (c .if2 .taken))
+
+returns-3 : tie.Need-returns-3
+returns-3 c = goes-on _ _ _ (c .before .if1 .left) (goes-on _ _ _ (c .if2 .left) (refl))
+
+pub why-not-message-spec : {M : Type 1} → statement M
+why-not-message-spec = tie.close (tie.spec returns returns-2 returns-3)
