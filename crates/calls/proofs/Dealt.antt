@@ -16,7 +16,7 @@ use Rattle.content.specs.Content.{fill, Proper}
 use Rattle.dealing.specs.Dealing.{dealtSet, setFrom}
 use Rattle.dealing.specs.Laws.{proper, dealt-join, share-fill-x, share-fill-y}
 use Rattle.dealer.specs.Dealer.{Deal}
-use Rattle.party.specs.Party.{maskedVector, wordOf}
+use Rattle.party.specs.Party.{maskedVector, boxShare, wordOf}
 use Rattle.calls.specs.Lists.{Box, camera, office, partyOf, other}
 use Rattle.calls.specs.Demand.{verdict}
 
@@ -82,7 +82,7 @@ module _ (d : Deal) (v : Box → List ℕ) where
       Share.word (d .code) (share (partyOf b) (d .n) (s .c) (m camera) (m office) (s .x) (s .y)) (ownWord (d .code) (d .n) (v b)) (s .r)
 
   word-is : (b : Box) → wordBy d v b ≡ plain b
-  unfolding wordOf
+  unfolding wordOf boxShare
   word-is camera =
       rw (mask-is camera, mask-is office, set-code d camera, set-n d camera)
       (ap (λ (k : ℕ). Share.word (d .code) k (ownWord (d .code) (d .n) (v camera)) (setOf d camera .r)) (share-fill-x 0 (d .n) _ (m camera) (m office) _ _))
