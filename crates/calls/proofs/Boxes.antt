@@ -1,0 +1,57 @@
+-- The two boxes: which is which, their parties, and a value put in for one of them. Assumes nothing.
+use mathlib.Core.Path.{_≡_, refl}
+use mathlib.Core.Bool.{true, false, _&&_}
+use Prim.Native.Nat.{ℕ, _-_, _≤_}
+use native.Mathlib.Omega.{arith}
+use lib.Dec.{T, eqb, eqb→eq, eqb-refl}
+use Rattle.calls.specs.Lists.{Box, camera, office, partyOf, other, sameBox, put}
+
+pub apart : (b : Box) → sameBox b (other b) ≡ false
+apart camera = refl
+apart office = refl
+
+pub own-box : (b : Box) → sameBox b b ≡ true
+own-box camera = refl
+own-box office = refl
+
+pub same-number : (b : Box) (n m : ℕ) → T (sameBox b b && eqb n m) → n ≡ m
+same-number camera n m t = eqb→eq n m t
+same-number office n m t = eqb→eq n m t
+
+pub same-both : (b : Box) (n : ℕ) → T (sameBox b b && eqb n n)
+same-both camera n = eqb-refl n
+same-both office n = eqb-refl n
+
+-- ---- parties
+
+pub party-fits : (b : Box) → partyOf b ≤ 1
+party-fits camera = omega arith
+party-fits office = omega arith
+
+pub other-party : (b : Box) → 1 - partyOf b ≡ partyOf (other b)
+other-party camera = refl
+other-party office = refl
+
+pub party-of : (b c : Box) → partyOf b ≡ partyOf c → b ≡ c
+party-of camera camera e = refl
+party-of camera office e = absurd (omega arith)
+party-of office camera e = absurd (omega arith)
+party-of office office e = refl
+
+-- ---- a value for each box
+
+pub put-own : {A : Type 0} (f : Box → A) (b : Box) (a : A) → put f b a b ≡ a
+put-own f camera a = refl
+put-own f office a = refl
+
+pub put-same : {A : Type 0} (f : Box → A) (b c : Box) → put f b (f b) c ≡ f c
+put-same f camera camera = refl
+put-same f camera office = refl
+put-same f office camera = refl
+put-same f office office = refl
+
+pub put-all : {A : Type 0} (P : Box → A → Type 0) (f : Box → A) (b : Box) (a : A) → P b a → P (other b) (f (other b)) → (c : Box) → P c (put f b a c)
+put-all P f camera a p q camera = p
+put-all P f camera a p q office = q
+put-all P f office a p q camera = q
+put-all P f office a p q office = p

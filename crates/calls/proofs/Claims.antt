@@ -1,0 +1,50 @@
+-- Demand 3, whole: no wrong report, no reuse, always answered, not empty. Assumes nothing.
+use mathlib.Core.Path.{sym, subst}
+use mathlib.Core.List.{List, [], _∷_}
+use Rattle.calls.specs.Lists.{Starts, Started, beginning, Call, camera, office, joined, after, events, history, Admissible}
+use Rattle.calls.specs.Demand.{Answered, NoWrongReport, NoReuse, AlwaysAnswered, NotEmpty, Demand3}
+use Rattle.calls.proofs.Once.{single}
+use Rattle.calls.proofs.History.{look, in-deals, in-vectors}
+use Rattle.calls.proofs.Invariant.{Inv, starts, door-long}
+use Rattle.calls.proofs.Keeps.{keeps}
+use Rattle.calls.proofs.Runs.{ready, run-goes, answered}
+use Rattle.calls.proofs.NotEmpty.{examples, some-starts}
+
+always : (s : Starts) → Started s → (cs : List Call) → Admissible s cs → Inv s (history s cs) (after (beginning s) cs)
+always s f [] a = starts s f
+always s f (c ∷ cs) a = keeps s (history s cs) (after (beginning s) cs) (always s f cs (a .0)) (door-long s f) c (a .1) (a .2)
+
+no-wrong-report : NoWrongReport
+unfolding NoWrongReport
+no-wrong-report s f cs a n bit i =
+    let I = always s f cs a in
+    let r = look s (history s cs) (joined n bit) (I .good) i in
+    let t = r .0 in
+    record {
+      d = t .of .d;
+      x = t .v camera;
+      y = t .v office;
+      one-deal = single _ (I .deals-once n .few) (in-deals (history s cs) n (t .of));
+      one-x = single _ (I .box-is camera .ok .vectors-once n .few) (in-vectors (history s cs) camera n (t .v camera) (t .sents camera));
+      one-y = single _ (I .box-is office .ok .vectors-once n .few) (in-vectors (history s cs) office n (t .v office) (t .sents office));
+      right = r .1;
+    }
+
+no-reuse : NoReuse
+unfolding NoReuse
+no-reuse s f cs a b n = let k = always s f cs a .box-is b .ok in (k .vectors-once n .few, k .words-once n .few)
+
+always-answered : AlwaysAnswered
+unfolding AlwaysAnswered
+always-answered s f cs a d v R F rs g r c q =
+    let w = after (beginning s) cs in
+    let A = ready s d v (history s cs) w (always s f cs a) F in
+    subst (Answered d v) (sym (run-goes s d v (door-long s f) R w A rs g r c q)) (answered s d v c g (events w rs) q)
+
+not-empty : NotEmpty
+unfolding NotEmpty
+not-empty = (examples, some-starts)
+
+pub demand-3 : Demand3
+unfolding Demand3
+demand-3 = (no-wrong-report, no-reuse, always-answered, not-empty)

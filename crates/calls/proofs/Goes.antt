@@ -1,0 +1,128 @@
+-- What makes a call accepted: for each call, over any state and anything handed in, the facts from which its tests refuse nothing. Assumes nothing.
+use mathlib.Core.Path.{_≡_, refl}
+use mathlib.Core.Bool.{true}
+use mathlib.Core.List.{List}
+use Prim.Native.Nat.{ℕ, _-_, _<_, _≤_}
+use native.Mathlib.Omega.{arith}
+use borrow.Author.Tests.{le-leb, lt-ltb, eq-eqb, ne-eqb}
+use lib.ListN.{length}
+use Rattle.algebra.specs.Word.{add}
+use Rattle.words.specs.List.{same-refl}
+use Rattle.measure.specs.Measure.{isCode, allInRange, thresholdFits}
+use Rattle.messages.specs.declared.Label.{Label}
+use Rattle.messages.specs.Messages.{unless, isName, expected}
+use Rattle.content.specs.Content.{lengthFits}
+use Rattle.half.specs.Half.{whyNot}
+use Rattle.dealer.specs.declared.Dealer.{Dealer}
+use Rattle.dealer.specs.Dealer.{Deal, halfSize, whyNotDeal}
+use Rattle.party.specs.declared.Party.{Party}
+use Rattle.party.specs.Party.{stateFits, sound, inTurn, whyNotLoad, whyNotMask, whyNotTake, whyNotFinish}
+use Rattle.lock.specs.declared.Lock.{Lock}
+use Rattle.lock.specs.Lock.{whyNotJoin}
+use Rattle.calls.proofs.Accepted.{Heard}
+
+-- ---- the dealer
+
+pub deal-goes : (s : Dealer) (d : Deal) (room0 room1 : ℕ) → isCode (d .code) ≡ true → length (d .seed) ≡ 32 → 1 ≤ d .n → d .n ≤ 512 → halfSize (d .n) ≤ room0
+    → halfSize (d .n) ≤ room1 → s .last < d .number → thresholdFits (d .code) (d .t) ≡ true → whyNotDeal s d room0 room1 ≡ 0
+unfolding whyNotDeal lengthFits unless
+deal-goes s d room0 room1 code seed some most room-0 room-1 above threshold =
+    rw (
+      code,
+      eq-eqb (length (d .seed)) 32 seed,
+      le-leb 1 (d .n) some,
+      le-leb (d .n) 512 most,
+      le-leb (halfSize (d .n)) room0 room-0,
+      le-leb (halfSize (d .n)) room1 room-1,
+      lt-ltb (s .last) (d .number) above,
+      threshold,
+    )
+    refl
+
+-- ---- a message that a call takes
+
+pub expects : (kind sender number : ℕ) (door : List ℕ) (l : Label) (name : List ℕ) → Heard kind sender number door l name → expected kind door sender l name ≡ true
+unfolding expected
+expects kind sender number door l name h = rw (h .name-is, eq-eqb (l .kind) kind (h .kind-is), eq-eqb (l .sender) sender (h .sender-is), same-refl door) refl
+
+pub door-long : (kind sender number : ℕ) (door : List ℕ) (l : Label) (name : List ℕ) → Heard kind sender number door l name → length door ≡ 16 → isName name ≡ true
+unfolding isName
+door-long kind sender number door l name h e = rw (h .name-is) (eq-eqb (length door) 16 e)
+
+-- ---- a box: its turn, with no set open and at a later phase
+
+idle-turn : (s : Party) → s .phase ≡ 0 → s .party ≤ 1 → s .set .code ≡ 0 → s .set .n ≡ 0 → inTurn 0 s ≡ true
+unfolding inTurn sound stateFits
+idle-turn s e p c n = rw (eq-eqb (s .phase) 0 e, le-leb (s .party) 1 p, eq-eqb (s .set .code) 0 c, eq-eqb (s .set .n) 0 n) refl
+
+-- what 01's third refusal asks of a state with a set open
+pub record OpenAt (k : ℕ) (s : Party) : Type 0 where
+  pub phase-is : s .phase ≡ k
+  pub some-phase : 1 ≤ k
+  pub last-phase : k ≤ 3
+  pub party-fits : s .party ≤ 1
+  pub code-fits : isCode (s .set .code) ≡ true
+  pub some : 1 ≤ s .set .n
+  pub most : s .set .n ≤ 512
+
+open-turn : (k : ℕ) (s : Party) → OpenAt k s → inTurn k s ≡ true
+unfolding inTurn sound stateFits lengthFits
+open-turn k s o =
+    rw (
+      eq-eqb (s .phase) k (o .phase-is),
+      ne-eqb (s .phase) 0 (λ e. omega (arith, o .phase-is, o .some-phase)),
+      le-leb (s .party) 1 (o .party-fits),
+      le-leb (s .phase) 3 (omega (arith, o .phase-is, o .last-phase)),
+      o .code-fits,
+      le-leb 1 (s .set .n) (o .some),
+      le-leb (s .set .n) 512 (o .most),
+    )
+    refl
+
+-- its calls
+
+pub load-goes : (s : Party) (h : List ℕ) → s .phase ≡ 0 → s .party ≤ 1 → s .set .code ≡ 0 → s .set .n ≡ 0 → whyNot (s .key) (s .name) (s .party) (s .last) h ≡ 0
+    → whyNotLoad s h ≡ 0
+unfolding whyNotLoad unless
+load-goes s h e p c n f = rw (idle-turn s e p c n) f
+
+pub mask-goes : (s : Party) (v : List ℕ) (room : ℕ) → OpenAt 1 s → length v ≡ s .set .n → s .set .n ≤ room → allInRange (s .set .code) v ≡ true → whyNotMask s v room ≡ 0
+unfolding whyNotMask unless
+mask-goes s v room o l r f = rw (open-turn 1 s o, eq-eqb (length v) (s .set .n) l, le-leb (s .set .n) room r, f) refl
+
+pub take-goes : (s : Party) (l : Label) (name v : List ℕ) → OpenAt 2 s → length (s .name) ≡ 16 → length v ≡ s .set .n
+    → Heard 0 (1 - s .party) (s .set .number) (s .name) l name → whyNotTake s l name v ≡ 0
+unfolding whyNotTake unless
+take-goes s l name v o n e h =
+    rw (
+      open-turn 2 s o,
+      door-long _ _ _ _ _ _ h n,
+      eq-eqb (length v) (s .set .n) e,
+      expects _ _ _ _ _ _ h,
+      eq-eqb (l .number) (s .set .number) (h .number-is),
+    )
+    refl
+
+pub finish-goes : (s : Party) (l : Label) (name : List ℕ) → OpenAt 3 s → length (s .name) ≡ 16 → Heard 1 (1 - s .party) (s .set .number) (s .name) l name
+    → whyNotFinish s l name ≡ 0
+unfolding whyNotFinish unless
+finish-goes s l name o n h =
+    rw (open-turn 3 s o, door-long _ _ _ _ _ _ h n, expects _ _ _ _ _ _ h, eq-eqb (l .number) (s .set .number) (h .number-is)) refl
+
+-- ---- the lock
+
+pub join-goes : (s : Lock) (l0 : Label) (name0 : List ℕ) (answer0 : ℕ) (l1 : Label) (name1 : List ℕ) (answer1 : ℕ) → length (s .name) ≡ 16
+    → Heard 2 0 (l0 .number) (s .name) l0 name0 → Heard 2 1 (l0 .number) (s .name) l1 name1 → s .last < l0 .number → add answer0 answer1 ≤ 1
+    → whyNotJoin s l0 name0 answer0 l1 name1 answer1 ≡ 0
+unfolding whyNotJoin unless
+join-goes s l0 name0 answer0 l1 name1 answer1 n h0 h1 above sum =
+    rw (
+      door-long _ _ _ _ _ _ h0 n,
+      door-long _ _ _ _ _ _ h1 n,
+      expects _ _ _ _ _ _ h0,
+      expects _ _ _ _ _ _ h1,
+      lt-ltb (s .last) (l0 .number) above,
+      eq-eqb (l1 .number) (l0 .number) (h1 .number-is),
+      le-leb (add answer0 answer1) 1 sum,
+    )
+    refl

@@ -1,0 +1,17 @@
+pub mod Accepted
+pub mod Boxes
+pub mod Claims
+pub mod Dealt
+pub mod Goes
+pub mod History
+pub mod Invariant
+pub mod Keeps
+pub mod Kept
+pub mod Made
+pub mod NotEmpty
+pub mod Once
+pub mod Parts
+pub mod Runs
+pub mod Slots
+pub mod Unmoved
+pub mod Written

@@ -1,0 +1,233 @@
+-- Demand 3 (01, "A door's list of calls"): what a list's accepted calls were, and the four claims over every list. No proof stands here. Assumes nothing.
+use mathlib.Core.Path.{_≡_}
+use mathlib.Core.Bool.{Bool, true, false, cond, _&&_}
+use mathlib.Core.List.{List, [], _∷_, _++_}
+use Prim.Native.Nat.{ℕ, suc, _-_, _^_, _<_, _≤_}
+use lib.Dec.{eqb}
+use lib.ListN.{length}
+use Rattle.algebra.specs.Word.{signed}
+use Rattle.measure.specs.Measure.{measure, reached, isCode, allInRange, thresholdFits}
+use Rattle.messages.specs.Messages.{padded}
+use Rattle.dealer.specs.Dealer.{Deal, halfSize}
+use Rattle.calls.specs.Lists.{Box, camera, office, partyOf, other, sameBox, put, World, Starts, Started, beginning, Message, Call, deal, load, mask, take, finish, drop, join, Body, vector, word, answer, Event, dealt, loaded, sent, dropped, joined, refused, step, after, events, In, SentVector, SentWord, SentAnswer, history, Admissible}
+
+-- ---- what a list's accepted calls were
+
+abbrev pub collect : {A : Type 0} → (Event → List A) → List Event → List A
+collect f [] = []
+collect f (e ∷ h) = f e ++ collect f h
+
+abbrev pub dealOf : ℕ → Event → List Deal
+dealOf n (dealt d f) = cond (eqb (d .number) n) (d ∷ []) []
+dealOf n (loaded b m) = []
+dealOf n (sent b m x) = []
+dealOf n (dropped b) = []
+dealOf n (joined m bit) = []
+dealOf n (refused why) = []
+
+abbrev pub sentOf : {A : Type 0} → (Body → List A) → Box → ℕ → Event → List A
+sentOf f b n (dealt d g) = []
+sentOf f b n (loaded c m) = []
+sentOf f b n (sent c m x) = cond (sameBox c b && eqb m n) (f x) []
+sentOf f b n (dropped c) = []
+sentOf f b n (joined m bit) = []
+sentOf f b n (refused why) = []
+
+abbrev pub vectorOf : Body → List (List ℕ)
+vectorOf (vector v m) = v ∷ []
+vectorOf (word w) = []
+vectorOf (answer a) = []
+
+abbrev pub wordOf : Body → List ℕ
+wordOf (vector v m) = []
+wordOf (word w) = w ∷ []
+wordOf (answer a) = []
+
+-- the accepted deals of n
+abbrev pub deals : ℕ → List Event → List Deal
+deals n h = collect (dealOf n) h
+
+-- the vectors handed to a box's accepted calls 2 under n
+abbrev pub vectors : Box → ℕ → List Event → List (List ℕ)
+vectors b n h = collect (sentOf vectorOf b n) h
+
+-- the words of a box's accepted calls 3 under n
+abbrev pub words : Box → ℕ → List Event → List ℕ
+words b n h = collect (sentOf wordOf b n) h
+
+-- "A part's last number is that of its last accepted deal, load or join, else its floor"
+abbrev pub lastDealt : ℕ → List Event → ℕ
+lastDealt floor [] = floor
+lastDealt floor (dealt d f ∷ h) = d .number
+lastDealt floor (loaded b m ∷ h) = lastDealt floor h
+lastDealt floor (sent b m x ∷ h) = lastDealt floor h
+lastDealt floor (dropped b ∷ h) = lastDealt floor h
+lastDealt floor (joined m bit ∷ h) = lastDealt floor h
+lastDealt floor (refused why ∷ h) = lastDealt floor h
+
+abbrev pub lastLoaded : ℕ → Box → List Event → ℕ
+lastLoaded floor b [] = floor
+lastLoaded floor b (dealt d f ∷ h) = lastLoaded floor b h
+lastLoaded floor b (loaded c m ∷ h) = cond (sameBox c b) m (lastLoaded floor b h)
+lastLoaded floor b (sent c m x ∷ h) = lastLoaded floor b h
+lastLoaded floor b (dropped c ∷ h) = lastLoaded floor b h
+lastLoaded floor b (joined m bit ∷ h) = lastLoaded floor b h
+lastLoaded floor b (refused why ∷ h) = lastLoaded floor b h
+
+abbrev pub lastJoined : ℕ → List Event → ℕ
+lastJoined floor [] = floor
+lastJoined floor (dealt d f ∷ h) = lastJoined floor h
+lastJoined floor (loaded b m ∷ h) = lastJoined floor h
+lastJoined floor (sent b m x ∷ h) = lastJoined floor h
+lastJoined floor (dropped b ∷ h) = lastJoined floor h
+lastJoined floor (joined m bit ∷ h) = m
+lastJoined floor (refused why ∷ h) = lastJoined floor h
+
+-- how many sets are open at a box: a load opens one, call 4 and drop close one
+abbrev pub closes : Body → ℕ
+closes (vector v m) = 0
+closes (word w) = 0
+closes (answer a) = 1
+
+abbrev pub openSets : Box → List Event → ℕ
+openSets b [] = 0
+openSets b (dealt d f ∷ h) = openSets b h
+openSets b (loaded c m ∷ h) = cond (sameBox c b) (suc (openSets b h)) (openSets b h)
+openSets b (sent c m x ∷ h) = cond (sameBox c b) (openSets b h - closes x) (openSets b h)
+openSets b (dropped c ∷ h) = cond (sameBox c b) (openSets b h - 1) (openSets b h)
+openSets b (joined m bit ∷ h) = openSets b h
+openSets b (refused why ∷ h) = openSets b h
+
+-- ---- no wrong report, no reuse
+
+-- what a lock is to say of a deal and two vectors
+abbrev pub verdict : Deal → List ℕ → List ℕ → ℕ
+verdict d x y = cond (reached (d .code) (measure (d .code) (d .n) x y) (signed (d .t))) 1 0
+
+-- "For an accepted join under n, the list's accepted deal of n gives measure and T, X is the vector handed to the camera box's accepted call 2 under n, and Y the office
+-- box's; that each is there exactly once is part of the claim"
+pub record Right (h : List Event) (n bit : ℕ) : Type 0 where
+  pub d : Deal
+  pub x : List ℕ
+  pub y : List ℕ
+  pub one-deal : deals n h ≡ d ∷ []
+  pub one-x : vectors camera n h ≡ x ∷ []
+  pub one-y : vectors office n h ≡ y ∷ []
+  pub right : bit ≡ verdict d x y
+
+unfoldable pub NoWrongReport : Type 0
+NoWrongReport = (s : Starts) → Started s → (cs : List Call) → Admissible s cs → (n bit : ℕ) → In (joined n bit) (history s cs) → Right (history s cs) n bit
+
+-- at most one masked vector and one word a number and box
+unfoldable pub NoReuse : Type 0
+NoReuse = (s : Starts) → Started s → (cs : List Call) → Admissible s cs → (b : Box) (n : ℕ)
+    → (length (vectors b n (history s cs)) ≤ 1) × (length (words b n (history s cs)) ≤ 1)
+
+-- ---- a run in the right order: "one deal, at each box a load and calls 2 to 4 in turn, and the join, all under one number"
+
+-- how far it is: whether the deal was made, how many of a box's four calls, whether the join
+pub record Progress : Type 0 where
+  pub begun : Bool
+  pub made : Box → ℕ
+  pub ended : Bool
+
+abbrev pub nothingMade : Progress
+nothingMade = record { begun = false; made = λ b. 0; ended = false }
+
+abbrev pub madeOne : Progress → Box → Progress
+madeOne g b = record { begun = g .begun; made = put (g .made) b (suc (g .made b)); ended = g .ended }
+
+abbrev pub onward : Progress → Call → Progress
+onward g (deal d out0 out1) = record { begun = true; made = g .made; ended = g .ended }
+onward g (load b h) = madeOne g b
+onward g (mask b v out) = madeOne g b
+onward g (take b m) = madeOne g b
+onward g (finish b m) = madeOne g b
+onward g (drop b) = g
+onward g (join m n) = record { begun = g .begun; made = g .made; ended = true }
+
+-- a message of this kind, sender and number under the door's name
+abbrev pub Labelled : {A : Type 0} → List ℕ → ℕ → Box → ℕ → Message A → Type 0
+Labelled door kind b n m = (m .label ≡ record { kind = kind; sender = partyOf b; number = n }) × (m .name ≡ door)
+
+-- the run's deal and its two vectors
+module _ (door : List ℕ) (d : Deal) (v : Box → List ℕ) where
+  -- which of its own calls may come next, where the run's events so far are h. "Each load gets the half the deal wrote for its box, and messages are handed on as sent. Any
+  -- order will do in which nothing is handed on before it is written or sent." Output buffers are as refusal 5 asks.
+  abbrev pub Ready : Progress → List Event → Call → Type 0
+  Ready g h (deal e out0 out1) = (g .begun ≡ false) × (e ≡ d) × (halfSize (d .n) ≤ length out0) × (halfSize (d .n) ≤ length out1)
+  Ready g h (load b half) = (g .made b ≡ 0) × (f : Box → List ℕ) × In (dealt d f) h × (half ≡ f b)
+  Ready g h (mask b x out) = (g .made b ≡ 1) × (x ≡ v b) × (d .n ≤ length out)
+  Ready g h (take b m) = (g .made b ≡ 2) × Labelled door 0 (other b) (d .number) m × SentVector h (other b) (d .number) (m .content)
+  Ready g h (finish b m) = (g .made b ≡ 3) × Labelled door 1 (other b) (d .number) m × SentWord h (other b) (d .number) (m .content)
+  Ready g h (drop b) = ⊥
+  Ready g h (join m n) =
+      (g .ended ≡ false) × Labelled door 2 camera (d .number) m × SentAnswer h camera (d .number) (m .content) × Labelled door 2 office (d .number) n
+      × SentAnswer h office (d .number) (n .content)
+
+  -- its calls so far: "mixed at most with calls that change no state"
+  pub data Run (w : World) : List Call → Progress → Type 0 where
+    start : Run w [] nothingMade
+    own : {cs : List Call} {g : Progress} → Run w cs g → (c : Call) → Ready g (events w cs) c → Run w (c ∷ cs) (onward g c)
+    aside : {cs : List Call} {g : Progress} → Run w cs g → (c : Call) → step (after w cs) c .world ≡ after w cs → Run w (c ∷ cs) g
+
+-- not refused, and a join reports what it should
+abbrev pub Answered : Deal → (Box → List ℕ) → Event → Type 0
+Answered d v (dealt e f) = Unit {0}
+Answered d v (loaded b n) = Unit {0}
+Answered d v (sent b n x) = Unit {0}
+Answered d v (dropped b) = Unit {0}
+Answered d v (joined n bit) = (n ≡ d .number) × (bit ≡ verdict d (v camera) (v office))
+Answered d v (refused why) = ⊥
+
+-- "In range means that code, lengths, output buffers, threshold and elements are as refusals 2, 4, 5 and 8 ask"
+pub record InRange (d : Deal) (v : Box → List ℕ) : Type 0 where
+  pub number-fits : d .number < 2 ^ 64
+  pub code-fits : isCode (d .code) ≡ true
+  pub seed-long : length (d .seed) ≡ 32
+  pub some : 1 ≤ d .n
+  pub most : d .n ≤ 512
+  pub vector-long : (b : Box) → length (v b) ≡ d .n
+  pub threshold-fits : thresholdFits (d .code) (d .t) ≡ true
+  pub elements-fit : (b : Box) → allInRange (d .code) (v b) ≡ true
+
+-- no set is open at either box, and n is above all four last numbers
+pub record Free (s : Starts) (h : List Event) (n : ℕ) : Type 0 where
+  pub none-open : (b : Box) → openSets b h ≡ 0
+  pub above-dealer : lastDealt (s .dealerFloor) h < n
+  pub above-box : (b : Box) → lastLoaded (s .boxFloor b) b h < n
+  pub above-lock : lastJoined (s .lockFloor) h < n
+
+-- after every admissible list that leaves no set open: however far such a run is and whatever came in between, each of its own calls that may come next is answered
+unfoldable pub AlwaysAnswered : Type 0
+AlwaysAnswered = (s : Starts) → Started s → (cs : List Call) → Admissible s cs → (d : Deal) (v : Box → List ℕ) → InRange d v → Free s (history s cs) (d .number)
+    → (let w : World = after (beginning s) cs in
+    (rs : List Call) (g : Progress) → Run (padded (s .name)) d v w rs g → (c : Call) → Ready (padded (s .name)) d v g (events w rs) c
+    → Answered d v (step (after w rs) c .event))
+
+-- ---- not empty
+
+pub record Below (s : Starts) (n : ℕ) : Type 0 where
+  pub dealer-below : s .dealerFloor < n
+  pub box-below : (b : Box) → s .boxFloor b < n
+  pub lock-below : s .lockFloor < n
+
+-- an admissible list whose join says `bit`; it is a run in the right order, so the hypotheses of each claim can be met
+pub record Example (s : Starts) (bit : ℕ) : Type 0 where
+  pub cs : List Call
+  pub admissible : Admissible s cs
+  pub d : Deal
+  pub v : Box → List ℕ
+  pub in-range : InRange d v
+  pub g : Progress
+  pub run : Run (padded (s .name)) d v (beginning s) cs g
+  pub says : In (joined (d .number) bit) (history s cs)
+
+-- from any accepted starts with floors below 2^64 - 1; and there are such starts
+unfoldable pub NotEmpty : Type 0
+NotEmpty = ((s : Starts) → Started s → Below s (2 ^ 64 - 1) → Example s 1 × Example s 0) × ((s : Starts) × Started s × Below s (2 ^ 64 - 1))
+
+-- ---- demand 3, whole
+
+unfoldable pub Demand3 : Type 0
+Demand3 = NoWrongReport × NoReuse × AlwaysAnswered × NotEmpty
