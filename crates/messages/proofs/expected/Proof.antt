@@ -1,0 +1,22 @@
+use mathlib.Core.Path.{ap}
+use mathlib.Core.Bool.{Bool, _&&_}
+use lib.Dec.{eqb}
+use Rattle.messages.specs.Messages.{expected}
+use borrow.Author.Needs.{needs}
+use Rattle.messages.proofs.expected.Statement.{statement}
+use Rattle.messages.proofs.expected.Tie as tie
+
+slice-aggregate-equal : tie.Need-slice-aggregate-equal
+slice-aggregate-equal c = search needs
+
+equal-requires : tie.Need-equal-requires
+equal-requires c κs = search needs
+
+returns : tie.Need-returns
+unfolding expected
+returns c =
+    let a = c .before .before .before .before .before .args in
+    ap (λ (t : Bool). eqb (a .label .kind) (a .kind) && (t && eqb (a .label .sender) (a .sender))) (c .before .equal .ensures)
+
+pub expected-spec : {M : Type 1} → statement M
+expected-spec = tie.close (tie.spec slice-aggregate-equal equal-requires returns)
