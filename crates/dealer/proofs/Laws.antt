@@ -17,12 +17,16 @@ use Rattle.content.specs.Laws.{blocks-bounds}
 use Rattle.dealing.specs.Dealing.{setFrom, dealtSet}
 use Rattle.half.specs.Half.{half}
 use Rattle.dealer.specs.Dealer.{noDealer, whyNotDealer, startDealer, Deal, halfSize, whyNotDeal, keyOf, halfFor, deal, dealOut}
-use Rattle.dealer.specs.Laws.{and-parts, length-fits, Accepted, dealt-proper}
+use Rattle.dealer.specs.Laws.{both, length-fits, DealTells, dealt-proper}
 use Rattle.dealer.specs.declared.Dealer.{Dealer}
 use Rattle.dealer.specs.declared.DealerAnswer.{DealerAnswer}
 
 alike : {w w' : ℕ} {s s' : Dealer} → w ≡ w' → s ≡ s' → _≡_ {A = DealerAnswer} (record { why = w; dealer = s }) (record { why = w'; dealer = s' })
 alike p q = λ i. record { why = p i; dealer = q i }
+
+-- the code found no reason to refuse
+pub none : {found why : ℕ} → found ≡ why → found ≡ 0 → why ≡ 0
+none e h = sym e ∙ h
 
 pub copied : (b : List ℕ) → length b ≡ 32 → over 0 b (replicate 32 0) ≡ b
 copied b h = over-all b (replicate 32 0) (h ∙ sym (length-replicate {A = ℕ} 32 0))
@@ -68,59 +72,64 @@ module _ (name key0 key1 : List ℕ) where
 -- ---- why a deal is turned down
 
 -- a length that has been tested, and its blocks
-pub short : (seed : List ℕ) (n : ℕ) → not (eqb (length seed) 32 && (leb 1 n && leb n 512)) ≡ false → (1 ≤ n) × (n ≤ 512)
+pub short : (long n : ℕ) → not (eqb long 32 && (leb 1 n && leb n 512)) ≡ false → (1 ≤ n) × (n ≤ 512)
 unfolding lengthFits
-short seed n h = length-fits n (and-parts (eqb (length seed) 32) (lengthFits n) (not-false _ h) .1)
+short long n h = length-fits n (both (eqb long 32) (lengthFits n) (not-false _ h) .1)
 
-pub few : (seed : List ℕ) (n : ℕ) → not (eqb (length seed) 32 && (leb 1 n && leb n 512)) ≡ false → (k : ℕ) → k ≡ blocks n → k ≤ 16
-few seed n h k e =
-    let fits = short seed n h in
+pub few : (long n : ℕ) → not (eqb long 32 && (leb 1 n && leb n 512)) ≡ false → (k : ℕ) → k ≡ blocks n → k ≤ 16
+few long n h k e =
+    let fits = short long n h in
     omega (arith, e, blocks-bounds n (fits .0) (fits .1) .1)
 
-module _ (s : Dealer) (d : Deal) (room0 room1 : ℕ) (known : Bool) (ek : known ≡ isCode (d .code)) where
+-- for any dealer with this last number, and any seed of this length
+module _ {last long : ℕ} (s : Dealer) (d : Deal) (el : s .last ≡ last) (es : length (d .seed) ≡ long) (room0 room1 : ℕ) (known : Bool) (ek : known ≡ isCode (d .code)) where
   pub unknown-code : not known ≡ true → 2 ≡ whyNotDeal s d room0 room1
   unfolding whyNotDeal
   unknown-code h = turned-down _ _ _ (ap not (sym ek) ∙ h)
 
   module _ (coded : not known ≡ false) where
-    pub bad-length : not (eqb (length (d .seed)) 32 && (leb 1 (d .n) && leb (d .n) 512)) ≡ true → 4 ≡ whyNotDeal s d room0 room1
-    unfolding whyNotDeal lengthFits
-    bad-length h = goes-on _ _ _ (ap not (sym ek) ∙ coded) (turned-down _ _ _ h)
+    past-code : {r : ℕ}
+        → r ≡ unless (eqb (length (d .seed)) 32 && lengthFits (d .n)) 4
+        (unless (leb (halfSize (d .n)) room0 && leb (halfSize (d .n)) room1) 5 (unless (ltb (s .last) (d .number)) 7 (unless (thresholdFits (d .code) (d .t)) 8 0)))
+        → r ≡ whyNotDeal s d room0 room1
+    unfolding whyNotDeal
+    past-code h = goes-on _ _ _ (ap not (sym ek) ∙ coded) h
 
-    module _ (long : not (eqb (length (d .seed)) 32 && (leb 1 (d .n) && leb (d .n) 512)) ≡ false) (k : ℕ) (eb : k ≡ blocks (d .n)) where
-      size : 512 * k ≡ halfSize (d .n)
-      unfolding halfSize
-      size = ap (λ (m : ℕ). 512 * m) eb
+    lengths : {b : Bool} → not (eqb long 32 && (leb 1 (d .n) && leb (d .n) 512)) ≡ b → not (eqb (length (d .seed)) 32 && lengthFits (d .n)) ≡ b
+    unfolding lengthFits
+    lengths h = ap (λ (k : ℕ). not (eqb k 32 && lengthFits (d .n))) es ∙ h
 
-      past-lengths : {r : ℕ}
-          → r ≡ unless (leb (halfSize (d .n)) room0 && leb (halfSize (d .n)) room1) 5 (unless (ltb (s .last) (d .number)) 7 (unless (thresholdFits (d .code) (d .t)) 8 0))
-          → r ≡ whyNotDeal s d room0 room1
-      unfolding whyNotDeal lengthFits
-      past-lengths h = goes-on _ _ _ (ap not (sym ek) ∙ coded) (goes-on _ _ _ long h)
+    pub bad-length : not (eqb long 32 && (leb 1 (d .n) && leb (d .n) 512)) ≡ true → 4 ≡ whyNotDeal s d room0 room1
+    bad-length h = past-code (turned-down _ _ _ (lengths h))
 
+    module _ (fit : not (eqb long 32 && (leb 1 (d .n) && leb (d .n) 512)) ≡ false) (k : ℕ) (eb : k ≡ blocks (d .n)) where
       rooms : {b : Bool} → not (leb (512 * k) room0 && leb (512 * k) room1) ≡ b → not (leb (halfSize (d .n)) room0 && leb (halfSize (d .n)) room1) ≡ b
-      rooms h = ap (λ (m : ℕ). not (leb m room0 && leb m room1)) (sym size) ∙ h
+      unfolding halfSize
+      rooms h = ap (λ (m : ℕ). not (leb (512 * m) room0 && leb (512 * m) room1)) (sym eb) ∙ h
 
       pub no-room : not (leb (512 * k) room0 && leb (512 * k) room1) ≡ true → 5 ≡ whyNotDeal s d room0 room1
-      no-room h = past-lengths (turned-down _ _ _ (rooms h))
+      no-room h = past-code (goes-on _ _ _ (lengths fit) (turned-down _ _ _ (rooms h)))
 
       module _ (roomy : not (leb (512 * k) room0 && leb (512 * k) room1) ≡ false) where
         past-rooms : {r : ℕ} → r ≡ unless (ltb (s .last) (d .number)) 7 (unless (thresholdFits (d .code) (d .t)) 8 0) → r ≡ whyNotDeal s d room0 room1
-        past-rooms h = past-lengths (goes-on _ _ _ (rooms roomy) h)
+        past-rooms h = past-code (goes-on _ _ _ (lengths fit) (goes-on _ _ _ (rooms roomy) h))
 
-        pub stale : not (ltb (s .last) (d .number)) ≡ true → 7 ≡ whyNotDeal s d room0 room1
-        stale h = past-rooms (turned-down _ _ _ h)
+        above : {b : Bool} → not (ltb last (d .number)) ≡ b → not (ltb (s .last) (d .number)) ≡ b
+        above h = ap (λ (l : ℕ). not (ltb l (d .number))) el ∙ h
 
-        module _ (fresh : not (ltb (s .last) (d .number)) ≡ false) (fits : Bool) (ef : fits ≡ thresholdFits (d .code) (d .t)) where
+        pub stale : not (ltb last (d .number)) ≡ true → 7 ≡ whyNotDeal s d room0 room1
+        stale h = past-rooms (turned-down _ _ _ (above h))
+
+        module _ (fresh : not (ltb last (d .number)) ≡ false) (fits : Bool) (ef : fits ≡ thresholdFits (d .code) (d .t)) where
           pub out-of-range : not fits ≡ true → 8 ≡ whyNotDeal s d room0 room1
-          out-of-range h = past-rooms (goes-on _ _ _ fresh (turned-down _ _ _ (ap not (sym ef) ∙ h)))
+          out-of-range h = past-rooms (goes-on _ _ _ (above fresh) (turned-down _ _ _ (ap not (sym ef) ∙ h)))
 
           pub deal-taken : not fits ≡ false → 0 ≡ whyNotDeal s d room0 room1
-          deal-taken h = past-rooms (goes-on _ _ _ fresh (goes-on _ _ _ (ap not (sym ef) ∙ h) refl))
+          deal-taken h = past-rooms (goes-on _ _ _ (above fresh) (goes-on _ _ _ (ap not (sym ef) ∙ h) refl))
 
 -- ---- the two halves
 
-module _ (s : Dealer) (d : Deal) (room0 room1 : ℕ) (a : Accepted s d room0 room1)
+module _ (s : Dealer) (d : Deal) (room0 room1 : ℕ) (a : DealTells s d room0 room1)
     (party : ℕ) (seed : List ℕ) (es : seed ≡ d .seed) (set : Set) (e : set ≡ dealtSet seed (d .number) (d .code) (d .n) (d .t) party) where
   is-dealt : set ≡ dealtSet (d .seed) (d .number) (d .code) (d .n) (d .t) party
   is-dealt = e ∙ ap (λ (l : List ℕ). dealtSet l (d .number) (d .code) (d .n) (d .t) party) es

@@ -1,8 +1,11 @@
 // The dealer: deals a numbered set of masks to the two boxes as sealed halves.
 ghost use mathlib.Core.Path.{_≡_};
+ghost use mathlib.Core.List.{List};
+ghost use Prim.Native.Nat.{ℕ};
 ghost use lib.ListN.{length};
 ghost use Rattle.words.specs.List.{over};
 ghost use Rattle.dealer.specs.Dealer.{whyNotDealer, startDealer, dealFrom, whyNotDeal, halfFor, deal as dealOf, dealOut};
+ghost use Rattle.dealer.specs.declared.Dealer.{Dealer};
 
 // What the dealer keeps: the door's padded name, the keys of the two boxes, and its last set number.
 #[repr(C)]
@@ -63,7 +66,16 @@ impl Dealer {
         ensures { λ _. ⌜ now (out0 .exit) ≡ dealOut self (dealFrom number (now (seed .entry)) code n t) (now (out0 .entry)) (now (out1 .entry)) 0 ⌝ }
         ensures { λ _. ⌜ now (out1 .exit) ≡ dealOut self (dealFrom number (now (seed .entry)) code n t) (now (out0 .entry)) (now (out1 .entry)) 1 ⌝ }
     {
-        let why = why_not_deal(self, number, seed, code, n, t, out0.len(), out1.len());
+        let why = why_not_deal(
+            self.last,
+            number,
+            seed.len(),
+            code,
+            n,
+            t,
+            out0.len(),
+            out1.len(),
+        );
         if why != 0 {
             return DealerAnswer { why, dealer: self };
         }
@@ -98,30 +110,30 @@ fn why_not_start(name: &[u8], key0: &[u8], key1: &[u8]) -> u32
     0
 }
 
-// The length is tested before blocks are counted: any n can be handed in.
+// The length n is tested before blocks are counted: any can be handed in. `long` is the seed's.
 fn why_not_deal(
-    dealer: Dealer,
+    last: u64,
     number: u64,
-    seed: &[u8],
+    long: usize,
     code: u32,
     n: usize,
     t: u32,
     room0: usize,
     room1: usize,
 ) -> u32
-    ensures { λ r. ⌜ r ≡ whyNotDeal dealer (dealFrom number (now (seed .entry)) code n t) room0 room1 ⌝ }
+    ensures { λ r. ⌜ ((s : Dealer) (seed : List ℕ) → s .last ≡ last → length seed ≡ long → r ≡ whyNotDeal s (dealFrom number seed code n t) room0 room1) ⌝ }
 {
     if !measure::is_code(code) {
         return 2;
     }
-    if !((seed.len() == 32) & ((1 <= n) & (n <= 512))) {
+    if !((long == 32) & ((1 <= n) & (n <= 512))) {
         return 4;
     }
     let size = 512 * content::blocks_of(n);
     if !((size <= room0) & (size <= room1)) {
         return 5;
     }
-    if !(dealer.last < number) {
+    if !(last < number) {
         return 7;
     }
     if !measure::threshold_fits(code, t) {

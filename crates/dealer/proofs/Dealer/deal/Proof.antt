@@ -1,6 +1,6 @@
+use mathlib.Core.Path.{refl}
 use Rattle.dealer.specs.Dealer.{dealFrom}
-use mathlib.Core.Path.{sym, _∙_}
-use Rattle.dealer.proofs.Laws.{deal-refused, dealt}
+use Rattle.dealer.proofs.Laws.{none, deal-refused, dealt}
 use borrow.Author.Needs.{needs}
 use Rattle.dealer.proofs.Dealer.deal.Statement.{statement}
 use Rattle.dealer.proofs.Dealer.deal.Tie as tie
@@ -11,10 +11,11 @@ why-not-deal-requires c κs = search needs
 returns : tie.Need-returns
 returns c =
     let a = c .before .before .before .before .before .args in
-    deal-refused (a .self) (dealFrom (a .number) (a .seed .now) (a .code) (a .n) (a .t)) (a .out0 .now) (a .out1 .now) _ (c .before .why-not-deal .ensures) (c .if1 .taken)
+    deal-refused (a .self) (dealFrom (a .number) (a .seed .now) (a .code) (a .n) (a .t)) (a .out0 .now) (a .out1 .now) _ (c .before .why-not-deal .ensures (a .self) (a .seed .now) refl refl) (c .if1 .taken)
 
 write-halves-requires : tie.Need-write-halves-requires
-write-halves-requires c κs = sym (c .before .before .before .why-not-deal .ensures) ∙ c .before .before .if1 .left
+write-halves-requires c κs =
+    none (c .before .before .before .why-not-deal .ensures (c .before .before .before .before .before .before .before .args .self) (c .before .before .before .before .before .before .before .args .seed .now) refl refl) (c .before .before .if1 .left)
 
 same-length : tie.Need-same-length
 same-length c = search needs
@@ -25,7 +26,7 @@ same-length-2 c = search needs
 returns-2 : tie.Need-returns-2
 returns-2 c =
     let a = c .before .before .before .before .before .before .before .before .before .before .before .before .before .before .before .args in
-    dealt (a .self) (dealFrom (a .number) (a .seed .now) (a .code) (a .n) (a .t)) (a .out0 .now) (a .out1 .now) _ (c .before .before .before .before .before .before .before .before .before .before .before .why-not-deal .ensures) _ _ (c .before .before .before .before .before .before .before .before .before .before .if1 .left) (c .before .before .before .before .before .before .before .write-halves .ensures .0) (c .before .before .before .before .before .before .before .write-halves .ensures .1)
+    dealt (a .self) (dealFrom (a .number) (a .seed .now) (a .code) (a .n) (a .t)) (a .out0 .now) (a .out1 .now) _ (c .before .before .before .before .before .before .before .before .before .before .before .why-not-deal .ensures (a .self) (a .seed .now) refl refl) _ _ (c .before .before .before .before .before .before .before .before .before .before .if1 .left) (c .before .before .before .before .before .before .before .write-halves .ensures .0) (c .before .before .before .before .before .before .before .write-halves .ensures .1)
 
 pub deal-spec : {M : Type 1} → statement M
 deal-spec =
