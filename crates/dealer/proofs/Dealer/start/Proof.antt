@@ -1,3 +1,4 @@
+use native.Mathlib.Omega.{arith}
 use Rattle.messages.specs.Laws.{fits-short}
 use Rattle.dealer.specs.Dealer.{noDealer}
 use Rattle.dealer.specs.Laws.{start-tells}
@@ -17,10 +18,14 @@ padded-requires : tie.Need-padded-requires
 padded-requires c κs = fits-short _ (start-tells _ _ _ (none (c .before .why-not-start .ensures) (c .if1 .left)) .name-fits)
 
 bytes-32-requires : tie.Need-bytes-32-requires
-bytes-32-requires c κs = start-tells _ _ _ (none (c .before .before .why-not-start .ensures) (c .before .if1 .left)) .long-0
+bytes-32-requires c κs =
+    let keys = start-tells _ _ _ (none (c .before .before .why-not-start .ensures) (c .before .if1 .left)) in
+    omega (arith, keys .long-0, keys .long-1)
 
 bytes-32-requires-2 : tie.Need-bytes-32-requires-2
-bytes-32-requires-2 c κs = start-tells _ _ _ (none (c .before .before .before .why-not-start .ensures) (c .before .before .if1 .left)) .long-1
+bytes-32-requires-2 c κs =
+    let keys = start-tells _ _ _ (none (c .before .before .before .why-not-start .ensures) (c .before .before .if1 .left)) in
+    omega (arith, keys .long-0, keys .long-1)
 
 returns-2 : tie.Need-returns-2
 returns-2 c = started _ _ _ _ _ (c .before .before .before .before .why-not-start .ensures) _ _ _ (c .before .before .before .if1 .left) (c .before .before .padded .ensures) (c .before .bytes-32 .ensures) (c .bytes-322 .ensures)
