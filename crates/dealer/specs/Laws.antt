@@ -1,4 +1,4 @@
--- What an accepted start and an accepted deal have been tested for, and that what a deal writes for a party is the half of a proper set. Assumes nothing.
+-- What an accepted start and an accepted deal have been tested for, and that the set which a deal gives each party is proper. Assumes nothing.
 use mathlib.Core.Path.{_≡_, refl, sym}
 use mathlib.Core.Bool.{Bool, true, false, _&&_, not, true≢false}
 use mathlib.Core.List.{List}
