@@ -1,6 +1,6 @@
 -- The dealer (01, "Dealing a set", "The sealed half" and "When a call is turned down"): why a start or a deal is turned down, the next state, and what a deal leaves in its
 -- two lent buffers, for any state and anything handed in. Assumes nothing.
-use mathlib.Core.Bool.{Bool, cond, _&&_, not}
+use mathlib.Core.Bool.{cond, _&&_, not}
 use mathlib.Core.List.{List}
 use Prim.Native.Nat.{ℕ, _*_}
 use lib.Dec.{eqb, leb, ltb}
@@ -32,6 +32,9 @@ pub record Deal : Type 0 where
   pub code : ℕ
   pub n : ℕ
   pub t : ℕ
+
+abbrev pub dealFrom : ℕ → List ℕ → ℕ → ℕ → ℕ → Deal
+dealFrom number seed code n t = record { number = number; seed = seed; code = code; n = n; t = t }
 
 -- how many bytes a half has
 unfoldable pub halfSize : ℕ → ℕ

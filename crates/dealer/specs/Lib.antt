@@ -1,1 +1,2 @@
 pub mod Dealer
+pub mod Laws

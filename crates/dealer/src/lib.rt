@@ -1,4 +1,11 @@
 // The dealer: deals a numbered set of masks to the two boxes as sealed halves.
+ghost use mathlib.Core.Path.{_≡_};
+ghost use mathlib.Core.List.{List};
+ghost use Prim.Native.Nat.{ℕ};
+ghost use lib.ListN.{length};
+ghost use Rattle.words.specs.List.{over};
+ghost use Rattle.dealer.specs.Dealer.{whyNotDealer, startDealer, dealFrom, whyNotDeal, halfFor, deal as dealOf, dealOut};
+ghost use Rattle.dealer.specs.declared.Dealer.{Dealer};
 
 // What the dealer keeps: the door's padded name, the keys of the two boxes, and its last set number.
 #[repr(C)]
@@ -14,4 +21,157 @@ pub struct Dealer {
 pub struct DealerAnswer {
     pub why: u32,
     pub dealer: Dealer,
+}
+
+impl Dealer {
+    // key0 is the camera box's, key1 the office box's.
+    pub fn start(name: &[u8], key0: &[u8], key1: &[u8], floor: u64) -> DealerAnswer
+        ensures { λ r. ⌜ r ≡ startDealer (now (name .entry)) (now (key0 .entry)) (now (key1 .entry)) floor ⌝ }
+    {
+        let why = why_not_start(name, key0, key1);
+        if why != 0 {
+            return DealerAnswer {
+                why,
+                dealer: Dealer {
+                    name: [0; 16],
+                    key0: [0; 32],
+                    key1: [0; 32],
+                    last: 0,
+                },
+            };
+        }
+        DealerAnswer {
+            why,
+            dealer: Dealer {
+                name: messages::padded(name),
+                key0: bytes_32(key0),
+                key1: bytes_32(key1),
+                last: floor,
+            },
+        }
+    }
+
+    // Party 0's half is written to out0, party 1's to out1.
+    pub fn deal(
+        self,
+        number: u64,
+        seed: &[u8],
+        code: u32,
+        n: usize,
+        t: u32,
+        out0: &mut [u8],
+        out1: &mut [u8],
+    ) -> DealerAnswer
+        ensures { λ r. ⌜ r ≡ dealOf self (dealFrom number (now (seed .entry)) code n t) (length (now (out0 .entry))) (length (now (out1 .entry))) ⌝ }
+        ensures { λ _. ⌜ now (out0 .exit) ≡ dealOut self (dealFrom number (now (seed .entry)) code n t) (now (out0 .entry)) (now (out1 .entry)) 0 ⌝ }
+        ensures { λ _. ⌜ now (out1 .exit) ≡ dealOut self (dealFrom number (now (seed .entry)) code n t) (now (out0 .entry)) (now (out1 .entry)) 1 ⌝ }
+    {
+        let why = why_not_deal(
+            self.last,
+            number,
+            seed.len(),
+            code,
+            n,
+            t,
+            out0.len(),
+            out1.len(),
+        );
+        if why != 0 {
+            return DealerAnswer { why, dealer: self };
+        }
+        write_halves(self, number, seed, code, n, t, out0, out1);
+        let name = self.name;
+        let key0 = self.key0;
+        let key1 = self.key1;
+        DealerAnswer {
+            why,
+            dealer: Dealer {
+                name,
+                key0,
+                key1,
+                last: number,
+            },
+        }
+    }
+}
+
+fn why_not_start(name: &[u8], key0: &[u8], key1: &[u8]) -> u32
+    ensures { λ r. ⌜ r ≡ whyNotDealer (now (name .entry)) (now (key0 .entry)) (now (key1 .entry)) ⌝ }
+{
+    if !messages::name_fits(name) {
+        return 1;
+    }
+    if !((key0.len() == 32) & (key1.len() == 32)) {
+        return 4;
+    }
+    if words::equal(key0, key1) {
+        return 9;
+    }
+    0
+}
+
+// The length n is tested before blocks are counted: any can be handed in. `long` is the seed's.
+fn why_not_deal(
+    last: u64,
+    number: u64,
+    long: usize,
+    code: u32,
+    n: usize,
+    t: u32,
+    room0: usize,
+    room1: usize,
+) -> u32
+    ensures { λ r. ⌜ ((s : Dealer) (seed : List ℕ) → s .last ≡ last → length seed ≡ long → r ≡ whyNotDeal s (dealFrom number seed code n t) room0 room1) ⌝ }
+{
+    if !measure::is_code(code) {
+        return 2;
+    }
+    if !((long == 32) & ((1 <= n) & (n <= 512))) {
+        return 4;
+    }
+    let size = 512 * content::blocks_of(n);
+    if !((size <= room0) & (size <= room1)) {
+        return 5;
+    }
+    if !(last < number) {
+        return 7;
+    }
+    if !measure::threshold_fits(code, t) {
+        return 8;
+    }
+    0
+}
+
+// A key or a seed.
+fn bytes_32(b: &[u8]) -> [u8; 32]
+    requires { ⌜ length (now b) ≡ 32 ⌝ }
+    ensures { λ r. ⌜ r ≡ now (b .entry) ⌝ }
+{
+    let mut out = [0u8; 32];
+    words::copy(&mut out, 0, b);
+    out
+}
+
+// Both halves of an accepted deal, from the starts of the two buffers.
+fn write_halves(
+    dealer: Dealer,
+    number: u64,
+    seed: &[u8],
+    code: u32,
+    n: usize,
+    t: u32,
+    out0: &mut [u8],
+    out1: &mut [u8],
+)
+    requires { ⌜ whyNotDeal dealer (dealFrom number (now seed) code n t) (length (now out0)) (length (now out1)) ≡ 0 ⌝ }
+    ensures { λ _. ⌜ now (out0 .exit) ≡ over 0 (halfFor dealer (dealFrom number (now (seed .entry)) code n t) 0) (now (out0 .entry)) ⌝ }
+    ensures { λ _. ⌜ now (out1 .exit) ≡ over 0 (halfFor dealer (dealFrom number (now (seed .entry)) code n t) 1) (now (out1 .entry)) ⌝ }
+{
+    let seed = bytes_32(seed);
+    let dealt = dealing::sets(&seed, number, code, n, t);
+    let name = dealer.name;
+    let key0 = dealer.key0;
+    let key1 = dealer.key1;
+    half::write_half(&key0, name, 0, dealt.camera, out0);
+    half::write_half(&key1, name, 1, dealt.office, out1);
 }

@@ -1,0 +1,40 @@
+use mathlib.Core.Path.{refl}
+use Rattle.dealer.specs.Dealer.{dealFrom}
+use Rattle.dealer.proofs.Laws.{none, deal-refused, dealt}
+use borrow.Author.Needs.{needs}
+use Rattle.dealer.proofs.Dealer.deal.Statement.{statement}
+use Rattle.dealer.proofs.Dealer.deal.Tie as tie
+
+why-not-deal-requires : tie.Need-why-not-deal-requires
+why-not-deal-requires c κs = search needs
+
+returns : tie.Need-returns
+returns c =
+    let a = c .before .before .before .before .before .args in
+    deal-refused (a .self) (dealFrom (a .number) (a .seed .now) (a .code) (a .n) (a .t)) (a .out0 .now) (a .out1 .now) _ (c .before .why-not-deal .ensures (a .self) (a .seed .now) refl refl) (c .if1 .taken)
+
+write-halves-requires : tie.Need-write-halves-requires
+write-halves-requires c κs =
+    none (c .before .before .before .why-not-deal .ensures (c .before .before .before .before .before .before .before .args .self) (c .before .before .before .before .before .before .before .args .seed .now) refl refl) (c .before .before .if1 .left)
+
+same-length : tie.Need-same-length
+same-length c = search needs
+
+same-length-2 : tie.Need-same-length-2
+same-length-2 c = search needs
+
+returns-2 : tie.Need-returns-2
+returns-2 c =
+    let a = c .before .before .before .before .before .before .before .before .before .before .before .before .before .before .before .args in
+    dealt (a .self) (dealFrom (a .number) (a .seed .now) (a .code) (a .n) (a .t)) (a .out0 .now) (a .out1 .now) _ (c .before .before .before .before .before .before .before .before .before .before .before .why-not-deal .ensures (a .self) (a .seed .now) refl refl) _ _ (c .before .before .before .before .before .before .before .before .before .before .if1 .left) (c .before .before .before .before .before .before .before .write-halves .ensures .0) (c .before .before .before .before .before .before .before .write-halves .ensures .1)
+
+pub deal-spec : {M : Type 1} → statement M
+deal-spec =
+    tie.close
+    (tie.spec
+    why-not-deal-requires
+    returns
+    write-halves-requires
+    same-length
+    same-length-2
+    returns-2)

@@ -1,0 +1,159 @@
+-- The dealer's start and deal from their tests, each of which returns its number at once, lowest first, and from what an accepted call makes. Assumes nothing.
+use mathlib.Core.Path.{_≡_, refl, sym, ap, subst, _∙_}
+use mathlib.Core.Bool.{Bool, true, false, not, _&&_}
+use mathlib.Core.List.{List}
+use Prim.Native.Nat.{ℕ, _*_, _^_, _<_, _≤_}
+use native.Mathlib.Omega.{arith}
+use borrow.Author.Tests.{not-false}
+use lib.Dec.{eqb, leb, ltb}
+use lib.ListN.{length, replicate, length-replicate}
+use Rattle.words.specs.List.{over, over-all, same}
+use Rattle.measure.specs.Measure.{isCode, thresholdFits}
+use Rattle.messages.specs.Messages.{unless, nameFits, padded, isKey}
+use Rattle.messages.specs.Laws.{unless-false, unless-true, turned-down, goes-on, taken, refused}
+use Rattle.content.specs.declared.Set.{Set}
+use Rattle.content.specs.Content.{blocks, lengthFits, Proper}
+use Rattle.content.specs.Laws.{blocks-bounds}
+use Rattle.dealing.specs.Dealing.{setFrom, dealtSet}
+use Rattle.half.specs.Half.{half}
+use Rattle.dealer.specs.Dealer.{noDealer, whyNotDealer, startDealer, Deal, halfSize, whyNotDeal, keyOf, halfFor, deal, dealOut}
+use Rattle.dealer.specs.Laws.{both, length-fits, DealTells, dealt-proper}
+use Rattle.dealer.specs.declared.Dealer.{Dealer}
+use Rattle.dealer.specs.declared.DealerAnswer.{DealerAnswer}
+
+alike : {w w' : ℕ} {s s' : Dealer} → w ≡ w' → s ≡ s' → _≡_ {A = DealerAnswer} (record { why = w; dealer = s }) (record { why = w'; dealer = s' })
+alike p q = λ i. record { why = p i; dealer = q i }
+
+-- the code found no reason to refuse
+pub none : {found why : ℕ} → found ≡ why → found ≡ 0 → why ≡ 0
+none e h = sym e ∙ h
+
+pub copied : (b : List ℕ) → length b ≡ 32 → over 0 b (replicate 32 0) ≡ b
+copied b h = over-all b (replicate 32 0) (h ∙ sym (length-replicate {A = ℕ} 32 0))
+
+-- ---- start
+
+module _ (name key0 key1 : List ℕ) where
+  module _ (fits : Bool) (ef : fits ≡ nameFits name) where
+    pub bad-name : not fits ≡ true → 1 ≡ whyNotDealer name key0 key1
+    unfolding whyNotDealer
+    bad-name h = turned-down _ _ _ (ap not (sym ef) ∙ h)
+
+    module _ (named : not fits ≡ false) where
+      past-name : {r : ℕ} → r ≡ unless (isKey key0 && isKey key1) 4 (unless (not (same key0 key1)) 9 0) → r ≡ whyNotDealer name key0 key1
+      unfolding whyNotDealer
+      past-name h = goes-on _ _ _ (ap not (sym ef) ∙ named) h
+
+      pub bad-key : not (eqb (length key0) 32 && eqb (length key1) 32) ≡ true → 4 ≡ whyNotDealer name key0 key1
+      unfolding isKey
+      bad-key h = past-name (turned-down _ _ _ h)
+
+      module _ (long : not (eqb (length key0) 32 && eqb (length key1) 32) ≡ false) (one : Bool) (eo : one ≡ same key0 key1) where
+        past-keys : {r : ℕ} → r ≡ unless (not (same key0 key1)) 9 0 → r ≡ whyNotDealer name key0 key1
+        unfolding isKey
+        past-keys h = past-name (goes-on _ _ _ long h)
+
+        pub one-key : one ≡ true → 9 ≡ whyNotDealer name key0 key1
+        one-key h = past-keys (unless-false _ _ _ (ap not (sym eo ∙ h)))
+
+        pub start-taken : one ≡ false → 0 ≡ whyNotDealer name key0 key1
+        start-taken h = past-keys (unless-true _ _ _ (ap not (sym eo ∙ h)) refl)
+
+  module _ (floor why : ℕ) (e : why ≡ whyNotDealer name key0 key1) where
+    pub start-refused : (why ≡ 0 → ⊥) → record { why = why; dealer = noDealer } ≡ startDealer name key0 key1 floor
+    unfolding startDealer
+    start-refused h = alike e (refused _ _ e h)
+
+    pub started : (p k0 k1 : List ℕ) → why ≡ 0 → p ≡ padded name → k0 ≡ key0 → k1 ≡ key1
+        → record { why = why; dealer = record { name = p; key0 = k0; key1 = k1; last = floor } } ≡ startDealer name key0 key1 floor
+    unfolding startDealer
+    started p k0 k1 h ep e0 e1 = alike e ((λ i. record { name = ep i; key0 = e0 i; key1 = e1 i; last = floor }) ∙ taken _ _ e h)
+
+-- ---- why a deal is turned down
+
+-- a length that has been tested, and its blocks
+pub short : (long n : ℕ) → not (eqb long 32 && (leb 1 n && leb n 512)) ≡ false → (1 ≤ n) × (n ≤ 512)
+unfolding lengthFits
+short long n h = length-fits n (both (eqb long 32) (lengthFits n) (not-false _ h) .1)
+
+pub few : (long n : ℕ) → not (eqb long 32 && (leb 1 n && leb n 512)) ≡ false → (k : ℕ) → k ≡ blocks n → k ≤ 16
+few long n h k e =
+    let fits = short long n h in
+    omega (arith, e, blocks-bounds n (fits .0) (fits .1) .1)
+
+-- for any dealer with this last number, and any seed of this length
+module _ {last long : ℕ} (s : Dealer) (d : Deal) (el : s .last ≡ last) (es : length (d .seed) ≡ long) (room0 room1 : ℕ) (known : Bool) (ek : known ≡ isCode (d .code)) where
+  pub unknown-code : not known ≡ true → 2 ≡ whyNotDeal s d room0 room1
+  unfolding whyNotDeal
+  unknown-code h = turned-down _ _ _ (ap not (sym ek) ∙ h)
+
+  module _ (coded : not known ≡ false) where
+    past-code : {r : ℕ}
+        → r ≡ unless (eqb (length (d .seed)) 32 && lengthFits (d .n)) 4
+        (unless (leb (halfSize (d .n)) room0 && leb (halfSize (d .n)) room1) 5 (unless (ltb (s .last) (d .number)) 7 (unless (thresholdFits (d .code) (d .t)) 8 0)))
+        → r ≡ whyNotDeal s d room0 room1
+    unfolding whyNotDeal
+    past-code h = goes-on _ _ _ (ap not (sym ek) ∙ coded) h
+
+    lengths : {b : Bool} → not (eqb long 32 && (leb 1 (d .n) && leb (d .n) 512)) ≡ b → not (eqb (length (d .seed)) 32 && lengthFits (d .n)) ≡ b
+    unfolding lengthFits
+    lengths h = ap (λ (k : ℕ). not (eqb k 32 && lengthFits (d .n))) es ∙ h
+
+    pub bad-length : not (eqb long 32 && (leb 1 (d .n) && leb (d .n) 512)) ≡ true → 4 ≡ whyNotDeal s d room0 room1
+    bad-length h = past-code (turned-down _ _ _ (lengths h))
+
+    module _ (fit : not (eqb long 32 && (leb 1 (d .n) && leb (d .n) 512)) ≡ false) (k : ℕ) (eb : k ≡ blocks (d .n)) where
+      rooms : {b : Bool} → not (leb (512 * k) room0 && leb (512 * k) room1) ≡ b → not (leb (halfSize (d .n)) room0 && leb (halfSize (d .n)) room1) ≡ b
+      unfolding halfSize
+      rooms h = ap (λ (m : ℕ). not (leb (512 * m) room0 && leb (512 * m) room1)) (sym eb) ∙ h
+
+      pub no-room : not (leb (512 * k) room0 && leb (512 * k) room1) ≡ true → 5 ≡ whyNotDeal s d room0 room1
+      no-room h = past-code (goes-on _ _ _ (lengths fit) (turned-down _ _ _ (rooms h)))
+
+      module _ (roomy : not (leb (512 * k) room0 && leb (512 * k) room1) ≡ false) where
+        past-rooms : {r : ℕ} → r ≡ unless (ltb (s .last) (d .number)) 7 (unless (thresholdFits (d .code) (d .t)) 8 0) → r ≡ whyNotDeal s d room0 room1
+        past-rooms h = past-code (goes-on _ _ _ (lengths fit) (goes-on _ _ _ (rooms roomy) h))
+
+        above : {b : Bool} → not (ltb last (d .number)) ≡ b → not (ltb (s .last) (d .number)) ≡ b
+        above h = ap (λ (l : ℕ). not (ltb l (d .number))) el ∙ h
+
+        pub stale : not (ltb last (d .number)) ≡ true → 7 ≡ whyNotDeal s d room0 room1
+        stale h = past-rooms (turned-down _ _ _ (above h))
+
+        module _ (fresh : not (ltb last (d .number)) ≡ false) (fits : Bool) (ef : fits ≡ thresholdFits (d .code) (d .t)) where
+          pub out-of-range : not fits ≡ true → 8 ≡ whyNotDeal s d room0 room1
+          out-of-range h = past-rooms (goes-on _ _ _ (above fresh) (turned-down _ _ _ (ap not (sym ef) ∙ h)))
+
+          pub deal-taken : not fits ≡ false → 0 ≡ whyNotDeal s d room0 room1
+          deal-taken h = past-rooms (goes-on _ _ _ (above fresh) (goes-on _ _ _ (ap not (sym ef) ∙ h) refl))
+
+-- ---- the two halves
+
+module _ (s : Dealer) (d : Deal) (room0 room1 : ℕ) (a : DealTells s d room0 room1)
+    (party : ℕ) (seed : List ℕ) (es : seed ≡ d .seed) (set : Set) (e : set ≡ dealtSet seed (d .number) (d .code) (d .n) (d .t) party) where
+  is-dealt : set ≡ dealtSet (d .seed) (d .number) (d .code) (d .n) (d .t) party
+  is-dealt = e ∙ ap (λ (l : List ℕ). dealtSet l (d .number) (d .code) (d .n) (d .t) party) es
+
+  -- what writing a half asks
+  pub half-asks : (room : ℕ) → halfSize (d .n) ≤ room → d .number < 2 ^ 64 → party ≤ 1 → ((party < 256) × (512 * blocks (set .n) ≤ room)) × Proper set
+  unfolding halfSize dealtSet setFrom
+  half-asks room h number low =
+      ((omega arith, rw (ap (λ (t : Set). t .n) e) h), subst Proper (sym is-dealt) (dealt-proper s d room0 room1 party a number low))
+
+  pub is-half : (out out' : List ℕ) → out' ≡ over 0 (half (keyOf s party) (s .name) party set) out → out' ≡ over 0 (halfFor s d party) out
+  unfolding halfFor
+  is-half out out' h = h ∙ ap (λ (t : Set). over 0 (half (keyOf s party) (s .name) party t) out) is-dealt
+
+-- ---- deal
+
+module _ (s : Dealer) (d : Deal) (out0 out1 : List ℕ) (why : ℕ) (e : why ≡ whyNotDeal s d (length out0) (length out1)) where
+  pub deal-refused : (why ≡ 0 → ⊥)
+      → (record { why = why; dealer = s } ≡ deal s d (length out0) (length out1)) × ((out0 ≡ dealOut s d out0 out1 0) × (out1 ≡ dealOut s d out0 out1 1))
+  unfolding deal dealOut
+  deal-refused h = (alike e (refused _ _ e h), (refused _ _ e h, refused _ _ e h))
+
+  pub dealt : (new0 new1 : List ℕ) → why ≡ 0 → new0 ≡ over 0 (halfFor s d 0) out0 → new1 ≡ over 0 (halfFor s d 1) out1
+      → (record { why = why; dealer = record { name = s .name; key0 = s .key0; key1 = s .key1; last = d .number } } ≡ deal s d (length out0) (length out1))
+      × ((new0 ≡ dealOut s d out0 out1 0) × (new1 ≡ dealOut s d out0 out1 1))
+  unfolding deal dealOut
+  dealt new0 new1 h e0 e1 = (alike e (taken _ _ e h), (e0 ∙ taken _ _ e h, e1 ∙ taken _ _ e h))

@@ -1,0 +1,50 @@
+use native.Mathlib.Omega.{arith}
+use Rattle.dealer.proofs.Laws.{short, few, unknown-code, bad-length, no-room, stale, out-of-range, deal-taken}
+use borrow.Author.Needs.{needs}
+use Rattle.dealer.proofs.why_not_deal.Statement.{statement}
+use Rattle.dealer.proofs.why_not_deal.Tie as tie
+
+is-code-requires : tie.Need-is-code-requires
+is-code-requires c κs = search needs
+
+returns : tie.Need-returns
+returns c = λ s seed el es. unknown-code s _ el es _ _ _ (c .before .is-code .ensures) (c .if1 .taken)
+
+returns-2 : tie.Need-returns-2
+returns-2 c = λ s seed el es. bad-length s _ el es _ _ _ (c .before .before .is-code .ensures) (c .before .if1 .left) (c .if2 .taken)
+
+blocks-of-requires : tie.Need-blocks-of-requires
+blocks-of-requires c κs = omega (arith, short (c .before .before .before .args .long) (c .before .before .before .args .n) (c .if2 .left) .1)
+
+mul-size : tie.Need-mul-size
+mul-size c = omega (arith, few (c .before .before .before .before .args .long) (c .before .before .before .before .args .n) (c .before .if2 .left) _ (c .blocks-of .ensures))
+
+returns-3 : tie.Need-returns-3
+returns-3 c = λ s seed el es. no-room s _ el es _ _ _ (c .before .before .before .before .is-code .ensures) (c .before .before .before .if1 .left) (c .before .before .if2 .left) _ (c .before .blocks-of .ensures) (c .if3 .taken)
+
+returns-4 : tie.Need-returns-4
+returns-4 c = λ s seed el es. stale s _ el es _ _ _ (c .before .before .before .before .before .is-code .ensures) (c .before .before .before .before .if1 .left) (c .before .before .before .if2 .left) _ (c .before .before .blocks-of .ensures) (c .before .if3 .left) (c .if4 .taken)
+
+threshold-fits-requires : tie.Need-threshold-fits-requires
+threshold-fits-requires c κs = search needs
+
+returns-5 : tie.Need-returns-5
+returns-5 c = λ s seed el es. out-of-range s _ el es _ _ _ (c .before .before .before .before .before .before .before .is-code .ensures) (c .before .before .before .before .before .before .if1 .left) (c .before .before .before .before .before .if2 .left) _ (c .before .before .before .before .blocks-of .ensures) (c .before .before .before .if3 .left) (c .before .before .if4 .left) _ (c .before .threshold-fits .ensures) (c .if5 .taken)
+
+returns-6 : tie.Need-returns-6
+returns-6 c = λ s seed el es. deal-taken s _ el es _ _ _ (c .before .before .before .before .before .before .before .is-code .ensures) (c .before .before .before .before .before .before .if1 .left) (c .before .before .before .before .before .if2 .left) _ (c .before .before .before .before .blocks-of .ensures) (c .before .before .before .if3 .left) (c .before .before .if4 .left) _ (c .before .threshold-fits .ensures) (c .if5 .left)
+
+pub why-not-deal-spec : {M : Type 1} → statement M
+why-not-deal-spec =
+    tie.close
+    (tie.spec
+    is-code-requires
+    returns
+    returns-2
+    blocks-of-requires
+    mul-size
+    returns-3
+    returns-4
+    threshold-fits-requires
+    returns-5
+    returns-6)
