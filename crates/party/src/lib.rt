@@ -7,8 +7,9 @@ ghost use Prim.Native.Nat.{_-_, _≤_};
 ghost use lib.Dec.{eqb, leb};
 ghost use lib.ListN.{length};
 ghost use Rattle.measure.specs.Measure.{allInRange};
-ghost use Rattle.messages.specs.Messages.{unless, isKey, isName, expected, nameFits};
-ghost use Rattle.content.specs.Content.{lengthFits};
+ghost use Rattle.share.specs.Share.{plus};
+ghost use Rattle.messages.specs.Messages.{unless, isName, expected};
+ghost use Rattle.content.specs.Content.{fill, lengthFits};
 ghost use Rattle.party.specs.Party.{idle as idleOf, whyNotParty, startParty, stateFits, load as loadOf, mask as maskOf, maskOut, take as takeOf, boxShare, finish as finishOf, drop as dropOf};
 use content::Set;
 use messages::Label;
@@ -138,4 +139,106 @@ fn box_share(
         return share::share_of(party, n, c, &masked, other, &x, &y);
     }
     share::share_of(party, n, c, other, &masked, &x, &y)
+}
+
+fn key_from(key: &[u8]) -> [u8; 32]
+    requires { ⌜ length (now key) ≡ 32 ⌝ }
+    ensures { λ r. ⌜ r ≡ now (key .entry) ⌝ }
+{
+    let mut out = [0u8; 32];
+    words::copy(&mut out, 0, key);
+    out
+}
+
+// An array of 512 words: v and the mask, added over the first n places.
+fn masked_array(n: usize, v: &[u32], mask: [u32; 512]) -> [u32; 512]
+    requires { ⌜ (n ≤ 512) × (n ≤ length (now v)) ⌝ }
+    ensures { λ r. ⌜ r ≡ fill (plus n (now (v .entry)) mask) ⌝ }
+{
+    let mut out = [0u32; 512];
+    share::add_vectors(n, v, &mask, &mut out);
+    out
+}
+
+impl Party {
+    // A box's start. A refused one has an all-zero state beside the number.
+    pub fn start(name: &[u8], party: u32, key: &[u8], floor: u64) -> PartyAnswer
+        ensures { λ r. ⌜ r ≡ startParty (now (name .entry)) party (now (key .entry)) floor ⌝ }
+    {
+        let why = why_not_start(name, party, key);
+        if why != 0 {
+            return PartyAnswer {
+                why,
+                party: idle([0; 16], 0, [0; 32], 0),
+                word: 0,
+            };
+        }
+        PartyAnswer {
+            why,
+            party: idle(messages::padded(name), party, key_from(key), floor),
+            word: 0,
+        }
+    }
+
+    // Call 1.
+    pub fn load(self, h: &[u8]) -> PartyAnswer
+        ensures { λ r. ⌜ r ≡ loadOf self (now (h .entry)) ⌝ }
+    {
+        let turn = (self.phase == 0)
+            & state_fits(self.party, self.phase, self.set.code, self.set.n);
+        if !turn {
+            return PartyAnswer {
+                why: 3,
+                party: self,
+                word: 0,
+            };
+        }
+        let key = self.key;
+        let examined = half::examine(&key, self.name, self.party, self.last, h);
+        if examined.why != 0 {
+            return PartyAnswer {
+                why: examined.why,
+                party: self,
+                word: 0,
+            };
+        }
+        let mut next = idle(self.name, self.party, key, examined.set.number);
+        next.phase = 1;
+        next.set = examined.set;
+        PartyAnswer {
+            why: 0,
+            party: next,
+            word: 0,
+        }
+    }
+
+    // Call 2. The masked vector goes to the start of out.
+    pub fn mask(self, v: &[u32], out: &mut [u32]) -> PartyAnswer
+        ensures { λ r. ⌜ r ≡ maskOf self (now (v .entry)) (length (now (out .entry))) ⌝ }
+        ensures { λ _. ⌜ now (out .exit) ≡ maskOut self (now (v .entry)) (now (out .entry)) ⌝ }
+    {
+        let n = self.set.n;
+        let code = self.set.code;
+        let turn = (self.phase == 1) & state_fits(self.party, self.phase, code, n);
+        let why = why_not_mask(turn, n, code, v, out.len());
+        if why != 0 {
+            return PartyAnswer {
+                why,
+                party: self,
+                word: 0,
+            };
+        }
+        let mask = self.set.mask;
+        share::add_vectors(n, v, &mask, out);
+        let mut next = self;
+        next.phase = 2;
+        next.masked = masked_array(n, v, mask);
+        next.own = measure::own(code, v);
+        next.word = 0;
+        PartyAnswer {
+            why,
+            party: next,
+            word: 0,
+        }
+    }
 }
