@@ -1,14 +1,10 @@
-// What a half holds (01, "The sealed half"): a set as a box carries it once it is opened, its plain
-// bytes, and the set read back from them.
+// What a half holds (01, "The sealed half"): a set as a box carries it once it is opened, whether
+// plain bytes fit, and the set read back from them. The crate `layout` writes them.
 ghost use mathlib.Core.Path.{_≡_};
-ghost use mathlib.Core.List.{[], _∷_, _++_, map};
-ghost use Prim.Native.Nat.{_+_, _-_, _*_, _<_, _≤_};
-ghost use lib.ListN.{length, getD, take, replicate};
-ghost use Rattle.words.specs.List.{over};
-ghost use Rattle.words.specs.Bytes.{le32, bytesOf, wordsAt};
-ghost use Rattle.lanes.specs.Lanes.{flat};
-ghost use Rattle.poly1305.specs.Poly1305.{bytes};
-ghost use Rattle.content.specs.Content.{correctionBytes, fields, size, blocks, fill, lengthIn, correctionIn, correctionsIn, setIn, noCorrection, noSet, flagsFit, zeros, contentFits, FlagBytes};
+ghost use Prim.Native.Nat.{_*_, _<_, _≤_};
+ghost use lib.ListN.{length, getD};
+ghost use Rattle.words.specs.Bytes.{wordsAt};
+ghost use Rattle.content.specs.Content.{size, blocks, fill, lengthIn, correctionIn, correctionsIn, setIn, noCorrection, noSet, flagsFit, zeros, contentFits};
 use node::Correction;
 use node::Key;
 
@@ -67,111 +63,6 @@ pub fn blocks_of(n: usize) -> usize
     ensures { λ r. ⌜ r ≡ blocks n ⌝ }
 {
     (1248 + 12 * n + 483) / 484
-}
-
-// ---- the layout
-
-// Name, party, measure code and L.
-fn head(name: [u8; 16], party: u32, code: u32, n: usize) -> [u8; 20]
-    requires { ⌜ (party < 256) × (code < 256) ⌝ }
-    ensures { λ r. ⌜ r ≡ name ++ (party ∷ code ∷ bytes 2 n) ⌝ }
-{
-    let mut h = [0u8; 20];
-    words::copy(&mut h, 0, &name);
-    h[16] = party as u8;
-    h[17] = code as u8;
-    h[18] = (n % 256) as u8;
-    h[19] = (n / 256 % 256) as u8;
-    h
-}
-
-// A correction: seed, word, flag byte.
-fn correction_bytes(seed: [u32; 8], word: u32, flags: u32) -> [u8; 37]
-    requires { ⌜ flags < 256 ⌝ }
-    ensures { λ r. ⌜ r ≡ bytesOf seed ++ (le32 word ++ (flags ∷ [])) ⌝ }
-{
-    let mut b = [0u8; 37];
-    words::store_all(&mut b, 0, &seed);
-    words::store(&mut b, 32, word);
-    b[36] = flags as u8;
-    b
-}
-
-// The 32 corrections over the bytes from `at` on.
-fn store_corrections(out: &mut [u8], at: usize, cs: [Correction; 32])
-    requires { ⌜ at + 32 * 37 ≤ length (now out) ⌝ }
-    requires { ⌜ FlagBytes cs ⌝ }
-    ensures { λ _. ⌜ now (out .exit) ≡ over at (flat (map correctionBytes cs)) (now (out .entry)) ⌝ }
-    ensures { λ _. ⌜ length (flat (map correctionBytes cs)) ≡ 32 * 37 ⌝ }
-{
-    let mut i: usize = 0;
-    while i < 32 {
-        let c = cs[i];
-        let seed = c.seed;
-        let b = correction_bytes(seed, c.word, c.flags);
-        words::copy(out, at + 37 * i, &b);
-        i += 1;
-    }
-}
-
-// What follows the three vectors: c, r, the key seed, the corrections and the final word.
-fn tail(c: u32, r: u32, seed: [u32; 8], cs: [Correction; 32], last: u32) -> [u8; 1228]
-    requires { ⌜ FlagBytes cs ⌝ }
-    ensures { λ t. ⌜ t ≡ le32 c ++ (le32 r ++ (bytesOf seed ++ (flat (map correctionBytes cs) ++ le32 last))) ⌝ }
-{
-    let mut t = [0u8; 1228];
-    words::store(&mut t, 0, c);
-    words::store(&mut t, 4, r);
-    words::store_all(&mut t, 8, &seed);
-    store_corrections(&mut t, 40, cs);
-    words::store(&mut t, 1224, last);
-    t
-}
-
-// The first n words of w over the bytes from `at` on.
-fn store_first(out: &mut [u8], at: usize, n: usize, w: [u32; 512])
-    requires { ⌜ (n ≤ 512) × (at + 4 * n ≤ length (now out)) ⌝ }
-    ensures { λ _. ⌜ now (out .exit) ≡ over at (bytesOf (take n w)) (now (out .entry)) ⌝ }
-{
-    words::store_all(out, at, &w[..n]);
-}
-
-// A head, the first n words of three vectors and a tail, and zeros up to 16 blocks.
-fn joined(
-    h: [u8; 20],
-    n: usize,
-    mask: [u32; 512],
-    x: [u32; 512],
-    y: [u32; 512],
-    t: [u8; 1228],
-) -> [u8; 7744]
-    requires { ⌜ n ≤ 512 ⌝ }
-    ensures { λ r. ⌜ r ≡ h ++ (bytesOf (take n mask) ++ (bytesOf (take n x) ++ (bytesOf (take n y) ++ t))) ++ replicate (7744 - size n) 0 ⌝ }
-{
-    let mut out = [0u8; 7744];
-    words::copy(&mut out, 0, &h);
-    store_first(&mut out, 20, n, mask);
-    store_first(&mut out, 20 + 4 * n, n, x);
-    store_first(&mut out, 20 + 8 * n, n, y);
-    words::copy(&mut out, 20 + 12 * n, &t);
-    out
-}
-
-// The plain content of a set for a party, and zeros up to 16 blocks.
-pub fn lay_out(name: [u8; 16], party: u32, s: Set) -> [u8; 7744]
-    requires { ⌜ (party < 256) × (s .code < 256) × (s .n ≤ 512) ⌝ }
-    requires { ⌜ FlagBytes (s .key .corrections) ⌝ }
-    ensures { λ r. ⌜ r ≡ flat (fields name party s) ++ replicate (7744 - size (s .n)) 0 ⌝ }
-{
-    let mask = s.mask;
-    let x = s.x;
-    let y = s.y;
-    let seed = s.seed;
-    let key = s.key;
-    let corrections = key.corrections;
-    let h = head(name, party, s.code, s.n);
-    let t = tail(s.c, s.r, seed, corrections, key.last);
-    joined(h, s.n, mask, x, y, t)
 }
 
 // ---- read back

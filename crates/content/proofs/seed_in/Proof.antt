@@ -1,6 +1,6 @@
 use mathlib.Core.Path.{ap, _∙_}
+use Rattle.words.specs.List.{over-all}
 use Rattle.words.specs.Bytes.{wordsAt}
-use Rattle.content.proofs.Stored.{whole}
 use borrow.Author.Needs.{needs}
 use Rattle.content.proofs.seed_in.Statement.{statement}
 use Rattle.content.proofs.seed_in.Tie as tie
@@ -15,7 +15,7 @@ key-words-requires : tie.Need-key-words-requires
 key-words-requires c κs = search needs
 
 returns : tie.Need-returns
-returns c = c .key-words .ensures ∙ ap (wordsAt 8) (whole _ _ _ 32 (c .before .before .before .before .before .before .pre) (search needs) (c .before .before .before .copy .ensures))
+returns c = c .key-words .ensures ∙ ap (wordsAt 8) (c .before .before .before .copy .ensures ∙ over-all _ _ (c .before .before .before .before .before .before .pre))
 
 pub seed-in-spec : {M : Type 1} → statement M
 seed-in-spec = tie.close (tie.spec slice-aggregate-copy copy-requires key-words-requires returns)

@@ -5,11 +5,11 @@ use native.Mathlib.Omega.{arith}
 use lib.ListN.{length}
 use Rattle.words.specs.List.{over}
 use Rattle.lanes.specs.Lanes.{flat}
 use Rattle.content.specs.Content.{correctionBytes}
-use Rattle.content.proofs.Stored.{flag-at, front, front-next, front-all}
+use Rattle.layout.proofs.Stored.{flag-at, front, front-next, front-all}
 use borrow.Author.Needs.{needs}
-use Rattle.content.proofs.store_corrections.Statement.{statement}
-use Rattle.content.proofs.store_corrections.Tie as tie
+use Rattle.layout.proofs.store_corrections.Statement.{statement}
+use Rattle.layout.proofs.store_corrections.Tie as tie
 
 abbrev Inv-loop : tie.InvT-loop
 Inv-loop out₀ at cs i₀ out i = (i ≤ 32) × (length (front cs i) ≡ 37 * i) × (out ≡ over at (front cs i) out₀) × (length out ≡ length out₀)

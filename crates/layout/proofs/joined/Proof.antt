@@ -1,8 +1,8 @@
 use mathlib.Core.Path.{refl}
-use Rattle.content.proofs.Stored.{joined-law}
+use Rattle.layout.proofs.Stored.{joined-law}
 use borrow.Author.Needs.{needs}
-use Rattle.content.proofs.joined.Statement.{statement}
-use Rattle.content.proofs.joined.Tie as tie
+use Rattle.layout.proofs.joined.Statement.{statement}
+use Rattle.layout.proofs.joined.Tie as tie
 
 slice-aggregate-copy : tie.Need-slice-aggregate-copy
 slice-aggregate-copy c = search needs

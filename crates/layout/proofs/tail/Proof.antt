@@ -1,9 +1,9 @@
 use Prim.Native.Nat.{ℕ}
 use lib.ListN.{length-replicate}
-use Rattle.content.proofs.Stored.{tail-law}
+use Rattle.layout.proofs.Stored.{tail-law}
 use borrow.Author.Needs.{needs}
-use Rattle.content.proofs.tail.Statement.{statement}
-use Rattle.content.proofs.tail.Tie as tie
+use Rattle.layout.proofs.tail.Statement.{statement}
+use Rattle.layout.proofs.tail.Tie as tie
 
 slice-aggregate-store : tie.Need-slice-aggregate-store
 slice-aggregate-store c = search needs

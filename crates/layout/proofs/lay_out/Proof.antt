@@ -1,7 +1,7 @@
-use Rattle.content.proofs.Stored.{fields-law}
+use Rattle.layout.proofs.Stored.{fields-law}
 use borrow.Author.Needs.{needs}
-use Rattle.content.proofs.lay_out.Statement.{statement}
-use Rattle.content.proofs.lay_out.Tie as tie
+use Rattle.layout.proofs.lay_out.Statement.{statement}
+use Rattle.layout.proofs.lay_out.Tie as tie
 
 head-requires : tie.Need-head-requires
 head-requires c κs = search needs

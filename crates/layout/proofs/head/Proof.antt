@@ -1,10 +1,10 @@
 use mathlib.Core.Path.{refl}
 use Rattle.words.specs.List.{over}
 use Rattle.poly1305.specs.Poly1305.{bytes}
-use Rattle.content.proofs.Stored.{head-law}
+use Rattle.layout.proofs.Stored.{head-law}
 use borrow.Author.Needs.{needs}
-use Rattle.content.proofs.head.Statement.{statement}
-use Rattle.content.proofs.head.Tie as tie
+use Rattle.layout.proofs.head.Statement.{statement}
+use Rattle.layout.proofs.head.Tie as tie
 
 slice-aggregate-copy : tie.Need-slice-aggregate-copy
 slice-aggregate-copy c = search needs

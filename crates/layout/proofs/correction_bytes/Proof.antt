@@ -1,9 +1,9 @@
 use mathlib.Core.Path.{refl}
 use Rattle.words.specs.List.{over}
-use Rattle.content.proofs.Stored.{correction-law}
+use Rattle.layout.proofs.Stored.{correction-law}
 use borrow.Author.Needs.{needs}
-use Rattle.content.proofs.correction_bytes.Statement.{statement}
-use Rattle.content.proofs.correction_bytes.Tie as tie
+use Rattle.layout.proofs.correction_bytes.Statement.{statement}
+use Rattle.layout.proofs.correction_bytes.Tie as tie
 
 slice-aggregate-store-all : tie.Need-slice-aggregate-store-all
 slice-aggregate-store-all c = search needs

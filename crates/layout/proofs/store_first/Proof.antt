@@ -2,8 +2,8 @@ use mathlib.Core.Path.{sym}
 use native.Mathlib.Omega.{arith}
 use lib.Seq.{length-take-le}
 use borrow.Author.Needs.{needs}
-use Rattle.content.proofs.store_first.Statement.{statement}
-use Rattle.content.proofs.store_first.Tie as tie
+use Rattle.layout.proofs.store_first.Statement.{statement}
+use Rattle.layout.proofs.store_first.Tie as tie
 
 array-share-prefix-w : tie.Need-array-share-prefix-w
 array-share-prefix-w c = search needs
