@@ -65,7 +65,7 @@ pub fn write_half(key: &[u8; 32], name: [u8; 16], party: u32, s: Set, out: &mut 
 {
     let number = s.number;
     let count = content::blocks_of(s.n);
-    let p = content::lay_out(name, party, s);
+    let p = layout::lay_out(name, party, s);
     write_blocks(key, number, count, &p, out);
 }
 

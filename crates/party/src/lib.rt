@@ -6,6 +6,7 @@ ghost use mathlib.Core.Bool.{Bool, not, _&&_};
 ghost use Prim.Native.Nat.{_-_, _≤_};
 ghost use lib.Dec.{eqb, leb};
 ghost use lib.ListN.{length};
+ghost use Rattle.words.specs.List.{over};
 ghost use Rattle.measure.specs.Measure.{allInRange};
 ghost use Rattle.share.specs.Share.{plus};
 ghost use Rattle.messages.specs.Messages.{unless, isName, expected};
@@ -109,10 +110,17 @@ fn why_not_mask(turn: bool, n: usize, code: u32, v: &[u32], room: usize) -> u32
     0
 }
 
-// The refusals of calls 3 and 4 after those of lengths: 6 and 7.
-fn why_not_message(fits: bool, number: u64, current: u64) -> u32
-    ensures { λ r. ⌜ r ≡ unless fits 6 (unless (eqb number current) 7 0) ⌝ }
+// The refusals of calls 3 and 4, from what decides them: whether the state and the turn, the lengths
+// and the label fit, the message's set number and the open one.
+fn why_not_message(turn: bool, lengths: bool, fits: bool, number: u64, current: u64) -> u32
+    ensures { λ r. ⌜ r ≡ unless turn 3 (unless lengths 4 (unless fits 6 (unless (eqb number current) 7 0))) ⌝ }
 {
+    if !turn {
+        return 3;
+    }
+    if !lengths {
+        return 4;
+    }
     if !fits {
         return 6;
     }
@@ -120,6 +128,13 @@ fn why_not_message(fits: bool, number: u64, current: u64) -> u32
         return 7;
     }
     0
+}
+
+// The other party.
+fn other(party: u32) -> u32
+    ensures { λ r. ⌜ r ≡ 1 - party ⌝ }
+{
+    if party == 0 { 1 } else { 0 }
 }
 
 // A box's share of the product: MX is party 0's masked vector, MY party 1's.
@@ -160,6 +175,14 @@ fn masked_array(n: usize, v: &[u32], mask: [u32; 512]) -> [u32; 512]
     out
 }
 
+// The same from the start of out.
+fn write_masked(n: usize, v: &[u32], mask: [u32; 512], out: &mut [u32])
+    requires { ⌜ (n ≤ 512) × (n ≤ length (now v)) × (n ≤ length (now out)) ⌝ }
+    ensures { λ _. ⌜ now (out .exit) ≡ over 0 (plus n (now (v .entry)) mask) (now (out .entry)) ⌝ }
+{
+    share::add_vectors(n, v, &mask, out);
+}
+
 impl Party {
     // A box's start. A refused one has an all-zero state beside the number.
     pub fn start(name: &[u8], party: u32, key: &[u8], floor: u64) -> PartyAnswer
@@ -193,8 +216,9 @@ impl Party {
                 word: 0,
             };
         }
+        let name = self.name;
         let key = self.key;
-        let examined = half::examine(&key, self.name, self.party, self.last, h);
+        let examined = half::examine(&key, name, self.party, self.last, h);
         if examined.why != 0 {
             return PartyAnswer {
                 why: examined.why,
@@ -202,9 +226,10 @@ impl Party {
                 word: 0,
             };
         }
-        let mut next = idle(self.name, self.party, key, examined.set.number);
+        let set = examined.set;
+        let mut next = idle(name, self.party, key, set.number);
         next.phase = 1;
-        next.set = examined.set;
+        next.set = set;
         PartyAnswer {
             why: 0,
             party: next,
@@ -229,15 +254,98 @@ impl Party {
             };
         }
         let mask = self.set.mask;
-        share::add_vectors(n, v, &mask, out);
+        write_masked(n, v, mask, out);
+        let kept = masked_array(n, v, mask);
+        let own = measure::own(code, v);
         let mut next = self;
         next.phase = 2;
-        next.masked = masked_array(n, v, mask);
-        next.own = measure::own(code, v);
+        next.masked = kept;
+        next.own = own;
         next.word = 0;
         PartyAnswer {
             why,
             party: next,
+            word: 0,
+        }
+    }
+
+    // Call 3: takes the other box's masked vector, and answers this box's word.
+    pub fn take(self, label: Label, name: &[u8], v: &[u32]) -> PartyAnswer
+        ensures { λ r. ⌜ r ≡ takeOf self label (now (name .entry)) (now (v .entry)) ⌝ }
+    {
+        let n = self.set.n;
+        let turn = (self.phase == 2) & state_fits(self.party, self.phase, self.set.code, n);
+        let lengths = (name.len() == 16) & (v.len() == n);
+        let door = self.name;
+        let fits = messages::expected(0, door, other(self.party), label, name);
+        let why = why_not_message(turn, lengths, fits, label.number, self.set.number);
+        if why != 0 {
+            return PartyAnswer {
+                why,
+                party: self,
+                word: 0,
+            };
+        }
+        let masked = self.masked;
+        let x = self.set.x;
+        let y = self.set.y;
+        let share = box_share(self.party, n, self.set.c, masked, v, x, y);
+        let word = share::word(self.set.code, share, self.own, self.set.r);
+        let mut next = self;
+        next.phase = 3;
+        next.word = word;
+        PartyAnswer {
+            why,
+            party: next,
+            word,
+        }
+    }
+
+    // Call 4: takes the other box's word, and answers this box's share of the yes or no.
+    pub fn finish(self, label: Label, name: &[u8], word: u32) -> PartyAnswer
+        ensures { λ r. ⌜ r ≡ finishOf self label (now (name .entry)) word ⌝ }
+    {
+        let turn = (self.phase == 3)
+            & state_fits(self.party, self.phase, self.set.code, self.set.n);
+        let door = self.name;
+        let fits = messages::expected(1, door, other(self.party), label, name);
+        let why = why_not_message(turn, name.len() == 16, fits, label.number, self.set.number);
+        if why != 0 {
+            return PartyAnswer {
+                why,
+                party: self,
+                word: 0,
+            };
+        }
+        let comparison = self.set.key;
+        let seed = self.set.seed;
+        let answer = share::answer(self.party, comparison, seed, words::add(self.word, word));
+        let key = self.key;
+        PartyAnswer {
+            why,
+            party: idle(door, self.party, key, self.last),
+            word: answer,
+        }
+    }
+
+    // Ends the open set.
+    pub fn drop(self) -> PartyAnswer
+        ensures { λ r. ⌜ r ≡ dropOf self ⌝ }
+    {
+        let turn = (self.phase != 0)
+            & state_fits(self.party, self.phase, self.set.code, self.set.n);
+        if !turn {
+            return PartyAnswer {
+                why: 3,
+                party: self,
+                word: 0,
+            };
+        }
+        let name = self.name;
+        let key = self.key;
+        PartyAnswer {
+            why: 0,
+            party: idle(name, self.party, key, self.last),
             word: 0,
         }
     }

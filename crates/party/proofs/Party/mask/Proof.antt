@@ -1,4 +1,42 @@
+use native.Mathlib.Omega.{arith}
+use Rattle.party.proofs.Calls.{mask-fits, mask-refused, out-refused, mask-taken, out-taken}
+use borrow.Author.Needs.{needs}
 use Rattle.party.proofs.Party.mask.Statement.{statement}
+use Rattle.party.proofs.Party.mask.Tie as tie
+
+state-fits-requires : tie.Need-state-fits-requires
+state-fits-requires c κs = search needs
+
+why-not-mask-requires : tie.Need-why-not-mask-requires
+why-not-mask-requires c κs = search needs
+
+returns : tie.Need-returns
+returns c = (mask-refused (c .before .before .before .before .before .before .args .self) (c .before .before .state-fits .result) (c .before .before .state-fits .ensures) (c .before .before .before .before .before .before .args .v .now) (c .before .before .before .before .before .before .args .out .now) (c .before .why-not-mask .result) (c .before .why-not-mask .ensures) (c .if1 .taken), out-refused (c .before .before .before .before .before .before .args .self) (c .before .before .state-fits .result) (c .before .before .state-fits .ensures) (c .before .before .before .before .before .before .args .v .now) (c .before .before .before .before .before .before .args .out .now) (c .before .why-not-mask .result) (c .before .why-not-mask .ensures) (c .if1 .taken))
+
+write-masked-requires : tie.Need-write-masked-requires
+write-masked-requires c κs = let f = mask-fits (c .before .before .before .before .before .before .before .before .args .self) (c .before .before .before .before .state-fits .result) (c .before .before .before .before .state-fits .ensures) (c .before .before .before .before .before .before .before .before .args .v .now) (c .before .before .before .before .before .before .before .before .args .out .now) (c .before .before .before .why-not-mask .result) (c .before .before .before .why-not-mask .ensures) (c .before .before .if1 .left) in (f .0, omega (arith, f .1), f .2)
+
+masked-array-requires : tie.Need-masked-array-requires
+masked-array-requires c κs = let f = mask-fits (c .before .before .before .before .before .before .before .before .before .before .before .args .self) (c .before .before .before .before .before .before .before .state-fits .result) (c .before .before .before .before .before .before .before .state-fits .ensures) (c .before .before .before .before .before .before .before .before .before .before .before .args .v .now) (c .before .before .before .before .before .before .before .before .before .before .before .args .out .now) (c .before .before .before .before .before .before .why-not-mask .result) (c .before .before .before .before .before .before .why-not-mask .ensures) (c .before .before .before .before .before .if1 .left) in (f .0, omega (arith, f .1))
+
+own-requires : tie.Need-own-requires
+own-requires c κs = search needs
+
+same-length : tie.Need-same-length
+same-length c = search needs
+
+returns-2 : tie.Need-returns-2
+returns-2 c = (mask-taken (c .before .before .before .before .before .before .before .before .before .before .before .before .before .args .self) (c .before .before .before .before .before .before .before .before .before .state-fits .result) (c .before .before .before .before .before .before .before .before .before .state-fits .ensures) (c .before .before .before .before .before .before .before .before .before .before .before .before .before .args .v .now) (c .before .before .before .before .before .before .before .before .before .before .before .before .before .args .out .now) (c .before .before .before .before .before .before .before .before .why-not-mask .result) (c .before .before .before .before .before .before .before .before .why-not-mask .ensures) _ _ (c .before .before .before .before .before .before .before .if1 .left) (c .before .masked-array .ensures) (c .own .ensures), out-taken (c .before .before .before .before .before .before .before .before .before .before .before .before .before .args .self) (c .before .before .before .before .before .before .before .before .before .state-fits .result) (c .before .before .before .before .before .before .before .before .before .state-fits .ensures) (c .before .before .before .before .before .before .before .before .before .before .before .before .before .args .v .now) (c .before .before .before .before .before .before .before .before .before .before .before .before .before .args .out .now) (c .before .before .before .before .before .before .before .before .why-not-mask .result) (c .before .before .before .before .before .before .before .before .why-not-mask .ensures) _ (c .before .before .before .before .before .before .before .if1 .left) (c .before .before .before .before .write-masked .ensures))
 
 pub mask-spec : {M : Type 1} → statement M
-mask-spec 𝓤 H 𝓜 𝓖 𝓡 = ?
+mask-spec =
+    tie.close
+    (tie.spec
+    state-fits-requires
+    why-not-mask-requires
+    returns
+    write-masked-requires
+    masked-array-requires
+    own-requires
+    same-length
+    returns-2)

@@ -1,40 +1,28 @@
+use Rattle.party.proofs.Calls.{start-refused, start-fits, started}
 use borrow.Author.Needs.{needs}
 use Rattle.party.proofs.Party.start.Statement.{statement}
 use Rattle.party.proofs.Party.start.Tie as tie
-use Rattle.party.proofs.Party.start.Reads as reads
-use Rattle.party.proofs.Party.start.Lts as lts
-use Rattle.messages.proofs.padded.Reads as padded-reads
-use Rattle.party.proofs.idle.Reads as idle-reads
-use Rattle.party.proofs.key_from.Reads as key-from-reads
-use Rattle.party.proofs.why_not_start.Reads as why-not-start-reads
 
--- src/lib.rt:168:13
 why-not-start-requires : tie.Need-why-not-start-requires
 why-not-start-requires c κs = search needs
 
--- src/lib.rt:172:24
 idle-requires : tie.Need-idle-requires
 idle-requires c κs = search needs
 
--- src/lib.rt:170:13
 returns : tie.Need-returns
-returns c = ?
+returns c = start-refused (c .before .before .before .before .before .args .name .now) (c .before .before .before .before .before .args .party) (c .before .before .before .before .before .args .key .now) (c .before .before .before .before .before .args .floor) (c .before .before .why-not-start .result) (c .before .before .why-not-start .ensures) _ (c .before .if1 .taken) (c .idle .ensures)
 
--- src/lib.rt:178:25
 padded-requires : tie.Need-padded-requires
-padded-requires c κs = ?
+padded-requires c κs = start-fits (c .before .before .before .before .args .name .now) (c .before .before .before .before .args .party) (c .before .before .before .before .args .key .now) (c .before .before .before .before .args .floor) (c .before .why-not-start .result) (c .before .why-not-start .ensures) (c .if1 .left) .0
 
--- src/lib.rt:178:56
 key-from-requires : tie.Need-key-from-requires
-key-from-requires c κs = ?
+key-from-requires c κs = start-fits (c .before .before .before .before .before .args .name .now) (c .before .before .before .before .before .args .party) (c .before .before .before .before .before .args .key .now) (c .before .before .before .before .before .args .floor) (c .before .before .why-not-start .result) (c .before .before .why-not-start .ensures) (c .before .if1 .left) .1
 
--- src/lib.rt:178:20
 idle-requires-2 : tie.Need-idle-requires-2
 idle-requires-2 c κs = search needs
 
--- src/lib.rt:165:5
 returns-2 : tie.Need-returns-2
-returns-2 c = ?
+returns-2 c = started (c .before .before .before .before .before .before .before .args .name .now) (c .before .before .before .before .before .before .before .args .party) (c .before .before .before .before .before .before .before .args .key .now) (c .before .before .before .before .before .before .before .args .floor) (c .before .before .before .before .why-not-start .result) (c .before .before .before .before .why-not-start .ensures) _ _ _ (c .before .before .before .if1 .left) (c .before .before .padded .ensures) (c .before .key-from .ensures) (c .idle2 .ensures)
 
 pub start-spec : {M : Type 1} → statement M
 start-spec =

@@ -1,0 +1,19 @@
+use Rattle.party.proofs.Calls.{drop-refused, drop-taken}
+use borrow.Author.Needs.{needs}
+use Rattle.party.proofs.Party.drop.Statement.{statement}
+use Rattle.party.proofs.Party.drop.Tie as tie
+
+state-fits-requires : tie.Need-state-fits-requires
+state-fits-requires c κs = search needs
+
+returns : tie.Need-returns
+returns c = drop-refused (c .before .before .before .args .self) (c .before .state-fits .result) (c .before .state-fits .ensures) (c .if1 .taken)
+
+idle-requires : tie.Need-idle-requires
+idle-requires c κs = search needs
+
+returns-2 : tie.Need-returns-2
+returns-2 c = drop-taken (c .before .before .before .before .before .before .args .self) (c .before .before .before .before .state-fits .result) (c .before .before .before .before .state-fits .ensures) _ (c .before .before .before .if1 .left) (c .idle .ensures)
+
+pub drop-spec : {M : Type 1} → statement M
+drop-spec = tie.close (tie.spec state-fits-requires returns idle-requires returns-2)
