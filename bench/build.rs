@@ -9,11 +9,7 @@ fn main() {
     let folder = Path::new(&bench).join("../target/staticlib");
     println!("cargo:rustc-link-search=native={}", folder.display());
     // Cargo does not look into archives: without this line a new one would not be linked.
-    let mut names = vec!["libcipher_c.a", "libcheck_c.a"];
-    if env::var_os("CARGO_FEATURE_DOOR").is_some() {
-        names.push("libdoor_c.a");
-    }
-    for name in names {
+    for name in ["libcipher_c.a", "libcheck_c.a", "libdoor_c.a"] {
         let archive = folder.join(name);
         println!("cargo:rerun-if-changed={}", archive.display());
     }

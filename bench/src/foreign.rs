@@ -171,7 +171,6 @@ pub mod ours {
 }
 
 /// The verified calls of dealer and box: crates/door_c.
-#[cfg(feature = "door")]
 pub mod door {
     use super::ours::ComparisonKey;
     use super::*;
@@ -268,20 +267,20 @@ pub mod door {
         fn door_start_dealer(
             name: *const u8,
             name_len: usize,
-            floor: u64,
             key0: *const u8,
             key0_len: usize,
             key1: *const u8,
             key1_len: usize,
+            floor: u64,
         ) -> DealerAnswer;
         fn door_deal(
             dealer: Dealer,
-            code: u32,
-            length: u32,
-            threshold: u32,
             number: u64,
             seed: *const u8,
             seed_len: usize,
+            code: u32,
+            length: usize,
+            threshold: u32,
             out0: *mut u8,
             out0_len: usize,
             out1: *mut u8,
@@ -301,25 +300,25 @@ pub mod door {
     pub fn start_dealer(name: &[u8], floor: u64, keys: &[Key; 2]) -> Dealer {
         let (name, name_len) = (name.as_ptr(), name.len());
         let [key0, key1] = keys.each_ref().map(|key| key.as_ptr());
-        let answer = unsafe { door_start_dealer(name, name_len, floor, key0, 32, key1, 32) };
+        let answer = unsafe { door_start_dealer(name, name_len, key0, 32, key1, 32, floor) };
         assert_eq!(answer.why, 0, "door_start_dealer");
         answer.dealer
     }
 
     /// Writes both halves; the next state is not wanted.
     pub fn deal(dealer: &Dealer, order: &Order, out: [&mut [u8]; 2]) {
-        let (code, length) = (order.code as u32, order.length as u32);
+        let (code, length) = (order.code as u32, order.length as usize);
         let (seed, seed_len) = (order.seed.as_ptr(), order.seed.len());
         let [(out0, out0_len), (out1, out1_len)] = out.map(|out| (out.as_mut_ptr(), out.len()));
         let answer = unsafe {
             door_deal(
                 *dealer,
-                code,
-                length,
-                order.threshold,
                 order.number,
                 seed,
                 seed_len,
+                code,
+                length,
+                order.threshold,
                 out0,
                 out0_len,
                 out1,

@@ -1,9 +1,8 @@
-//! Times the verified cipher and check beside libsodium, OpenSSL and the second implementation.
+//! Times the verified cipher, check and calls beside libsodium, OpenSSL and the second implementation.
 
 #![deny(unsafe_code)]
 
 mod check;
-#[cfg(feature = "door")]
 mod door;
 mod foreign;
 mod measure;
@@ -38,10 +37,8 @@ fn main() -> ExitCode {
 fn run() -> Result<report::Report, String> {
     foreign::sodium::init();
     let input = rows::Input::new();
-    #[cfg(feature = "door")]
     let doors = door::doors();
     let mut rows = rows::rows(&input);
-    #[cfg(feature = "door")]
     rows.extend(door::rows(&doors));
     for row in &mut rows {
         row.check()?;

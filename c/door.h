@@ -1,0 +1,316 @@
+/*
+ * The calls of the two-box door check, for a host in C on x86-64 Linux. `rt staticlib door_c` and
+ * `rt staticlib lock_c` prove them and write target/staticlib/libdoor_c.a and liblock_c.a. These
+ * need memcpy and memset and nothing else; they allocate nothing and keep nothing between calls, so
+ * calls on different states may run at the same time. A call was seen to take up to 60 KB of stack,
+ * the states by value with it: have DOOR_STACK bytes left.
+ *
+ * States. A dealer and a box are plain values. A call takes the state by value and its answer holds
+ * the next one: keep that, and hand it to the next call on the same dealer or box.
+ *
+ *     struct door_party_answer a = door_load(box, half, size);
+ *     box = a.party;
+ *
+ * Hand in each state once. A box of which an older copy is handed in again would put a second vector
+ * under the same mask, and would take a spent set number. A host that is switched off must keep at
+ * least `last`, to hand it in as the floor of the next start. States hold keys and masks: they are as
+ * secret as these. Compare states field by field, since padding between fields may have any bytes.
+ *
+ * Refusals. `why` is 0 for an accepted call, else the number of the first test that failed, lowest
+ * first (enum door_refusal). A refused call changes nothing: the answer holds the state that was
+ * handed in, its word is 0, and every buffer is as it was. So `box = a.party` is right either way.
+ * Only a refused start has no state to hand back: the one in its answer is all zero.
+ *
+ * Buffers. A slice is a pointer and the number of its elements, not of its bytes. It is lent for the
+ * call alone. What is const is only read; in a buffer that is not, an accepted call writes from its
+ * start as many elements as it says, and leaves the others. A pointer must not be null, not even
+ * where the length is 0, and must be aligned for its type; a buffer that is written must not overlap
+ * another one. Nothing else is asked of a caller: any number, length or byte may be handed in.
+ *
+ * Numbers. A vector's element and a threshold are 32-bit words, a negative number plus 2^32: a host
+ * that has int32_t may hand these in, (uint32_t)x for x and (const uint32_t *)v for v.
+ */
+#ifndef DOOR_H
+#define DOOR_H
+
+#include <assert.h>
+#include <stddef.h>
+#include <stdint.h>
+
+#ifdef __cplusplus
+extern "C" {
+#endif
+
+#define DOOR_NAME 16         /* bytes of a padded name, zero after the name's end */
+#define DOOR_KEY 32          /* bytes of a box's key, and of a set seed */
+#define DOOR_LENGTH_MOST 512 /* elements of a vector: L is from 1 to this */
+#define DOOR_BLOCK 512       /* bytes of a block of a half */
+#define DOOR_HALF_MOST 8192  /* bytes of a half of 16 blocks: room for every L */
+#define DOOR_STACK 65536
+
+/* Bytes of a half of vectors of length n, from 1 to DOOR_LENGTH_MOST. */
+#define DOOR_HALF(n) (DOOR_BLOCK * ((1248 + 12 * (size_t)(n) + 483) / 484))
+
+/* Why a call was refused. */
+enum door_refusal {
+    DOOR_ACCEPTED = 0,
+    /* A name at a start is empty, above 16 bytes, or has a byte outside 32 to 126. */
+    DOOR_BAD_NAME = 1,
+    /* A box is started with a party that is not 0 or 1, or a deal's code is not 0 to 2. */
+    DOOR_BAD_PARTY_OR_CODE = 2,
+    /* A box call is out of its turn, or the state handed in is none that a call leaves. */
+    DOOR_OUT_OF_TURN = 3,
+    /* Key or seed is not 32 bytes, a message's name not 16, L not 1 to 512, a vector not the set's
+       L, or a half not 3 to 16 whole blocks. */
+    DOOR_WRONG_LENGTH = 4,
+    /* An output buffer is shorter than what will be written. */
+    DOOR_SHORT_BUFFER = 5,
+    /* A message of another kind or door, or of another sender than the one expected. */
+    DOOR_WRONG_MESSAGE = 6,
+    /* A set number is not the open one (box messages), not above the last one (deal, load, join),
+       or differs between two joined answers. */
+    DOOR_WRONG_NUMBER = 7,
+    /* An element or a threshold is outside its measure's range. */
+    DOOR_OUT_OF_RANGE = 8,
+    /* The dealer starts with two equal keys. */
+    DOOR_EQUAL_KEYS = 9,
+    /* A block is not in its place, is of another set number, or its tag doesn't fit. */
+    DOOR_BAD_BLOCK = 10,
+    /* A half of another door or party, or with content that no deal writes. */
+    DOOR_BAD_CONTENT = 11,
+    /* The joined sum is not 0 or 1. */
+    DOOR_BAD_SUM = 12
+};
+
+/* Measures, with the ranges of elements and of the threshold T. The lock's 1 means measure >= T. */
+enum door_code {
+    DOOR_SCALAR = 0, /* scalar product: -1024 to 1023, T from -2^30 to 2^30 */
+    DOOR_EUCLID = 1, /* squared Euclid: -1024 to 1023, T from 0 to 2^31 - 1 */
+    DOOR_HAMMING = 2 /* Hamming: 0 or 1, T from 0 to 513 */
+};
+
+/* What a message is, and which call takes it. */
+enum door_kind {
+    DOOR_MASKED_VECTOR = 0, /* sent by door_mask, taken by the other box's door_take */
+    DOOR_WORD = 1,          /* sent by door_take, taken by the other box's door_finish */
+    DOOR_ANSWER = 2         /* sent by door_finish, taken by the lock */
+};
+
+/* The structs of the crates node, content, dealer and party, all #[repr(C)]. */
+
+struct door_correction {
+    uint32_t seed[8];
+    uint32_t word;
+    uint32_t flags; /* bit 0 left, bit 1 right */
+};
+
+struct door_key {
+    struct door_correction corrections[32];
+    uint32_t last;
+};
+
+/* An opened set; all zero with none. Places of the arrays past n are zero. */
+struct door_set {
+    uint64_t number;
+    uint32_t code;
+    size_t n; /* L */
+    uint32_t mask[DOOR_LENGTH_MOST];
+    uint32_t x[DOOR_LENGTH_MOST];
+    uint32_t y[DOOR_LENGTH_MOST];
+    uint32_t c;
+    uint32_t r;
+    uint32_t seed[8];
+    struct door_key key;
+};
+
+struct door_dealer {
+    uint8_t name[DOOR_NAME]; /* padded */
+    uint8_t key0[DOOR_KEY];
+    uint8_t key1[DOOR_KEY];
+    uint64_t last; /* the last set number, first the floor */
+};
+
+struct door_dealer_answer {
+    uint32_t why;
+    struct door_dealer dealer;
+};
+
+/* A box. */
+struct door_party {
+    uint8_t name[DOOR_NAME]; /* padded */
+    uint32_t party;          /* 0 is the camera box, 1 the office box */
+    uint8_t key[DOOR_KEY];
+    uint64_t last;  /* the last set number, first the floor */
+    uint32_t phase; /* 0 with no set open, 1 loaded, 2 masked, 3 taken */
+    struct door_set set;
+    uint32_t masked[DOOR_LENGTH_MOST];
+    uint32_t own;
+    uint32_t word;
+};
+
+struct door_party_answer {
+    uint32_t why;
+    struct door_party party;
+    uint32_t word; /* what door_take and door_finish send, else 0 */
+};
+
+/*
+ * The dealer. A start takes the bare name, of 1 to 16 bytes, without a zero at its end; key0 is the
+ * camera box's and key1 the office box's. Refusals: 1, 4, 9.
+ */
+struct door_dealer_answer door_start_dealer(
+    const uint8_t *name, size_t name_len,
+    const uint8_t *key0, size_t key0_len,
+    const uint8_t *key1, size_t key1_len,
+    uint64_t floor);
+
+/*
+ * Deals set `number`, above the last one, for vectors of length n: DOOR_HALF(n) bytes to out0, for
+ * the camera box, and as many to out1, for the office box. The seed is 32 random bytes that are used
+ * for this set alone. Refusals: 2, 4, 5, 7, 8.
+ */
+struct door_dealer_answer door_deal(
+    struct door_dealer dealer,
+    uint64_t number,
+    const uint8_t *seed, size_t seed_len,
+    uint32_t code,
+    size_t n,
+    uint32_t t,
+    uint8_t *out0, size_t out0_len,
+    uint8_t *out1, size_t out1_len);
+
+/* A box: party 0 is the camera box, 1 the office box. Refusals: 1, 2, 4. */
+struct door_party_answer door_start_party(
+    const uint8_t *name, size_t name_len,
+    uint32_t party,
+    const uint8_t *key, size_t key_len,
+    uint64_t floor);
+
+/*
+ * Call 1: opens the box's half of a set, whose number is then spent. `half` is just the half: whole
+ * blocks, none more. Refusals: 3, 4, 7, 10, 11.
+ */
+struct door_party_answer door_load(
+    struct door_party party,
+    const uint8_t *half, size_t half_len);
+
+/*
+ * Call 2: masks the box's own vector, of the set's L elements, and writes L words to out: they are
+ * sent to the other box as DOOR_MASKED_VECTOR. Refusals: 3, 4, 5, 8.
+ */
+struct door_party_answer door_mask(
+    struct door_party party,
+    const uint32_t *v, size_t v_len,
+    uint32_t *out, size_t out_len);
+
+/*
+ * Call 3: takes the other box's masked vector. The word in the answer is sent to the other box as
+ * DOOR_WORD. The name is the padded one, here and below; kind, sender and number are those that came
+ * with the message. Refusals: 3, 4, 6, 7.
+ */
+struct door_party_answer door_take(
+    struct door_party party,
+    uint32_t kind,
+    const uint8_t *name, size_t name_len,
+    uint32_t sender,
+    uint64_t number,
+    const uint32_t *v, size_t v_len);
+
+/*
+ * Call 4: takes the other box's word, and closes the set. The word in the answer is sent to the lock
+ * as DOOR_ANSWER. Refusals: 3, 4, 6, 7.
+ */
+struct door_party_answer door_finish(
+    struct door_party party,
+    uint32_t kind,
+    const uint8_t *name, size_t name_len,
+    uint32_t sender,
+    uint64_t number,
+    uint32_t word);
+
+/* Ends the open set; its number stays spent. Refusal: 3. */
+struct door_party_answer door_drop(struct door_party party);
+
+/* A refused join answers this plus the refusal's number. */
+#define LOCK_REFUSED 100
+
+/*
+ * The lock, whose host keeps the door's padded name and the last joined number, first the floor. It
+ * hands them in beside the two answers, the camera box's first. 1 means measure >= T, 0 means not;
+ * anything above LOCK_REFUSED is a refusal: 4, 6, 7, 12. After a 0 or 1 the joined number is the last
+ * one; after a refusal it is what it was.
+ */
+uint32_t lock_join(
+    const uint8_t *name, size_t name_len,
+    uint64_t last,
+    uint32_t kind0,
+    const uint8_t *name0, size_t name0_len,
+    uint32_t sender0,
+    uint64_t number0,
+    uint32_t answer0,
+    uint32_t kind1,
+    const uint8_t *name1, size_t name1_len,
+    uint32_t sender1,
+    uint64_t number1,
+    uint32_t answer1);
+
+/* The last number after the same join. */
+uint64_t lock_last(
+    const uint8_t *name, size_t name_len,
+    uint64_t last,
+    uint32_t kind0,
+    const uint8_t *name0, size_t name0_len,
+    uint32_t sender0,
+    uint64_t number0,
+    uint32_t answer0,
+    uint32_t kind1,
+    const uint8_t *name1, size_t name1_len,
+    uint32_t sender1,
+    uint64_t number1,
+    uint32_t answer1);
+
+/* The layout that the archives are compiled for. */
+#define DOOR_AT(type, field, at) static_assert(offsetof(struct type, field) == (at), #type "." #field)
+#define DOOR_SIZE(type, size) static_assert(sizeof(struct type) == (size), #type)
+DOOR_SIZE(door_correction, 40);
+DOOR_AT(door_correction, word, 32);
+DOOR_AT(door_correction, flags, 36);
+DOOR_SIZE(door_key, 1284);
+DOOR_AT(door_key, last, 1280);
+DOOR_SIZE(door_set, 7496);
+DOOR_AT(door_set, code, 8);
+DOOR_AT(door_set, n, 16);
+DOOR_AT(door_set, mask, 24);
+DOOR_AT(door_set, x, 2072);
+DOOR_AT(door_set, y, 4120);
+DOOR_AT(door_set, c, 6168);
+DOOR_AT(door_set, r, 6172);
+DOOR_AT(door_set, seed, 6176);
+DOOR_AT(door_set, key, 6208);
+DOOR_SIZE(door_dealer, 88);
+DOOR_AT(door_dealer, key0, 16);
+DOOR_AT(door_dealer, key1, 48);
+DOOR_AT(door_dealer, last, 80);
+DOOR_SIZE(door_dealer_answer, 96);
+DOOR_AT(door_dealer_answer, dealer, 8);
+DOOR_SIZE(door_party, 9624);
+DOOR_AT(door_party, party, 16);
+DOOR_AT(door_party, key, 20);
+DOOR_AT(door_party, last, 56);
+DOOR_AT(door_party, phase, 64);
+DOOR_AT(door_party, set, 72);
+DOOR_AT(door_party, masked, 7568);
+DOOR_AT(door_party, own, 9616);
+DOOR_AT(door_party, word, 9620);
+DOOR_SIZE(door_party_answer, 9640);
+DOOR_AT(door_party_answer, party, 8);
+DOOR_AT(door_party_answer, word, 9632);
+static_assert(sizeof(size_t) == 8, "size_t is the crates' usize");
+#undef DOOR_AT
+#undef DOOR_SIZE
+
+#ifdef __cplusplus
+}
+#endif
+
+#endif

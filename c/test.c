@@ -1,0 +1,845 @@
+/*
+ * Calls every function of door.h as a host does: whole checks, whose answers must be those of the
+ * measure computed here, and each refusal of each call, which must change nothing. c/test runs it.
+ */
+#include "door.h"
+
+#include <stdbool.h>
+#include <stdio.h>
+#include <stdlib.h>
+#include <string.h>
+
+#define MOST DOOR_LENGTH_MOST
+#define BEYOND 64 /* elements behind an output buffer's use that must stay */
+
+static long passed;
+
+static void expect(bool holds, const char *what, int line)
+{
+    if (!holds) {
+        fprintf(stderr, "c/test.c:%d: not so: %s\n", line, what);
+        exit(EXIT_FAILURE);
+    }
+    passed++;
+}
+
+#define EXPECT(what) expect((what), #what, __LINE__)
+
+/* A sequence of numbers with no meaning (Knuth's MMIX), always the same. */
+static uint64_t drawn = 1;
+
+static uint32_t draw(void)
+{
+    drawn = drawn * 6364136223846793005u + 1442695040888963407u;
+    return (uint32_t)(drawn >> 32);
+}
+
+static void draw_bytes(uint8_t *bytes, size_t size)
+{
+    for (size_t i = 0; i < size; i++)
+        bytes[i] = (uint8_t)draw();
+}
+
+/* The word that stands for a number. */
+static uint32_t word(long number)
+{
+    return (uint32_t)number;
+}
+
+static bool all_zero(const void *at, size_t size)
+{
+    const uint8_t *bytes = at;
+    for (size_t i = 0; i < size; i++)
+        if (bytes[i] != 0)
+            return false;
+    return true;
+}
+
+/* Whether two states agree in every byte of every field. */
+#define SAME(a, b, field) (memcmp(&(a)->field, &(b)->field, sizeof (a)->field) == 0)
+
+static bool same_dealer(const struct door_dealer *a, const struct door_dealer *b)
+{
+    return SAME(a, b, name) && SAME(a, b, key0) && SAME(a, b, key1) && a->last == b->last;
+}
+
+static bool same_set(const struct door_set *a, const struct door_set *b)
+{
+    return a->number == b->number && a->code == b->code && a->n == b->n && SAME(a, b, mask)
+        && SAME(a, b, x) && SAME(a, b, y) && a->c == b->c && a->r == b->r && SAME(a, b, seed)
+        && SAME(a, b, key);
+}
+
+static bool same_party(const struct door_party *a, const struct door_party *b)
+{
+    return SAME(a, b, name) && a->party == b->party && SAME(a, b, key) && a->last == b->last
+        && a->phase == b->phase && same_set(&a->set, &b->set) && SAME(a, b, masked)
+        && a->own == b->own && a->word == b->word;
+}
+
+/* A door: name and keys, what its parts keep, and what its host has. */
+
+static const uint8_t BARE[] = {'H', 'u', 't', ' ', '4'};
+static const uint8_t PADDED[DOOR_NAME] = {'H', 'u', 't', ' ', '4'};
+/* Differs in its last byte alone. */
+static const uint8_t OTHER[DOOR_NAME] = {'H', 'u', 't', ' ', '4', [DOOR_NAME - 1] = '!'};
+static uint8_t keys[2][DOOR_KEY];
+static uint8_t seed[DOOR_KEY + 1];
+
+struct door {
+    struct door_dealer dealer;
+    struct door_party box[2];
+    uint64_t last; /* the lock's */
+};
+
+static struct door_party idle(uint32_t party, uint64_t last)
+{
+    struct door_party_answer a = door_start_party(BARE, sizeof BARE, party, keys[party], DOOR_KEY, last);
+    EXPECT(a.why == DOOR_ACCEPTED);
+    return a.party;
+}
+
+static struct door_dealer dealer_of(const uint8_t *name, size_t size, uint64_t floor)
+{
+    struct door_dealer_answer a =
+        door_start_dealer(name, size, keys[0], DOOR_KEY, keys[1], DOOR_KEY, floor);
+    EXPECT(a.why == DOOR_ACCEPTED);
+    return a.dealer;
+}
+
+static struct door open_door(uint64_t floor)
+{
+    struct door d = {
+        .dealer = dealer_of(BARE, sizeof BARE, floor),
+        .box = {idle(0, floor), idle(1, floor)},
+        .last = floor,
+    };
+    return d;
+}
+
+/* One check: what is dealt, and the two vectors. */
+
+struct check {
+    uint32_t code;
+    size_t n;
+    long t;
+    long v[2][MOST];
+};
+
+static long measure(const struct check *k)
+{
+    long sum = 0;
+    for (size_t i = 0; i < k->n; i++) {
+        long x = k->v[0][i], y = k->v[1][i];
+        sum += k->code == DOOR_SCALAR ? x * y : k->code == DOOR_EUCLID ? (x - y) * (x - y) : x != y;
+    }
+    return sum;
+}
+
+static long own(const struct check *k, int party)
+{
+    long sum = 0;
+    for (size_t i = 0; i < k->n && k->code != DOOR_SCALAR; i++)
+        sum += k->v[party][i] * k->v[party][i];
+    return sum;
+}
+
+static void words_of(const struct check *k, int party, uint32_t *words)
+{
+    for (size_t i = 0; i < k->n; i++)
+        words[i] = word(k->v[party][i]);
+}
+
+static struct check drawn_check(uint32_t code, size_t n)
+{
+    struct check k = {.code = code, .n = n};
+    for (int party = 0; party < 2; party++)
+        for (size_t i = 0; i < n; i++)
+            k.v[party][i] = code == DOOR_HAMMING ? draw() % 2 : (long)(draw() % 2048) - 1024;
+    k.t = measure(&k);
+    return k;
+}
+
+/* How many bytes the half of a set of length n has: 484 of its content in each block. */
+static size_t half_size(size_t n)
+{
+    size_t content = 1248 + 12 * n, blocks = content / 484 + (content % 484 != 0);
+    return 512 * blocks;
+}
+
+/* Two buffers for halves, with bytes behind them that must stay. */
+struct halves {
+    uint8_t half[2][DOOR_HALF_MOST + BEYOND];
+};
+
+static struct door_dealer_answer deal(
+    struct door_dealer dealer, uint64_t number, const struct check *k, struct halves *h)
+{
+    uint8_t *out[2] = {h->half[0], h->half[1]};
+    size_t room = sizeof h->half[0];
+    return door_deal(dealer, number, seed, DOOR_KEY, k->code, k->n, word(k->t), out[0], room, out[1], room);
+}
+
+/* Every block begins with the set number and its place, and nothing is written behind the last. */
+static void deals(struct door *d, uint64_t number, const struct check *k, struct halves *h)
+{
+    draw_bytes(seed, DOOR_KEY);
+    draw_bytes(h->half[0], sizeof h->half[0]);
+    draw_bytes(h->half[1], sizeof h->half[1]);
+    struct halves before = *h;
+    struct door_dealer next = d->dealer;
+    next.last = number;
+    struct door_dealer_answer a = deal(d->dealer, number, k, h);
+    EXPECT(a.why == DOOR_ACCEPTED);
+    EXPECT(same_dealer(&a.dealer, &next));
+    d->dealer = a.dealer;
+    size_t size = half_size(k->n);
+    EXPECT(size == DOOR_HALF(k->n));
+    for (int party = 0; party < 2; party++) {
+        uint8_t *half = h->half[party];
+        EXPECT(memcmp(half + size, before.half[party] + size, sizeof h->half[party] - size) == 0);
+        for (size_t at = 0; at < size; at++) {
+            size_t place = at % 512, block = at / 512;
+            if (place < 8)
+                EXPECT(half[at] == (uint8_t)(number >> 8 * place));
+            else if (place < 12)
+                EXPECT(half[at] == (uint8_t)(block >> 8 * (place - 8)));
+        }
+    }
+}
+
+/* The loaded state, as far as it can be told from outside. */
+static void loads(struct door *d, uint64_t number, const struct check *k, const struct halves *h)
+{
+    for (uint32_t party = 0; party < 2; party++) {
+        struct door_party old = d->box[party];
+        struct door_party_answer a = door_load(old, h->half[party], half_size(k->n));
+        EXPECT(a.why == DOOR_ACCEPTED && a.word == 0);
+        struct door_party *new = &a.party;
+        EXPECT(SAME(new, &old, name) && new->party == party && SAME(new, &old, key));
+        EXPECT(new->last == number && new->phase == 1);
+        EXPECT(new->set.number == number && new->set.code == k->code && new->set.n == k->n);
+        size_t rest = sizeof(uint32_t) * (MOST - k->n);
+        EXPECT(all_zero(new->set.mask + k->n, rest));
+        EXPECT(all_zero(new->set.x + k->n, rest) && all_zero(new->set.y + k->n, rest));
+        EXPECT(all_zero(new->masked, sizeof new->masked) && new->own == 0 && new->word == 0);
+        d->box[party] = *new;
+    }
+}
+
+/* The shares of the two sets sum to the masks and to the masks' product; the key is one. */
+static void fit(const struct door_set *s0, const struct door_set *s1)
+{
+    uint32_t product = 0;
+    for (size_t i = 0; i < s0->n; i++) {
+        EXPECT(s0->x[i] + s1->x[i] == s0->mask[i] && s0->y[i] + s1->y[i] == s1->mask[i]);
+        product += s0->mask[i] * s1->mask[i];
+    }
+    EXPECT(s0->c + s1->c == product);
+    EXPECT(SAME(s0, s1, key) && !SAME(s0, s1, seed));
+    for (int level = 0; level < 32; level++)
+        EXPECT(s0->key.corrections[level].flags < 4);
+}
+
+/* A box's masked vector, with words behind it that must stay. */
+struct vector {
+    uint32_t at[MOST + BEYOND];
+};
+
+static void masks(struct door *d, const struct check *k, struct vector sent[2])
+{
+    for (int party = 0; party < 2; party++) {
+        uint32_t v[MOST];
+        words_of(k, party, v);
+        draw_bytes((uint8_t *)sent[party].at, sizeof sent[party].at);
+        struct vector before = sent[party];
+        struct door_party next = d->box[party];
+        struct door_party_answer a = door_mask(next, v, k->n, sent[party].at, MOST + BEYOND);
+        EXPECT(a.why == DOOR_ACCEPTED && a.word == 0);
+        next.phase = 2;
+        next.own = word(own(k, party));
+        for (size_t i = 0; i < k->n; i++)
+            next.masked[i] = v[i] + next.set.mask[i];
+        EXPECT(same_party(&a.party, &next));
+        memcpy(before.at, next.masked, sizeof(uint32_t) * k->n);
+        EXPECT(memcmp(sent[party].at, before.at, sizeof before.at) == 0);
+        d->box[party] = a.party;
+    }
+}
+
+/* The sum of the words is measure - T + r, and the two r words sum to r - T. */
+static void takes(
+    struct door *d, uint64_t number, const struct check *k, struct vector sent[2], uint32_t words[2])
+{
+    uint32_t z = 0, r = 0;
+    for (int party = 0; party < 2; party++) {
+        uint32_t other = 1 - party;
+        struct door_party next = d->box[party];
+        struct door_party_answer a =
+            door_take(next, DOOR_MASKED_VECTOR, PADDED, DOOR_NAME, other, number, sent[other].at, k->n);
+        EXPECT(a.why == DOOR_ACCEPTED);
+        next.phase = 3;
+        next.word = a.word;
+        EXPECT(same_party(&a.party, &next));
+        d->box[party] = a.party;
+        words[party] = a.word;
+        z += a.word;
+        r += next.set.r;
+    }
+    EXPECT(z == word(measure(k)) + r);
+}
+
+static void finishes(struct door *d, uint64_t number, const uint32_t words[2], uint32_t answers[2])
+{
+    for (int party = 0; party < 2; party++) {
+        uint32_t other = 1 - party;
+        struct door_party_answer a =
+            door_finish(d->box[party], DOOR_WORD, PADDED, DOOR_NAME, other, number, words[other]);
+        struct door_party next = idle(party, number);
+        EXPECT(a.why == DOOR_ACCEPTED);
+        EXPECT(same_party(&a.party, &next));
+        d->box[party] = a.party;
+        answers[party] = a.word;
+    }
+}
+
+/* What is handed to a join, beside the door's name and the last number. */
+struct join {
+    size_t size; /* of the door's name */
+    uint32_t kind[2];
+    const uint8_t *name[2];
+    size_t name_size[2];
+    uint32_t sender[2];
+    uint64_t number[2];
+    uint32_t answer[2];
+};
+
+static struct join join_of(uint64_t number, uint32_t answer0, uint32_t answer1)
+{
+    struct join j = {
+        .size = DOOR_NAME,
+        .kind = {DOOR_ANSWER, DOOR_ANSWER},
+        .name = {PADDED, PADDED},
+        .name_size = {DOOR_NAME, DOOR_NAME},
+        .sender = {0, 1},
+        .number = {number, number},
+        .answer = {answer0, answer1},
+    };
+    return j;
+}
+
+/* What the join answers; the last number that goes with it is expected to be `next`. */
+static uint32_t join(uint64_t last, const struct join *j, uint64_t next)
+{
+    uint64_t after = lock_last(PADDED, j->size, last, j->kind[0], j->name[0], j->name_size[0],
+        j->sender[0], j->number[0], j->answer[0], j->kind[1], j->name[1], j->name_size[1],
+        j->sender[1], j->number[1], j->answer[1]);
+    EXPECT(after == next);
+    return lock_join(PADDED, j->size, last, j->kind[0], j->name[0], j->name_size[0], j->sender[0],
+        j->number[0], j->answer[0], j->kind[1], j->name[1], j->name_size[1], j->sender[1],
+        j->number[1], j->answer[1]);
+}
+
+/* From deal to join: the lock must say whether the measure reaches T. */
+static void whole(struct door *d, uint64_t number, const struct check *k)
+{
+    static struct halves h;
+    struct vector sent[2];
+    uint32_t words[2], answers[2];
+    deals(d, number, k, &h);
+    loads(d, number, k, &h);
+    fit(&d->box[0].set, &d->box[1].set);
+    masks(d, k, sent);
+    takes(d, number, k, sent, words);
+    finishes(d, number, words, answers);
+    struct join j = join_of(number, answers[0], answers[1]);
+    EXPECT(join(d->last, &j, number) == (measure(k) >= k->t));
+    d->last = number;
+}
+
+static void whole_checks(void)
+{
+    static const size_t lengths[] = {1, 2, 17, 18, 128, 501, 502, 512};
+    struct door d = open_door(1000);
+    uint64_t number = 1000;
+    for (uint32_t code = 0; code < 3; code++)
+        for (size_t i = 0; i < sizeof lengths / sizeof *lengths; i++) {
+            struct check k = drawn_check(code, lengths[i]);
+            number += 1 + draw() % 1000;
+            whole(&d, number, &k); /* reached */
+            k.t++;
+            number += 1 + draw() % 1000;
+            whole(&d, number, &k); /* not reached */
+        }
+}
+
+/* The ends of the ranges: every number that fits is taken. */
+static void ends(void)
+{
+    struct door d = open_door(0);
+    struct check k = {.code = DOOR_EUCLID, .n = MOST};
+    for (size_t i = 0; i < MOST; i++) {
+        k.v[0][i] = -1024;
+        k.v[1][i] = 1023;
+    }
+    k.t = 2145387008;
+    EXPECT(measure(&k) == k.t);
+    whole(&d, 1, &k);
+    k.t = 2145387009;
+    whole(&d, 2, &k);
+    k.t = 0x7fffffff;
+    whole(&d, 3, &k);
+    k.t = 0;
+    whole(&d, 4, &k);
+    k.code = DOOR_SCALAR;
+    k.t = -0x40000000;
+    whole(&d, 5, &k);
+    k.t = 0x40000000;
+    whole(&d, 6, &k);
+    struct check bits = drawn_check(DOOR_HAMMING, MOST);
+    bits.t = 0;
+    whole(&d, 7, &bits);
+    bits.t = 513;
+    whole(&d, UINT64_MAX, &bits);
+}
+
+/* Refusals. Those of a call are met one after the other: first all is wrong, and then the lowest is
+   put right each time, until the call is accepted. Then each input is wrong alone. */
+
+static void start_dealer_refused(
+    const uint8_t *name, size_t name_size, size_t size0, size_t size1, const uint8_t *key1, uint32_t why)
+{
+    struct door_dealer_answer a =
+        door_start_dealer(name, name_size, keys[0], size0, key1, size1, 7);
+    struct door_dealer none = {0};
+    EXPECT(a.why == why);
+    EXPECT(same_dealer(&a.dealer, &none));
+}
+
+static void start_party_refused(
+    const uint8_t *name, size_t name_size, uint32_t party, size_t size, uint32_t why)
+{
+    struct door_party_answer a = door_start_party(name, name_size, party, keys[0], size, 7);
+    struct door_party none = {0};
+    EXPECT(a.why == why && a.word == 0);
+    EXPECT(same_party(&a.party, &none));
+}
+
+static void starts(void)
+{
+    static const uint8_t bad[2] = {31, 127};
+    const uint8_t *same = keys[0], *other = keys[1];
+    uint8_t name[17];
+    memset(name, 126, sizeof name);
+    start_dealer_refused(name, 17, 31, 33, same, DOOR_BAD_NAME);
+    start_dealer_refused(name, 16, 31, 33, same, DOOR_WRONG_LENGTH);
+    start_dealer_refused(name, 16, 32, 32, same, DOOR_EQUAL_KEYS);
+    start_dealer_refused(name, 16, 31, 32, other, DOOR_WRONG_LENGTH);
+    start_dealer_refused(name, 16, 32, 0, other, DOOR_WRONG_LENGTH);
+    start_party_refused(name, 17, 2, 31, DOOR_BAD_NAME);
+    start_party_refused(name, 16, 2, 31, DOOR_BAD_PARTY_OR_CODE);
+    start_party_refused(name, 16, 256, 32, DOOR_BAD_PARTY_OR_CODE);
+    start_party_refused(name, 16, 1, 31, DOOR_WRONG_LENGTH);
+    start_party_refused(name, 0, 0, 32, DOOR_BAD_NAME);
+    for (int i = 0; i < 2; i++) {
+        start_dealer_refused(bad + i, 1, 32, 32, other, DOOR_BAD_NAME);
+        start_party_refused(bad + i, 1, 0, 32, DOOR_BAD_NAME);
+    }
+    struct door_dealer dealer = dealer_of(name, 16, 5);
+    EXPECT(memcmp(dealer.name, name, DOOR_NAME) == 0 && dealer.last == 5);
+    EXPECT(memcmp(dealer.key0, keys[0], DOOR_KEY) == 0);
+    EXPECT(memcmp(dealer.key1, keys[1], DOOR_KEY) == 0);
+    struct door_party box = idle(1, 6);
+    EXPECT(memcmp(box.name, PADDED, DOOR_NAME) == 0 && box.party == 1 && box.last == 6);
+    EXPECT(memcmp(box.key, keys[1], DOOR_KEY) == 0 && box.phase == 0);
+    EXPECT(all_zero(&box.set.number, sizeof box.set.number) && box.set.code == 0 && box.set.n == 0);
+}
+
+/* What is handed to a deal. */
+struct order {
+    uint64_t number;
+    size_t seed_size;
+    uint32_t code;
+    size_t n;
+    uint32_t t;
+    size_t room[2];
+};
+
+static void deal_refused(struct door_dealer dealer, struct order o, uint32_t why)
+{
+    static struct halves h, before;
+    draw_bytes(h.half[0], sizeof h.half[0]);
+    draw_bytes(h.half[1], sizeof h.half[1]);
+    before = h;
+    struct door_dealer_answer a = door_deal(dealer, o.number, seed, o.seed_size, o.code, o.n, o.t,
+        h.half[0], o.room[0], h.half[1], o.room[1]);
+    EXPECT(a.why == why);
+    if (why == DOOR_ACCEPTED)
+        return;
+    EXPECT(same_dealer(&a.dealer, &dealer));
+    EXPECT(memcmp(&h, &before, sizeof h) == 0);
+}
+
+static void deal_in_turn(struct door_dealer dealer)
+{
+    size_t enough = half_size(18);
+    struct order o = {dealer.last, 31, 3, 18, 514, {enough - 1, enough - 1}};
+    deal_refused(dealer, o, DOOR_BAD_PARTY_OR_CODE);
+    o.code = DOOR_HAMMING;
+    deal_refused(dealer, o, DOOR_WRONG_LENGTH);
+    o.seed_size = 32;
+    deal_refused(dealer, o, DOOR_SHORT_BUFFER);
+    o.room[0] = enough;
+    deal_refused(dealer, o, DOOR_SHORT_BUFFER);
+    o.room[1] = enough;
+    deal_refused(dealer, o, DOOR_WRONG_NUMBER);
+    o.number++;
+    deal_refused(dealer, o, DOOR_OUT_OF_RANGE);
+    o.t = 513;
+    deal_refused(dealer, o, DOOR_ACCEPTED);
+}
+
+static void deal_alone(struct door_dealer dealer)
+{
+    static const size_t lengths[] = {0, 513, 65537, ((size_t)1 << 32) + 1, SIZE_MAX};
+    static const struct { uint32_t code; long t; } thresholds[] = {
+        {DOOR_SCALAR, 0x40000001}, {DOOR_SCALAR, -0x40000001},
+        {DOOR_EUCLID, -1}, {DOOR_HAMMING, -1}, {DOOR_HAMMING, 514},
+    };
+    const struct order good = {dealer.last + 1, 32, DOOR_SCALAR, 18, 0, {DOOR_HALF_MOST, DOOR_HALF_MOST}};
+    deal_refused(dealer, good, DOOR_ACCEPTED);
+    for (size_t i = 0; i < sizeof lengths / sizeof *lengths; i++) {
+        struct order o = good;
+        o.n = lengths[i];
+        deal_refused(dealer, o, DOOR_WRONG_LENGTH);
+    }
+    for (size_t i = 0; i < sizeof thresholds / sizeof *thresholds; i++) {
+        struct order o = good;
+        o.code = thresholds[i].code;
+        o.t = word(thresholds[i].t);
+        deal_refused(dealer, o, DOOR_OUT_OF_RANGE);
+    }
+    struct order o = good;
+    o.room[0] = half_size(18) - 1;
+    deal_refused(dealer, o, DOOR_SHORT_BUFFER);
+    o = good;
+    o.seed_size = 33;
+    deal_refused(dealer, o, DOOR_WRONG_LENGTH);
+    o = good;
+    o.code = 256;
+    deal_refused(dealer, o, DOOR_BAD_PARTY_OR_CODE);
+    dealer.last = UINT64_MAX;
+    o = good;
+    o.number = UINT64_MAX;
+    deal_refused(dealer, o, DOOR_WRONG_NUMBER);
+}
+
+/* What is handed to calls 3 and 4. */
+struct message {
+    uint32_t kind;
+    const uint8_t *name;
+    size_t name_size;
+    uint32_t sender;
+    uint64_t number;
+    size_t n; /* call 3 */
+};
+
+static void box_refused(const struct door_party_answer *a, const struct door_party *box, uint32_t why)
+{
+    EXPECT(a->why == why);
+    if (why == DOOR_ACCEPTED)
+        return;
+    EXPECT(a->word == 0);
+    EXPECT(same_party(&a->party, box));
+}
+
+static void load_refused(const struct door_party *box, const uint8_t *half, size_t size, uint32_t why)
+{
+    static uint8_t before[17 * DOOR_BLOCK];
+    memcpy(before, half, size);
+    struct door_party_answer a = door_load(*box, half, size);
+    box_refused(&a, box, why);
+    EXPECT(memcmp(half, before, size) == 0);
+}
+
+static void mask_refused(
+    const struct door_party *box, const uint32_t *v, size_t n, size_t room, uint32_t why)
+{
+    struct vector out;
+    draw_bytes((uint8_t *)out.at, sizeof out.at);
+    struct vector before = out;
+    struct door_party_answer a = door_mask(*box, v, n, out.at, room);
+    box_refused(&a, box, why);
+    if (why != DOOR_ACCEPTED)
+        EXPECT(memcmp(&out, &before, sizeof out) == 0);
+}
+
+static void take_refused(
+    const struct door_party *box, struct message m, const uint32_t *v, uint32_t why)
+{
+    struct door_party_answer a =
+        door_take(*box, m.kind, m.name, m.name_size, m.sender, m.number, v, m.n);
+    box_refused(&a, box, why);
+}
+
+static void finish_refused(const struct door_party *box, struct message m, uint32_t why)
+{
+    struct door_party_answer a =
+        door_finish(*box, m.kind, m.name, m.name_size, m.sender, m.number, 12345);
+    box_refused(&a, box, why);
+}
+
+static void drop_refused(const struct door_party *box, uint32_t why)
+{
+    struct door_party_answer a = door_drop(*box);
+    box_refused(&a, box, why);
+}
+
+/* A check at the office box: its state at every phase, and good input for every call. */
+struct stage {
+    struct door_party at[4];
+    struct halves halves;
+    size_t size; /* of a half */
+    size_t n;
+    uint32_t v[MOST + BEYOND];
+    struct message vector, word;
+};
+
+static struct stage stage;
+
+static void set_stage(uint32_t code, size_t n)
+{
+    struct door d = open_door(40);
+    struct check k = drawn_check(code, n);
+    struct vector sent[2];
+    uint32_t words[2];
+    deals(&d, 41, &k, &stage.halves);
+    stage.at[0] = d.box[1];
+    loads(&d, 41, &k, &stage.halves);
+    stage.at[1] = d.box[1];
+    masks(&d, &k, sent);
+    stage.at[2] = d.box[1];
+    takes(&d, 41, &k, sent, words);
+    stage.at[3] = d.box[1];
+    stage.size = half_size(n);
+    stage.n = n;
+    memset(stage.v, 0, sizeof stage.v);
+    words_of(&k, 1, stage.v);
+    struct message m = {DOOR_MASKED_VECTOR, PADDED, DOOR_NAME, 0, 41, n};
+    stage.vector = m;
+    m.kind = DOOR_WORD;
+    stage.word = m;
+}
+
+/* Every call with good input at a state: those in turn are accepted, the others refused. */
+static void turns(const struct door_party *box, bool fits)
+{
+    uint32_t why[4];
+    for (uint32_t phase = 0; phase < 4; phase++)
+        why[phase] = fits && box->phase == phase ? DOOR_ACCEPTED : DOOR_OUT_OF_TURN;
+    load_refused(box, stage.halves.half[1], stage.size, why[0]);
+    mask_refused(box, stage.v, stage.n, stage.n, why[1]);
+    take_refused(box, stage.vector, stage.v, why[2]);
+    finish_refused(box, stage.word, why[3]);
+    drop_refused(box, fits && box->phase != 0 ? DOOR_ACCEPTED : DOOR_OUT_OF_TURN);
+}
+
+static void states(void)
+{
+    for (int phase = 0; phase < 4; phase++) {
+        turns(&stage.at[phase], true);
+        struct door_party box = stage.at[phase];
+        box.party = 2;
+        turns(&box, false);
+        box = stage.at[phase];
+        box.phase += 4;
+        turns(&box, false);
+        box = stage.at[phase];
+        box.set.code += phase == 0 ? 1 : 3;
+        turns(&box, false);
+        box = stage.at[phase];
+        box.set.n = phase == 0 ? 1 : 0;
+        turns(&box, false);
+        box.set.n = 513;
+        turns(&box, false);
+    }
+    struct door_party_answer a = door_drop(stage.at[3]);
+    struct door_party closed = idle(1, 41);
+    EXPECT(same_party(&a.party, &closed));
+}
+
+static void load_in_turn(void)
+{
+    static struct halves other; /* another door's, under the same keys */
+    struct check k = drawn_check(DOOR_EUCLID, stage.n);
+    struct door_dealer_answer dealt = deal(dealer_of(OTHER, 4, 41), 42, &k, &other);
+    EXPECT(dealt.why == DOOR_ACCEPTED);
+    uint8_t *half = other.half[1];
+    struct door_party box = stage.at[0];
+    box.last = 42;
+    box.set.code = 1;
+    half[stage.size - 1] ^= 128;
+    load_refused(&box, half, stage.size - 1, DOOR_OUT_OF_TURN);
+    box.set.code = 0;
+    load_refused(&box, half, stage.size - 1, DOOR_WRONG_LENGTH);
+    load_refused(&box, half, stage.size, DOOR_WRONG_NUMBER);
+    box.last = 41;
+    load_refused(&box, half, stage.size, DOOR_BAD_BLOCK);
+    half[stage.size - 1] ^= 128;
+    load_refused(&box, half, stage.size, DOOR_BAD_CONTENT);
+    box.last = 40;
+    load_refused(&box, stage.halves.half[1], stage.size, DOOR_ACCEPTED);
+}
+
+static void load_alone(void)
+{
+    static uint8_t half[17 * DOOR_BLOCK];
+    const struct door_party *box = &stage.at[0];
+    static const size_t sizes[] = {0, DOOR_BLOCK, 2 * DOOR_BLOCK, 1537, 17 * DOOR_BLOCK};
+    memcpy(half, stage.halves.half[1], stage.size);
+    for (size_t i = 0; i < sizeof sizes / sizeof *sizes; i++)
+        load_refused(box, half, sizes[i], DOOR_WRONG_LENGTH);
+    /* Any bit: of a block's number, its place, what is sealed, the tag. */
+    static const size_t places[] = {DOOR_BLOCK, DOOR_BLOCK + 8, 8, 12, 495, 496, 511};
+    for (size_t i = 0; i < sizeof places / sizeof *places; i++) {
+        half[places[i]] ^= 1;
+        load_refused(box, half, stage.size, DOOR_BAD_BLOCK);
+        half[places[i]] ^= 1;
+    }
+    load_refused(box, half, stage.size, DOOR_ACCEPTED);
+    load_refused(box, half, stage.size - DOOR_BLOCK, DOOR_BAD_CONTENT); /* a block left out */
+    load_refused(box, stage.halves.half[0], stage.size, DOOR_BAD_BLOCK); /* another key */
+    struct door_party other = *box;
+    memcpy(other.key, keys[0], DOOR_KEY);
+    load_refused(&other, stage.halves.half[0], stage.size, DOOR_BAD_CONTENT); /* another party */
+    other = *box;
+    other.last = UINT64_MAX;
+    load_refused(&other, half, stage.size, DOOR_WRONG_NUMBER);
+}
+
+static void mask(void)
+{
+    size_t n = stage.n;
+    struct door_party box = stage.at[1];
+    uint32_t good = stage.v[n - 1];
+    stage.v[n - 1] = box.set.code == DOOR_HAMMING ? 2 : 1024;
+    box.phase = 2;
+    mask_refused(&box, stage.v, n + 1, n - 1, DOOR_OUT_OF_TURN);
+    box.phase = 1;
+    mask_refused(&box, stage.v, n + 1, n - 1, DOOR_WRONG_LENGTH);
+    mask_refused(&box, stage.v, n - 1, n, DOOR_WRONG_LENGTH);
+    mask_refused(&box, stage.v, n, n - 1, DOOR_SHORT_BUFFER);
+    mask_refused(&box, stage.v, n, n, DOOR_OUT_OF_RANGE);
+    stage.v[n - 1] = word(box.set.code == DOOR_HAMMING ? -1 : -1025);
+    mask_refused(&box, stage.v, n, n, DOOR_OUT_OF_RANGE);
+    stage.v[n - 1] = good;
+    mask_refused(&box, stage.v, n, n, DOOR_ACCEPTED);
+}
+
+/* Calls 3 and 4 have their refusals in common: which of the two it is, is told by the good message. */
+static void message_refused(const struct door_party *box, struct message m, uint32_t why)
+{
+    if (box->phase == 2)
+        take_refused(box, m, stage.v, why);
+    else
+        finish_refused(box, m, why);
+}
+
+static void message(const struct door_party *box, struct message good)
+{
+    struct message m = {2, OTHER, 15, 1, 42, good.n};
+    struct door_party out_of_turn = *box;
+    out_of_turn.phase = 1;
+    take_refused(&out_of_turn, m, stage.v, DOOR_OUT_OF_TURN);
+    finish_refused(&out_of_turn, m, DOOR_OUT_OF_TURN);
+    message_refused(box, m, DOOR_WRONG_LENGTH);
+    m.name_size = 16;
+    message_refused(box, m, DOOR_WRONG_MESSAGE);
+    m.kind = good.kind;
+    message_refused(box, m, DOOR_WRONG_MESSAGE);
+    m.name = PADDED;
+    message_refused(box, m, DOOR_WRONG_MESSAGE);
+    m.sender = 0;
+    message_refused(box, m, DOOR_WRONG_NUMBER);
+    m.number = 40;
+    message_refused(box, m, DOOR_WRONG_NUMBER);
+    m.number = 41;
+    message_refused(box, m, DOOR_ACCEPTED);
+    m.kind += 256;
+    message_refused(box, m, DOOR_WRONG_MESSAGE);
+    m = good;
+    m.sender = 256;
+    message_refused(box, m, DOOR_WRONG_MESSAGE);
+    m = good;
+    m.name = OTHER;
+    message_refused(box, m, DOOR_WRONG_MESSAGE);
+    m = good;
+    m.n--;
+    if (box->phase == 2)
+        message_refused(box, m, DOOR_WRONG_LENGTH);
+}
+
+static void join_refused(struct join j, uint32_t why)
+{
+    EXPECT(join(40, &j, 40) == LOCK_REFUSED + why);
+}
+
+static void joins(void)
+{
+    const struct join good = join_of(41, UINT32_MAX, 2);
+    EXPECT(join(40, &good, 41) == 1); /* the sum is modulo 2^32 */
+    const struct join zero = join_of(UINT64_MAX, UINT32_MAX, 1);
+    EXPECT(join(40, &zero, UINT64_MAX) == 0);
+    struct join j = {15, {1, 2}, {OTHER, PADDED}, {16, 15}, {1, 0}, {40, 41}, {1, 1}};
+    join_refused(j, DOOR_WRONG_LENGTH);
+    j.size = 16;
+    join_refused(j, DOOR_WRONG_LENGTH);
+    j.name_size[1] = 16;
+    join_refused(j, DOOR_WRONG_MESSAGE);
+    j.kind[0] = 2;
+    join_refused(j, DOOR_WRONG_MESSAGE);
+    j.name[0] = PADDED;
+    join_refused(j, DOOR_WRONG_MESSAGE);
+    j.sender[0] = 0;
+    join_refused(j, DOOR_WRONG_MESSAGE);
+    j.sender[1] = 1;
+    join_refused(j, DOOR_WRONG_NUMBER);
+    j.number[0] = 42;
+    join_refused(j, DOOR_WRONG_NUMBER);
+    j.number[0] = 41;
+    join_refused(j, DOOR_BAD_SUM);
+    j.answer[0] = 0;
+    EXPECT(join(40, &j, 41) == 1);
+    EXPECT(join(UINT64_MAX, &j, UINT64_MAX) == LOCK_REFUSED + DOOR_WRONG_NUMBER);
+    j = good;
+    j.size = 17;
+    join_refused(j, DOOR_WRONG_LENGTH);
+    j = good;
+    j.kind[1] = 256 + DOOR_ANSWER;
+    join_refused(j, DOOR_WRONG_MESSAGE);
+    j = good;
+    j.name[1] = OTHER;
+    join_refused(j, DOOR_WRONG_MESSAGE);
+}
+
+int main(void)
+{
+    draw_bytes(keys[0], sizeof keys);
+    draw_bytes(seed, sizeof seed);
+    whole_checks();
+    ends();
+    starts();
+    deal_in_turn(dealer_of(BARE, sizeof BARE, 40));
+    deal_alone(dealer_of(BARE, sizeof BARE, 40));
+    for (uint32_t code = 0; code < 3; code++) {
+        set_stage(code, 20);
+        states();
+        load_in_turn();
+        load_alone();
+        mask();
+        message(&stage.at[2], stage.vector);
+        message(&stage.at[3], stage.word);
+    }
+    joins();
+    printf("c/test: %ld passed\n", passed);
+}

@@ -1,0 +1,122 @@
+// The dealer's and the boxes' calls as C functions, for their hosts. A state is handed over and
+// comes back by value; a slice is a pointer and a length. No function asks anything of its caller.
+ghost use mathlib.Core.Path.{_≡_};
+ghost use lib.ListN.{length};
+ghost use Rattle.dealer.specs.Dealer.{startDealer, dealFrom, deal, dealOut};
+ghost use Rattle.party.specs.Party.{startParty, load, mask, maskOut, take, finish, drop};
+use dealer::Dealer;
+use dealer::DealerAnswer;
+use messages::Label;
+use party::Party;
+use party::PartyAnswer;
+
+// key0 is the camera box's, key1 the office box's.
+#[no_mangle]
+pub extern "C" fn door_start_dealer(
+    name: &[u8],
+    key0: &[u8],
+    key1: &[u8],
+    floor: u64,
+) -> DealerAnswer
+    ensures { λ r. ⌜ r ≡ startDealer (now (name .entry)) (now (key0 .entry)) (now (key1 .entry)) floor ⌝ }
+{
+    Dealer::start(name, key0, key1, floor)
+}
+
+// Party 0's half is written to out0, party 1's to out1.
+#[no_mangle]
+pub extern "C" fn door_deal(
+    dealer: Dealer,
+    number: u64,
+    seed: &[u8],
+    code: u32,
+    n: usize,
+    t: u32,
+    out0: &mut [u8],
+    out1: &mut [u8],
+) -> DealerAnswer
+    ensures { λ r. ⌜ r ≡ deal dealer (dealFrom number (now (seed .entry)) code n t) (length (now (out0 .entry))) (length (now (out1 .entry))) ⌝ }
+    ensures { λ _. ⌜ now (out0 .exit) ≡ dealOut dealer (dealFrom number (now (seed .entry)) code n t) (now (out0 .entry)) (now (out1 .entry)) 0 ⌝ }
+    ensures { λ _. ⌜ now (out1 .exit) ≡ dealOut dealer (dealFrom number (now (seed .entry)) code n t) (now (out0 .entry)) (now (out1 .entry)) 1 ⌝ }
+{
+    dealer.deal(number, seed, code, n, t, out0, out1)
+}
+
+// Party 0 is the camera box, party 1 the office box.
+#[no_mangle]
+pub extern "C" fn door_start_party(name: &[u8], party: u32, key: &[u8], floor: u64) -> PartyAnswer
+    ensures { λ r. ⌜ r ≡ startParty (now (name .entry)) party (now (key .entry)) floor ⌝ }
+{
+    Party::start(name, party, key, floor)
+}
+
+// Call 1.
+#[no_mangle]
+pub extern "C" fn door_load(party: Party, half: &[u8]) -> PartyAnswer
+    ensures { λ r. ⌜ r ≡ load party (now (half .entry)) ⌝ }
+{
+    party.load(half)
+}
+
+// Call 2. The masked vector goes to the start of out.
+#[no_mangle]
+pub extern "C" fn door_mask(party: Party, v: &[u32], out: &mut [u32]) -> PartyAnswer
+    ensures { λ r. ⌜ r ≡ mask party (now (v .entry)) (length (now (out .entry))) ⌝ }
+    ensures { λ _. ⌜ now (out .exit) ≡ maskOut party (now (v .entry)) (now (out .entry)) ⌝ }
+{
+    party.mask(v, out)
+}
+
+// Call 3: takes the other box's masked vector, and answers this box's word.
+#[no_mangle]
+pub extern "C" fn door_take(
+    party: Party,
+    kind: u32,
+    name: &[u8],
+    sender: u32,
+    number: u64,
+    v: &[u32],
+) -> PartyAnswer
+    ensures { λ r. ⌜ r ≡ take party (record { kind = kind; sender = sender; number = number }) (now (name .entry)) (now (v .entry)) ⌝ }
+{
+    party.take(
+        Label {
+            kind,
+            sender,
+            number,
+        },
+        name,
+        v,
+    )
+}
+
+// Call 4: takes the other box's word, and answers this box's share of the yes or no.
+#[no_mangle]
+pub extern "C" fn door_finish(
+    party: Party,
+    kind: u32,
+    name: &[u8],
+    sender: u32,
+    number: u64,
+    word: u32,
+) -> PartyAnswer
+    ensures { λ r. ⌜ r ≡ finish party (record { kind = kind; sender = sender; number = number }) (now (name .entry)) word ⌝ }
+{
+    party.finish(
+        Label {
+            kind,
+            sender,
+            number,
+        },
+        name,
+        word,
+    )
+}
+
+// Ends the open set.
+#[no_mangle]
+pub extern "C" fn door_drop(party: Party) -> PartyAnswer
+    ensures { λ r. ⌜ r ≡ drop party ⌝ }
+{
+    party.drop()
+}
