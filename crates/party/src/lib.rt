@@ -245,10 +245,10 @@ impl Party {
         let n = self.set.n;
         let code = self.set.code;
         let turn = (self.phase == 1) & state_fits(self.party, self.phase, code, n);
-        let why = why_not_mask(turn, n, code, v, out.len());
-        if why != 0 {
+        let refusal = why_not_mask(turn, n, code, v, out.len());
+        if refusal != 0 {
             return PartyAnswer {
-                why,
+                why: refusal,
                 party: self,
                 word: 0,
             };
@@ -263,7 +263,7 @@ impl Party {
         next.own = own;
         next.word = 0;
         PartyAnswer {
-            why,
+            why: refusal,
             party: next,
             word: 0,
         }
