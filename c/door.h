@@ -1,34 +1,36 @@
 /*
  * The calls of the two-box door check, for a host in C on x86-64 Linux. `rt staticlib door_c` and
  * `rt staticlib lock_c` prove them and write target/staticlib/libdoor_c.a and liblock_c.a. These
- * need memcpy and memset and nothing else; they allocate nothing and keep nothing between calls, so
- * calls on different states may run at the same time. A call was seen to take up to 60 KB of stack,
- * the states by value with it: have DOOR_STACK bytes left.
+ * need memcpy and memset and nothing else; they allocate nothing and keep nothing between calls,
+ * so calls on different states may run at the same time. A call was seen to take up to 60 KB of
+ * stack, the states by value with it: have DOOR_STACK bytes left.
  *
- * States. A dealer and a box are plain values. A call takes the state by value and its answer holds
- * the next one: keep that, and hand it to the next call on the same dealer or box.
+ * States. A dealer and a box are plain values. A call takes the state by value and its answer
+ * holds the next one: keep that, and hand it to the next call on the same dealer or box.
  *
  *     struct door_party_answer a = door_load(box, half, size);
  *     box = a.party;
  *
- * Hand in each state once. A box of which an older copy is handed in again would put a second vector
- * under the same mask, and would take a spent set number. A host that is switched off must keep at
- * least `last`, to hand it in as the floor of the next start. States hold keys and masks: they are as
- * secret as these. Compare states field by field, since padding between fields may have any bytes.
+ * Hand in each state once. A box of which an older copy is handed in again would put a second
+ * vector under the same mask, and would take a spent set number. A host that is switched off must
+ * keep at least `last`, to hand it in as the floor of the next start. States hold keys and masks:
+ * they are as secret as these. Compare states field by field, since padding between fields may
+ * have any bytes.
  *
  * Refusals. `why` is 0 for an accepted call, else the number of the first test that failed, lowest
  * first (enum door_refusal). A refused call changes nothing: the answer holds the state that was
  * handed in, its word is 0, and every buffer is as it was. So `box = a.party` is right either way.
  * Only a refused start has no state to hand back: the one in its answer is all zero.
  *
- * Buffers. A slice is a pointer and the number of its elements, not of its bytes. It is lent for the
- * call alone. What is const is only read; in a buffer that is not, an accepted call writes from its
- * start as many elements as it says, and leaves the others. A pointer must not be null, not even
- * where the length is 0, and must be aligned for its type; a buffer that is written must not overlap
- * another one. Nothing else is asked of a caller: any number, length or byte may be handed in.
+ * Buffers. A slice is a pointer and the number of its elements, not of its bytes. It is lent for
+ * the call alone. What is const is only read; in a buffer that is not, an accepted call writes
+ * from its start as many elements as it says, and leaves the others. A pointer must not be null,
+ * not even where the length is 0, and must be aligned for its type; a buffer that is written must
+ * not overlap another one. Nothing else is asked of a caller: any number, length or byte may be
+ * handed in.
  *
- * Numbers. A vector's element and a threshold are 32-bit words, a negative number plus 2^32: a host
- * that has int32_t may hand these in, (uint32_t)x for x and (const uint32_t *)v for v.
+ * Numbers. A vector's element and a threshold are 32-bit words, a negative number plus 2^32: a
+ * host that has int32_t may hand these in, (uint32_t)x for x and (const uint32_t *)v for v.
  */
 #ifndef DOOR_H
 #define DOOR_H
@@ -46,7 +48,7 @@ extern "C" {
 #define DOOR_LENGTH_MOST 512 /* elements of a vector: L is from 1 to this */
 #define DOOR_BLOCK 512       /* bytes of a block of a half */
 #define DOOR_HALF_MOST 8192  /* bytes of a half of 16 blocks: room for every L */
-#define DOOR_STACK 65536
+#define DOOR_STACK 65536     /* bytes of stack that suffice for a call */
 
 /* Bytes of a half of vectors of length n, from 1 to DOOR_LENGTH_MOST. */
 #define DOOR_HALF(n) (DOOR_BLOCK * ((1248 + 12 * (size_t)(n) + 483) / 484))
@@ -155,8 +157,8 @@ struct door_party_answer {
 };
 
 /*
- * The dealer. A start takes the bare name, of 1 to 16 bytes, without a zero at its end; key0 is the
- * camera box's and key1 the office box's. Refusals: 1, 4, 9.
+ * The dealer. A start takes the bare name, of 1 to 16 bytes, without a zero at its end; key0 is
+ * the camera box's and key1 the office box's. Refusals: 1, 4, 9.
  */
 struct door_dealer_answer door_start_dealer(
     const uint8_t *name, size_t name_len,
@@ -166,8 +168,8 @@ struct door_dealer_answer door_start_dealer(
 
 /*
  * Deals set `number`, above the last one, for vectors of length n: DOOR_HALF(n) bytes to out0, for
- * the camera box, and as many to out1, for the office box. The seed is 32 random bytes that are used
- * for this set alone. Refusals: 2, 4, 5, 7, 8.
+ * the camera box, and as many to out1, for the office box. The seed is 32 random bytes that are
+ * used for this set alone. Refusals: 2, 4, 5, 7, 8.
  */
 struct door_dealer_answer door_deal(
     struct door_dealer dealer,
@@ -187,8 +189,8 @@ struct door_party_answer door_start_party(
     uint64_t floor);
 
 /*
- * Call 1: opens the box's half of a set, whose number is then spent. `half` is just the half: whole
- * blocks, none more. Refusals: 3, 4, 7, 10, 11.
+ * Call 1: opens the box's half of a set, whose number is then spent. `half` is just the half:
+ * whole blocks, none more. Refusals: 3, 4, 7, 10, 11.
  */
 struct door_party_answer door_load(
     struct door_party party,
@@ -205,8 +207,8 @@ struct door_party_answer door_mask(
 
 /*
  * Call 3: takes the other box's masked vector. The word in the answer is sent to the other box as
- * DOOR_WORD. The name is the padded one, here and below; kind, sender and number are those that came
- * with the message. Refusals: 3, 4, 6, 7.
+ * DOOR_WORD. The name is the padded one, here and below; kind, sender and number are those that
+ * came with the message. Refusals: 3, 4, 6, 7.
  */
 struct door_party_answer door_take(
     struct door_party party,
@@ -217,8 +219,8 @@ struct door_party_answer door_take(
     const uint32_t *v, size_t v_len);
 
 /*
- * Call 4: takes the other box's word, and closes the set. The word in the answer is sent to the lock
- * as DOOR_ANSWER. Refusals: 3, 4, 6, 7.
+ * Call 4: takes the other box's word, and closes the set. The word in the answer is sent to the
+ * lock as DOOR_ANSWER. Refusals: 3, 4, 6, 7.
  */
 struct door_party_answer door_finish(
     struct door_party party,
@@ -235,10 +237,10 @@ struct door_party_answer door_drop(struct door_party party);
 #define LOCK_REFUSED 100
 
 /*
- * The lock, whose host keeps the door's padded name and the last joined number, first the floor. It
- * hands them in beside the two answers, the camera box's first. 1 means measure >= T, 0 means not;
- * anything above LOCK_REFUSED is a refusal: 4, 6, 7, 12. After a 0 or 1 the joined number is the last
- * one; after a refusal it is what it was.
+ * The lock, whose host keeps the door's padded name and the last joined number, first the floor.
+ * It hands them in beside the two answers, the camera box's first. 1 means measure >= T, 0 means
+ * not; anything above LOCK_REFUSED is a refusal: 4, 6, 7, 12. After a 0 or 1 the joined number is
+ * the last one; after a refusal it is what it was.
  */
 uint32_t lock_join(
     const uint8_t *name, size_t name_len,
@@ -270,7 +272,8 @@ uint64_t lock_last(
     uint32_t answer1);
 
 /* The layout that the archives are compiled for. */
-#define DOOR_AT(type, field, at) static_assert(offsetof(struct type, field) == (at), #type "." #field)
+#define DOOR_AT(type, field, at) \
+    static_assert(offsetof(struct type, field) == (at), #type "." #field)
 #define DOOR_SIZE(type, size) static_assert(sizeof(struct type) == (size), #type)
 DOOR_SIZE(door_correction, 40);
 DOOR_AT(door_correction, word, 32);

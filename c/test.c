@@ -94,7 +94,8 @@ struct door {
 
 static struct door_party idle(uint32_t party, uint64_t last)
 {
-    struct door_party_answer a = door_start_party(BARE, sizeof BARE, party, keys[party], DOOR_KEY, last);
+    struct door_party_answer a =
+        door_start_party(BARE, sizeof BARE, party, keys[party], DOOR_KEY, last);
     EXPECT(a.why == DOOR_ACCEPTED);
     return a.party;
 }
@@ -131,7 +132,8 @@ static long measure(const struct check *k)
     long sum = 0;
     for (size_t i = 0; i < k->n; i++) {
         long x = k->v[0][i], y = k->v[1][i];
-        sum += k->code == DOOR_SCALAR ? x * y : k->code == DOOR_EUCLID ? (x - y) * (x - y) : x != y;
+        long by_code[] = {x * y, (x - y) * (x - y), x != y};
+        sum += by_code[k->code];
     }
     return sum;
 }
@@ -175,9 +177,9 @@ struct halves {
 static struct door_dealer_answer deal(
     struct door_dealer dealer, uint64_t number, const struct check *k, struct halves *h)
 {
-    uint8_t *out[2] = {h->half[0], h->half[1]};
     size_t room = sizeof h->half[0];
-    return door_deal(dealer, number, seed, DOOR_KEY, k->code, k->n, word(k->t), out[0], room, out[1], room);
+    return door_deal(dealer, number, seed, DOOR_KEY, k->code, k->n, word(k->t), h->half[0], room,
+        h->half[1], room);
 }
 
 /* Every block begins with the set number and its place, and nothing is written behind the last. */
@@ -269,14 +271,15 @@ static void masks(struct door *d, const struct check *k, struct vector sent[2])
 
 /* The sum of the words is measure - T + r, and the two r words sum to r - T. */
 static void takes(
-    struct door *d, uint64_t number, const struct check *k, struct vector sent[2], uint32_t words[2])
+    struct door *d, uint64_t number, const struct check *k, struct vector sent[2],
+    uint32_t words[2])
 {
     uint32_t z = 0, r = 0;
     for (int party = 0; party < 2; party++) {
         uint32_t other = 1 - party;
         struct door_party next = d->box[party];
-        struct door_party_answer a =
-            door_take(next, DOOR_MASKED_VECTOR, PADDED, DOOR_NAME, other, number, sent[other].at, k->n);
+        struct door_party_answer a = door_take(
+            next, DOOR_MASKED_VECTOR, PADDED, DOOR_NAME, other, number, sent[other].at, k->n);
         EXPECT(a.why == DOOR_ACCEPTED);
         next.phase = 3;
         next.word = a.word;
@@ -407,7 +410,8 @@ static void ends(void)
    put right each time, until the call is accepted. Then each input is wrong alone. */
 
 static void start_dealer_refused(
-    const uint8_t *name, size_t name_size, size_t size0, size_t size1, const uint8_t *key1, uint32_t why)
+    const uint8_t *name, size_t name_size, size_t size0, size_t size1, const uint8_t *key1,
+    uint32_t why)
 {
     struct door_dealer_answer a =
         door_start_dealer(name, name_size, keys[0], size0, key1, size1, 7);
@@ -506,7 +510,8 @@ static void deal_alone(struct door_dealer dealer)
         {DOOR_SCALAR, 0x40000001}, {DOOR_SCALAR, -0x40000001},
         {DOOR_EUCLID, -1}, {DOOR_HAMMING, -1}, {DOOR_HAMMING, 514},
     };
-    const struct order good = {dealer.last + 1, 32, DOOR_SCALAR, 18, 0, {DOOR_HALF_MOST, DOOR_HALF_MOST}};
+    const struct order good = {
+        dealer.last + 1, 32, DOOR_SCALAR, 18, 0, {DOOR_HALF_MOST, DOOR_HALF_MOST}};
     deal_refused(dealer, good, DOOR_ACCEPTED);
     for (size_t i = 0; i < sizeof lengths / sizeof *lengths; i++) {
         struct order o = good;
@@ -544,7 +549,8 @@ struct message {
     size_t n; /* call 3 */
 };
 
-static void box_refused(const struct door_party_answer *a, const struct door_party *box, uint32_t why)
+static void box_refused(
+    const struct door_party_answer *a, const struct door_party *box, uint32_t why)
 {
     EXPECT(a->why == why);
     if (why == DOOR_ACCEPTED)
@@ -553,7 +559,8 @@ static void box_refused(const struct door_party_answer *a, const struct door_par
     EXPECT(same_party(&a->party, box));
 }
 
-static void load_refused(const struct door_party *box, const uint8_t *half, size_t size, uint32_t why)
+static void load_refused(
+    const struct door_party *box, const uint8_t *half, size_t size, uint32_t why)
 {
     static uint8_t before[17 * DOOR_BLOCK];
     memcpy(before, half, size);
@@ -736,7 +743,7 @@ static void mask(void)
     mask_refused(&box, stage.v, n, n, DOOR_ACCEPTED);
 }
 
-/* Calls 3 and 4 have their refusals in common: which of the two it is, is told by the good message. */
+/* Calls 3 and 4 have their refusals in common; the phase tells which of the two is in turn. */
 static void message_refused(const struct door_party *box, struct message m, uint32_t why)
 {
     if (box->phase == 2)
