@@ -4,7 +4,7 @@ use crate::bad_line;
 use crate::dealt::Dealt;
 use crate::dealt::HALF;
 use crate::dealt::PLAIN;
-use crate::dealt::dealt;
+use crate::dealt::deal;
 use crate::dealt::refusal;
 use crate::dealt::sealed;
 use crate::fields;
@@ -27,7 +27,15 @@ fn flipped(half: [u8; HALF], i: usize) -> [u8; HALF] {
     h
 }
 
-// The content with all bytes from one place to before another set.
+fn set_at(plain: [u8; PLAIN], i: usize, byte: u8) -> [u8; PLAIN] {
+    let mut p = plain;
+    if i < PLAIN {
+        p[i] = byte;
+    }
+    p
+}
+
+// All bytes from one place to before another set.
 fn spread(plain: [u8; PLAIN], from: usize, to: usize, byte: u8) -> [u8; PLAIN] {
     let mut p = plain;
     let end = words::least(to, PLAIN);
@@ -53,7 +61,7 @@ fn changed_at(d: Dealt, b: Holder, change: Change, i: usize) -> u32
     let plain = d.plain;
     match change {
         Change::Flip => refusal(b, flipped(half, i), 512 * d.blocks),
-        Change::Set(byte) => refusal_of_content(d, b, spread(plain, i, i + 1, byte)),
+        Change::Set(byte) => refusal_of_content(d, b, set_at(plain, i, byte)),
     }
 }
 
@@ -171,7 +179,7 @@ fn mixed(d: Dealt, b: Holder, line: &[u8], out: &mut [u8; ROOM], at: usize) -> u
     if !ok {
         return bad_line(out, at);
     }
-    let e = dealt(fields::half(line, 10));
+    let e = deal(fields::read_half(line, 10));
     mix(d, b, fields::size(w[0]), e, fields::size(w[1]), out, at)
 }
 

@@ -34,7 +34,7 @@ fn not_dealt() -> Dealt
     }
 }
 
-fn dealt_to(h: Half, set: Set) -> Dealt
+fn deal_to(h: Half, set: Set) -> Dealt
     requires { ⌜ h .party < 256 ⌝ }
     requires { ⌜ Proper set ⌝ }
     ensures { λ r. ⌜ r .blocks ≤ 16 ⌝ }
@@ -52,19 +52,19 @@ fn dealt_to(h: Half, set: Set) -> Dealt
     }
 }
 
-fn dealt_in_range(h: Half) -> Dealt
+fn deal_in_range(h: Half) -> Dealt
     requires { ⌜ (h .party ≤ 1) × (h .code < 3) × (1 ≤ h .n) × (h .n ≤ 512) ⌝ }
     ensures { λ r. ⌜ r .blocks ≤ 16 ⌝ }
 {
     let seed = h.seed;
     let sets = dealing::sets(&seed, h.number, h.code, h.n, h.t);
     if h.party == 0 {
-        return dealt_to(h, sets.camera);
+        return deal_to(h, sets.camera);
     }
-    dealt_to(h, sets.office)
+    deal_to(h, sets.office)
 }
 
-pub fn dealt(h: Half) -> Dealt
+pub fn deal(h: Half) -> Dealt
     ensures { λ r. ⌜ r .blocks ≤ 16 ⌝ }
 {
     if !h.ok | !measure::threshold_fits(h.code, h.t) {
@@ -74,7 +74,7 @@ pub fn dealt(h: Half) -> Dealt
         if h.code < 3 {
             if 1 <= h.n {
                 if h.n <= 512 {
-                    return dealt_in_range(h);
+                    return deal_in_range(h);
                 }
             }
         }
@@ -91,12 +91,16 @@ pub fn sealed(key: [u8; 32], number: u64, blocks: usize, plain: [u8; PLAIN]) -> 
     half
 }
 
+// The first `size` bytes, or all.
+pub fn first(half: &[u8], size: usize) -> &[u8] {
+    let n = words::least(size, half.len());
+    &half[..n]
+}
+
 // Why the first `size` bytes are turned down at a box, 0 if they are not.
-pub fn refusal(b: Holder, half: [u8; HALF], size: usize) -> u32
-    requires { ⌜ size ≤ 8704 ⌝ }
-{
+pub fn refusal(b: Holder, half: [u8; HALF], size: usize) -> u32 {
     let key = b.key;
     let name = b.name;
-    let e = half::examine(&key, name, b.party, b.last, &half[..size]);
+    let e = half::examine(&key, name, b.party, b.last, first(&half, size));
     e.why
 }

@@ -32,7 +32,7 @@ pub struct Holder {
 }
 
 // The box whose party, key, name and last number stand at four of a line's fields.
-pub fn holder(line: &[u8], at: &[usize; 4]) -> Holder {
+pub fn read_holder(line: &[u8], at: &[usize; 4]) -> Holder {
     let mut w = [0u32; 1];
     let mut key = [0u8; 32];
     let mut name = [0u8; 16];
@@ -63,7 +63,7 @@ pub struct Half {
 }
 
 // PARTY CODE L T NUMBER SEED KEY NAME, of which PARTY is field `at`.
-pub fn half(line: &[u8], at: usize) -> Half
+pub fn read_half(line: &[u8], at: usize) -> Half
     requires { ⌜ at ≤ 20 ⌝ }
 {
     let mut w = [0u32; 4];

@@ -7,9 +7,7 @@ mod changed;
 mod dealt;
 mod fields;
 
-use changed::Change;
 use dealt::Dealt;
-use dealt::HALF;
 use fields::Holder;
 use script::ROOM;
 
@@ -22,9 +20,7 @@ fn bad_line(out: &mut [u8; ROOM], at: usize) -> usize {
 }
 
 // The tag that stands for long bytes: Poly1305's under the key of bytes 0 to 31.
-fn put_tag(out: &mut [u8; ROOM], at: usize, half: [u8; HALF], size: usize) -> usize
-    requires { ⌜ size ≤ 8704 ⌝ }
-{
+fn put_tag(out: &mut [u8; ROOM], at: usize, bytes: &[u8]) -> usize {
     let key = [
         0,
         1,
@@ -59,13 +55,7 @@ fn put_tag(out: &mut [u8; ROOM], at: usize, half: [u8; HALF], size: usize) -> us
         30,
         31,
     ];
-    script::put_hex(out, at, &poly1305::mac(&key, &half[..size]))
-}
-
-fn put_half(out: &mut [u8; ROOM], at: usize, half: [u8; HALF], size: usize) -> usize
-    requires { ⌜ size ≤ 8704 ⌝ }
-{
-    script::put_hex(out, at, &half[..size])
+    script::put_hex(out, at, &poly1305::mac(&key, bytes))
 }
 
 // again HALF LAST
@@ -76,26 +66,21 @@ fn again(d: Dealt, b: Holder, out: &mut [u8; ROOM], at: usize) -> usize
     let name = b.name;
     let half = d.half;
     let size = 512 * d.blocks;
-    let e = half::examine(&key, name, b.party, b.last, &half[..size]);
+    let e = half::examine(&key, name, b.party, b.last, dealt::first(&half, size));
     if e.why != 0 {
         return script::put_numbers(out, at, &[e.why]);
     }
     let set = e.set;
-    let blocks = content::blocks_of(set.n);
     let plain = content::lay_out(name, b.party, set);
-    put_tag(
-        out,
-        at,
-        dealt::sealed(key, set.number, blocks, plain),
-        512 * blocks,
-    )
+    let half = dealt::sealed(key, set.number, d.blocks, plain);
+    put_tag(out, at, dealt::first(&half, size))
 }
 
 // examine HALF LAST PARTY KEY NAME
 fn examine(d: Dealt, line: &[u8], out: &mut [u8; ROOM], at: usize) -> usize
     requires { ⌜ d .blocks ≤ 16 ⌝ }
 {
-    let b = fields::holder(line, &[10, 11, 12, 9]);
+    let b = fields::read_holder(line, &[10, 11, 12, 9]);
     if !b.ok {
         return bad_line(out, at);
     }
@@ -103,22 +88,11 @@ fn examine(d: Dealt, line: &[u8], out: &mut [u8; ROOM], at: usize) -> usize
     script::put_numbers(out, at, &[dealt::refusal(b, half, 512 * d.blocks)])
 }
 
-fn answer(line: &[u8], out: &mut [u8; ROOM], at: usize) -> usize {
-    let d = dealt::dealt(fields::half(line, 1));
-    if d.blocks == 0 {
-        return bad_line(out, at);
-    }
-    let half = d.half;
-    if script::is_command(line, b"half", 9) {
-        return put_half(out, at, half, 512 * d.blocks);
-    }
-    if script::is_command(line, b"tag", 9) {
-        return put_tag(out, at, half, 512 * d.blocks);
-    }
-    if script::is_command(line, b"examine", 13) {
-        return examine(d, line, out, at);
-    }
-    let b = fields::holder(line, &[1, 7, 8, 9]);
+// The commands that hand the half to a box.
+fn handed(d: Dealt, line: &[u8], out: &mut [u8; ROOM], at: usize) -> usize
+    requires { ⌜ d .blocks ≤ 16 ⌝ }
+{
+    let b = fields::read_holder(line, &[1, 7, 8, 9]);
     if !b.ok {
         return bad_line(out, at);
     }
@@ -128,7 +102,26 @@ fn answer(line: &[u8], out: &mut [u8; ROOM], at: usize) -> usize {
     if script::is_command(line, b"again", 10) {
         return again(d, b, out, at);
     }
+    if script::is_command(line, b"examine", 13) {
+        return examine(d, line, out, at);
+    }
     changed::answer(d, b, line, out, at)
+}
+
+fn answer(line: &[u8], out: &mut [u8; ROOM], at: usize) -> usize {
+    let d = dealt::deal(fields::read_half(line, 1));
+    if d.blocks == 0 {
+        return bad_line(out, at);
+    }
+    let half = d.half;
+    let size = 512 * d.blocks;
+    if script::is_command(line, b"half", 9) {
+        return script::put_hex(out, at, dealt::first(&half, size));
+    }
+    if script::is_command(line, b"tag", 9) {
+        return put_tag(out, at, dealt::first(&half, size));
+    }
+    handed(d, line, out, at)
 }
 
 fn answers(text: &[u8]) {
