@@ -1,6 +1,5 @@
 use borrow.Author.Needs.{needs}
 use Prim.Native.Nat.{_-_}
-use Prim.Native.Nat.{_-_}
 use Rattle.halves.proofs.changed.each.Statement.{statement}
 use Rattle.halves.proofs.changed.each.Tie as tie
 
