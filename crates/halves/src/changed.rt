@@ -1,15 +1,13 @@
-// The commands that change a half or its plain content.
+// Halves that are changed or mixed, and the refusals of these.
 ghost use Prim.Native.Nat.{_≤_};
-use crate::bad_line;
+use crate::dealt;
 use crate::dealt::Dealt;
 use crate::dealt::HALF;
 use crate::dealt::PLAIN;
-use crate::dealt::deal;
-use crate::dealt::refusal;
-use crate::dealt::sealed;
 use crate::fields;
-use crate::fields::Holder;
-use script::ROOM;
+
+// What is answered to a line that asks for something else: no refusal has this number.
+const BAD_LINE: u32 = 99;
 
 // What is done to one byte: a bit of the half's is flipped, or the content's is set before sealing.
 pub enum Change {
@@ -35,6 +33,33 @@ fn set_at(plain: [u8; PLAIN], i: usize, byte: u8) -> [u8; PLAIN] {
     p
 }
 
+fn of_half(d: Dealt, last: u64, half: [u8; HALF]) -> u32
+    requires { ⌜ d .blocks ≤ 16 ⌝ }
+{
+    let b = d.holder;
+    dealt::refusal(b, last, half, 512 * d.blocks)
+}
+
+fn of_content(d: Dealt, last: u64, plain: [u8; PLAIN]) -> u32
+    requires { ⌜ d .blocks ≤ 16 ⌝ }
+{
+    let b = d.holder;
+    let key = b.key;
+    of_half(d, last, dealt::sealed(key, d.number, d.blocks, plain))
+}
+
+// The refusal of the half with one byte changed.
+pub fn at(d: Dealt, last: u64, change: Change, i: usize) -> u32
+    requires { ⌜ d .blocks ≤ 16 ⌝ }
+{
+    let half = d.half;
+    let plain = d.plain;
+    match change {
+        Change::Flip => of_half(d, last, flipped(half, i)),
+        Change::Set(byte) => of_content(d, last, set_at(plain, i, byte)),
+    }
+}
+
 // All bytes from one place to before another set.
 fn spread(plain: [u8; PLAIN], from: usize, to: usize, byte: u8) -> [u8; PLAIN] {
     let mut p = plain;
@@ -45,81 +70,6 @@ fn spread(plain: [u8; PLAIN], from: usize, to: usize, byte: u8) -> [u8; PLAIN] {
         i += 1;
     }
     p
-}
-
-fn refusal_of_content(d: Dealt, b: Holder, plain: [u8; PLAIN]) -> u32
-    requires { ⌜ d .blocks ≤ 16 ⌝ }
-{
-    let key = b.key;
-    refusal(b, sealed(key, d.number, d.blocks, plain), 512 * d.blocks)
-}
-
-fn changed_at(d: Dealt, b: Holder, change: Change, i: usize) -> u32
-    requires { ⌜ d .blocks ≤ 16 ⌝ }
-{
-    let half = d.half;
-    let plain = d.plain;
-    match change {
-        Change::Flip => refusal(b, flipped(half, i), 512 * d.blocks),
-        Change::Set(byte) => refusal_of_content(d, b, set_at(plain, i, byte)),
-    }
-}
-
-// A refusal for each place, with a space between two.
-fn each(
-    d: Dealt,
-    b: Holder,
-    change: Change,
-    from: usize,
-    to: usize,
-    out: &mut [u8; ROOM],
-    at: usize,
-) -> usize
-    requires { ⌜ d .blocks ≤ 16 ⌝ }
-{
-    let mut next = at;
-    let mut i = from;
-    while i < to {
-        if from < i {
-            next = script::put_byte(out, next, b' ');
-        }
-        next = script::put_numbers(out, next, &[changed_at(d, b, change, i)]);
-        i += 1;
-    }
-    next
-}
-
-// flip HALF LAST FROM TO
-fn flip(d: Dealt, b: Holder, line: &[u8], out: &mut [u8; ROOM], at: usize) -> usize
-    requires { ⌜ d .blocks ≤ 16 ⌝ }
-{
-    let mut w = [0u32; 2];
-    let ok = script::read_words(line, b' ', &[10, 11], &mut w);
-    let to = fields::size(w[1]);
-    if !ok | (to > 512 * d.blocks) {
-        return bad_line(out, at);
-    }
-    each(d, b, Change::Flip, fields::size(w[0]), to, out, at)
-}
-
-// content HALF LAST FROM TO BYTE, or spread with the same fields: all the places at once.
-fn content(d: Dealt, b: Holder, all: bool, line: &[u8], out: &mut [u8; ROOM], at: usize) -> usize
-    requires { ⌜ d .blocks ≤ 16 ⌝ }
-{
-    let mut w = [0u32; 3];
-    let ok = script::read_words(line, b' ', &[10, 11, 12], &mut w);
-    let from = fields::size(w[0]);
-    let to = fields::size(w[1]);
-    if !ok | (to > 484 * d.blocks) | (w[2] > 255) {
-        return bad_line(out, at);
-    }
-    let byte = (w[2] % 256) as u8;
-    if all {
-        let plain = d.plain;
-        let p = spread(plain, from, to, byte);
-        return script::put_numbers(out, at, &[refusal_of_content(d, b, p)]);
-    }
-    each(d, b, Change::Set(byte), from, to, out, at)
 }
 
 // A half whose block i is block j of another.
@@ -133,73 +83,81 @@ fn with_block(half: [u8; HALF], i: usize, other: [u8; HALF], j: usize) -> [u8; H
     h
 }
 
-// cut HALF LAST BYTES
-fn cut(d: Dealt, b: Holder, line: &[u8], out: &mut [u8; ROOM], at: usize) -> usize
+// The first bytes of the half, behind which its first block stands again.
+fn cut(d: Dealt, last: u64, size: usize) -> u32
     requires { ⌜ d .blocks ≤ 16 ⌝ }
 {
-    let mut w = [0u32; 1];
-    let ok = script::read_words(line, b' ', &[10], &mut w);
-    if !ok {
-        return bad_line(out, at);
-    }
-    let size = fields::size(w[0]);
     if size > 512 * d.blocks + 512 {
-        return bad_line(out, at);
+        return BAD_LINE;
     }
     let half = d.half;
-    let h = with_block(half, d.blocks, half, 0);
-    script::put_numbers(out, at, &[refusal(b, h, size)])
+    let b = d.holder;
+    let longer = with_block(half, d.blocks, half, 0);
+    dealt::refusal(b, last, longer, size)
 }
 
-// The half is one block longer where i is the count of its blocks.
-fn mix(d: Dealt, b: Holder, i: usize, e: Dealt, j: usize, out: &mut [u8; ROOM], at: usize) -> usize
-    requires { ⌜ (d .blocks ≤ 16) × (e .blocks ≤ 16) ⌝ }
+// The half with its block i replaced by block j of another; it is longer if it has no block i.
+fn mix(d: Dealt, last: u64, i: usize, other: Dealt, j: usize) -> u32
+    requires { ⌜ (d .blocks ≤ 16) × (other .blocks ≤ 16) ⌝ }
 {
     if i > d.blocks {
-        return bad_line(out, at);
+        return BAD_LINE;
     }
-    if j >= e.blocks {
-        return bad_line(out, at);
+    if j >= other.blocks {
+        return BAD_LINE;
     }
     let half = d.half;
-    let other = e.half;
-    let h = with_block(half, i, other, j);
+    let from = other.half;
+    let b = d.holder;
+    let h = with_block(half, i, from, j);
     if i == d.blocks {
-        return script::put_numbers(out, at, &[refusal(b, h, 512 * i + 512)]);
+        return dealt::refusal(b, last, h, 512 * i + 512);
     }
-    script::put_numbers(out, at, &[refusal(b, h, 512 * d.blocks)])
+    dealt::refusal(b, last, h, 512 * d.blocks)
 }
 
 // mixed HALF LAST HALF I J
-fn mixed(d: Dealt, b: Holder, line: &[u8], out: &mut [u8; ROOM], at: usize) -> usize
+fn mixed(d: Dealt, last: u64, line: &[u8]) -> u32
     requires { ⌜ d .blocks ≤ 16 ⌝ }
 {
-    let mut w = [0u32; 2];
-    let ok = script::read_words(line, b' ', &[18, 19], &mut w);
-    if !ok {
-        return bad_line(out, at);
-    }
-    let e = deal(fields::read_half(line, 10));
-    mix(d, b, fields::size(w[0]), e, fields::size(w[1]), out, at)
+    let i = fields::number(line, 18);
+    let j = fields::number(line, 19);
+    mix(d, last, i, dealt::made(line, 10), j)
 }
 
-pub fn answer(d: Dealt, b: Holder, line: &[u8], out: &mut [u8; ROOM], at: usize) -> usize
+// examine HALF LAST PARTY KEY NAME
+fn elsewhere(d: Dealt, last: u64, line: &[u8]) -> u32
     requires { ⌜ d .blocks ≤ 16 ⌝ }
 {
-    if script::is_command(line, b"flip", 12) {
-        return flip(d, b, line, out, at);
+    let b = fields::read_holder(line, 10, 11, 12);
+    if !b.ok {
+        return BAD_LINE;
     }
-    if script::is_command(line, b"cut", 11) {
-        return cut(d, b, line, out, at);
+    let half = d.half;
+    dealt::refusal(b, last, half, 512 * d.blocks)
+}
+
+// The commands that one refusal answers.
+pub fn refusal(d: Dealt, last: u64, line: &[u8]) -> u32
+    requires { ⌜ d .blocks ≤ 16 ⌝ }
+{
+    if script::is_command(line, b"examine", 13) {
+        return elsewhere(d, last, line);
     }
     if script::is_command(line, b"mixed", 20) {
-        return mixed(d, b, line, out, at);
+        return mixed(d, last, line);
     }
-    if script::is_command(line, b"content", 13) {
-        return content(d, b, false, line, out, at);
+    let n = fields::number(line, 10);
+    // cut HALF LAST BYTES
+    if script::is_command(line, b"cut", 11) {
+        return cut(d, last, n);
     }
+    // spread HALF LAST FROM TO BYTE
     if script::is_command(line, b"spread", 13) {
-        return content(d, b, true, line, out, at);
+        let plain = d.plain;
+        let to = fields::number(line, 11);
+        let byte = fields::byte(line, 12);
+        return of_content(d, last, spread(plain, n, to, byte));
     }
-    bad_line(out, at)
+    BAD_LINE
 }

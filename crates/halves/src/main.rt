@@ -1,14 +1,15 @@
 // Answers a script of halves, a line for each line: what is dealt and sealed, and why a half is
 // turned down that is handed to a box whole, changed or mixed. A second implementation made the
 // script, and the output is compared with that implementation's.
-ghost use Prim.Native.Nat.{_<_, _≤_};
+ghost use Prim.Native.Nat.{_≤_};
 
 mod changed;
 mod dealt;
 mod fields;
 
+use changed::Change;
 use dealt::Dealt;
-use fields::Holder;
+use script::Number;
 use script::ROOM;
 
 // One more than the longest script.
@@ -59,57 +60,67 @@ fn put_tag(out: &mut [u8; ROOM], at: usize, bytes: &[u8]) -> usize {
 }
 
 // again HALF LAST
-fn again(d: Dealt, b: Holder, out: &mut [u8; ROOM], at: usize) -> usize
-    requires { ⌜ (d .blocks ≤ 16) × (b .party < 256) ⌝ }
+fn put_again(d: Dealt, last: u64, out: &mut [u8; ROOM], at: usize) -> usize
+    requires { ⌜ (d .blocks ≤ 16) × (d .holder .party ≤ 1) ⌝ }
 {
-    let key = b.key;
-    let name = b.name;
-    let half = d.half;
-    let size = 512 * d.blocks;
-    let e = half::examine(&key, name, b.party, b.last, dealt::first(&half, size));
-    if e.why != 0 {
-        return script::put_numbers(out, at, &[e.why]);
+    let again = dealt::reseal(d, last);
+    if again.why != 0 {
+        return script::put_numbers(out, at, &[again.why]);
     }
-    let set = e.set;
-    let plain = content::lay_out(name, b.party, set);
-    let half = dealt::sealed(key, set.number, d.blocks, plain);
-    put_tag(out, at, dealt::first(&half, size))
+    let half = again.half;
+    put_tag(out, at, dealt::first(&half, 512 * d.blocks))
 }
 
-// examine HALF LAST PARTY KEY NAME
-fn examine(d: Dealt, line: &[u8], out: &mut [u8; ROOM], at: usize) -> usize
+// flip HALF LAST FROM TO, content HALF LAST FROM TO BYTE: a refusal for each place, with a space
+// between two.
+fn put_each(
+    d: Dealt,
+    last: u64,
+    change: Change,
+    from: usize,
+    to: usize,
+    out: &mut [u8; ROOM],
+    at: usize,
+) -> usize
     requires { ⌜ d .blocks ≤ 16 ⌝ }
 {
-    let b = fields::read_holder(line, &[10, 11, 12, 9]);
-    if !b.ok {
-        return bad_line(out, at);
+    let end = words::least(to, dealt::HALF);
+    let mut next = at;
+    let mut i = from;
+    while i < end {
+        if from < i {
+            next = script::put_byte(out, next, b' ');
+        }
+        next = script::put_numbers(out, next, &[changed::at(d, last, change, i)]);
+        i += 1;
     }
-    let half = d.half;
-    script::put_numbers(out, at, &[dealt::refusal(b, half, 512 * d.blocks)])
+    next
 }
 
 // The commands that hand the half to a box.
 fn handed(d: Dealt, line: &[u8], out: &mut [u8; ROOM], at: usize) -> usize
-    requires { ⌜ d .blocks ≤ 16 ⌝ }
+    requires { ⌜ (d .blocks ≤ 16) × (d .holder .party ≤ 1) ⌝ }
 {
-    let b = fields::read_holder(line, &[1, 7, 8, 9]);
-    if !b.ok {
+    let Number::Value(last) = script::read_number(script::field(line, 9)) else {
         return bad_line(out, at);
-    }
-    if b.party > 1 {
-        return bad_line(out, at);
-    }
+    };
     if script::is_command(line, b"again", 10) {
-        return again(d, b, out, at);
+        return put_again(d, last, out, at);
     }
-    if script::is_command(line, b"examine", 13) {
-        return examine(d, line, out, at);
+    let from = fields::number(line, 10);
+    let to = fields::number(line, 11);
+    if script::is_command(line, b"flip", 12) {
+        return put_each(d, last, Change::Flip, from, to, out, at);
     }
-    changed::answer(d, b, line, out, at)
+    let byte = fields::byte(line, 12);
+    if script::is_command(line, b"content", 13) {
+        return put_each(d, last, Change::Set(byte), from, to, out, at);
+    }
+    script::put_numbers(out, at, &[changed::refusal(d, last, line)])
 }
 
 fn answer(line: &[u8], out: &mut [u8; ROOM], at: usize) -> usize {
-    let d = dealt::deal(fields::read_half(line, 1));
+    let d = dealt::made(line, 1);
     if d.blocks == 0 {
         return bad_line(out, at);
     }

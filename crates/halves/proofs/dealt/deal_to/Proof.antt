@@ -11,16 +11,16 @@ slice-aggregate-write-half : tie.Need-slice-aggregate-write-half
 slice-aggregate-write-half c = search needs
 
 write-half-requires : tie.Need-write-half-requires
-write-half-requires c κs = let p = c .before .before .before .before .before .pre .1 in ((c .before .before .before .before .before .pre .0, omega (arith, blocks-bounds _ (p .some) (p .most) .1)), p)
+write-half-requires c κs = let p = c .before .before .before .before .before .pre .1 in ((omega (arith, c .before .before .before .before .before .pre .0), omega (arith, blocks-bounds _ (p .some) (p .most) .1)), p)
 
 lay-out-requires : tie.Need-lay-out-requires
-lay-out-requires c κs = let p = c .before .before .before .before .before .before .before .pre .1 in ((c .before .before .before .before .before .before .before .pre .0, code-byte _ p, p .most), flag-bytes _ p)
+lay-out-requires c κs = let p = c .before .before .before .before .before .before .before .pre .1 in ((omega (arith, c .before .before .before .before .before .before .before .pre .0), code-byte _ p, p .most), flag-bytes _ p)
 
 blocks-of-requires : tie.Need-blocks-of-requires
 blocks-of-requires c κs = search needs
 
 returns : tie.Need-returns
-returns c = let p = c .before .before .before .before .before .before .before .before .before .pre .1 in omega (arith, c .blocks-of .ensures, blocks-bounds _ (p .some) (p .most) .1)
+returns c = let p = c .before .before .before .before .before .before .before .before .before .pre .1 in (omega (arith, c .blocks-of .ensures, blocks-bounds _ (p .some) (p .most) .1), c .before .before .before .before .before .before .before .before .before .pre .0)
 
 pub deal-to-spec : {M : Type 1} → statement M
 deal-to-spec =

@@ -1,13 +1,16 @@
 use borrow.Author.Needs.{needs}
 use Prim.Native.Nat.{_-_}
-use Rattle.halves.proofs.changed.each.Statement.{statement}
-use Rattle.halves.proofs.changed.each.Tie as tie
+use Rattle.halves.proofs.put_each.Statement.{statement}
+use Rattle.halves.proofs.put_each.Tie as tie
 
 abbrev Inv-loop : tie.InvT-loop
-Inv-loop d b change from to out₀ at next₀ i₀ out next i = Unit {0}
+Inv-loop d last change from to out₀ at end next₀ i₀ out next i = Unit {0}
 
 abbrev μ-loop : tie.MeasureT-loop
-μ-loop d b change from to out₀ at next₀ i₀ out next i = to - i
+μ-loop d last change from to out₀ at end next₀ i₀ out next i = end - i
+
+least-requires : tie.Need-least-requires Inv-loop μ-loop
+least-requires c κs = search needs
 
 loop-holds : tie.Need-loop-holds Inv-loop μ-loop
 loop-holds c = search needs
@@ -15,8 +18,8 @@ loop-holds c = search needs
 put-byte-requires : tie.Need-put-byte-requires Inv-loop μ-loop
 put-byte-requires c κs = search needs
 
-changed-at-requires : tie.Need-changed-at-requires Inv-loop μ-loop
-changed-at-requires c κs = search needs
+at-requires : tie.Need-at-requires Inv-loop μ-loop
+at-requires c κs = search needs
 
 slice-aggregate-put-numbers : tie.Need-slice-aggregate-put-numbers Inv-loop μ-loop
 slice-aggregate-put-numbers c = search needs
@@ -36,15 +39,16 @@ loop-again c = search needs
 returns : tie.Need-returns Inv-loop μ-loop
 returns c = search needs
 
-pub each-spec : {M : Type 1} → statement M
-each-spec =
+pub put-each-spec : {M : Type 1} → statement M
+put-each-spec =
     tie.close
     (tie.spec
     Inv-loop
     μ-loop
+    least-requires
     loop-holds
     put-byte-requires
-    changed-at-requires
+    at-requires
     slice-aggregate-put-numbers
     put-numbers-requires
     add-i
