@@ -33,30 +33,30 @@ fn set_at(plain: [u8; PLAIN], i: usize, byte: u8) -> [u8; PLAIN] {
     p
 }
 
-fn of_half(d: Dealt, last: u64, half: [u8; HALF]) -> u32
+fn of_half(d: Dealt, half: [u8; HALF]) -> u32
     requires { ⌜ d .blocks ≤ 16 ⌝ }
 {
     let b = d.holder;
-    dealt::refusal(b, last, half, 512 * d.blocks)
+    dealt::refusal(b, half, 512 * d.blocks)
 }
 
-fn of_content(d: Dealt, last: u64, plain: [u8; PLAIN]) -> u32
+fn of_content(d: Dealt, plain: [u8; PLAIN]) -> u32
     requires { ⌜ d .blocks ≤ 16 ⌝ }
 {
     let b = d.holder;
     let key = b.key;
-    of_half(d, last, dealt::sealed(key, d.number, d.blocks, plain))
+    of_half(d, dealt::sealed(key, d.number, d.blocks, plain))
 }
 
 // The refusal of the half with one byte changed.
-pub fn at(d: Dealt, last: u64, change: Change, i: usize) -> u32
+pub fn at(d: Dealt, change: Change, i: usize) -> u32
     requires { ⌜ d .blocks ≤ 16 ⌝ }
 {
     let half = d.half;
     let plain = d.plain;
     match change {
-        Change::Flip => of_half(d, last, flipped(half, i)),
-        Change::Set(byte) => of_content(d, last, set_at(plain, i, byte)),
+        Change::Flip => of_half(d, flipped(half, i)),
+        Change::Set(byte) => of_content(d, set_at(plain, i, byte)),
     }
 }
 
@@ -73,37 +73,33 @@ fn spread(plain: [u8; PLAIN], from: usize, to: usize, byte: u8) -> [u8; PLAIN] {
 }
 
 // A half whose block i is block j of another.
-fn with_block(half: [u8; HALF], i: usize, other: [u8; HALF], j: usize) -> [u8; HALF]
-    requires { ⌜ (i ≤ 16) × (j ≤ 16) ⌝ }
-{
+fn with_block(half: [u8; HALF], i: usize, other: [u8; HALF], j: usize) -> [u8; HALF] {
     let mut h = half;
-    let from = 512 * j;
-    let end = from + 512;
-    words::copy(&mut h, 512 * i, &other[from..end]);
+    if i <= 16 {
+        if j <= 16 {
+            let from = 512 * j;
+            let end = from + 512;
+            words::copy(&mut h, 512 * i, &other[from..end]);
+        }
+    }
     h
 }
 
-// The first bytes of the half, behind which its first block stands again.
-fn cut(d: Dealt, last: u64, size: usize) -> u32
-    requires { ⌜ d .blocks ≤ 16 ⌝ }
-{
-    if size > 512 * d.blocks + 512 {
-        return BAD_LINE;
-    }
-    let half = d.half;
+// cut HALF LAST BYTES: behind the half its first block stands again.
+fn cut(d: Dealt, size: usize) -> u32 {
     let b = d.holder;
-    let longer = with_block(half, d.blocks, half, 0);
-    dealt::refusal(b, last, longer, size)
+    let half = d.half;
+    dealt::refusal(b, with_block(half, d.blocks, half, 0), size)
 }
 
-// The half with its block i replaced by block j of another; it is longer if it has no block i.
-fn mix(d: Dealt, last: u64, i: usize, other: Dealt, j: usize) -> u32
-    requires { ⌜ (d .blocks ≤ 16) × (other .blocks ≤ 16) ⌝ }
+// mixed HALF LAST HALF I J: the half is longer if it has no block I.
+fn mixed(d: Dealt, line: &[u8]) -> u32
+    requires { ⌜ d .blocks ≤ 16 ⌝ }
 {
-    if i > d.blocks {
-        return BAD_LINE;
-    }
-    if j >= other.blocks {
+    let other = dealt::made(line, 10);
+    let i = fields::number(line, 18);
+    let j = fields::number(line, 19);
+    if (i > d.blocks) | (j >= other.blocks) {
         return BAD_LINE;
     }
     let half = d.half;
@@ -111,53 +107,36 @@ fn mix(d: Dealt, last: u64, i: usize, other: Dealt, j: usize) -> u32
     let b = d.holder;
     let h = with_block(half, i, from, j);
     if i == d.blocks {
-        return dealt::refusal(b, last, h, 512 * i + 512);
+        return dealt::refusal(b, h, 512 * d.blocks + 512);
     }
-    dealt::refusal(b, last, h, 512 * d.blocks)
-}
-
-// mixed HALF LAST HALF I J
-fn mixed(d: Dealt, last: u64, line: &[u8]) -> u32
-    requires { ⌜ d .blocks ≤ 16 ⌝ }
-{
-    let i = fields::number(line, 18);
-    let j = fields::number(line, 19);
-    mix(d, last, i, dealt::made(line, 10), j)
-}
-
-// examine HALF LAST PARTY KEY NAME
-fn elsewhere(d: Dealt, last: u64, line: &[u8]) -> u32
-    requires { ⌜ d .blocks ≤ 16 ⌝ }
-{
-    let b = fields::read_holder(line, 10, 11, 12);
-    if !b.ok {
-        return BAD_LINE;
-    }
-    let half = d.half;
-    dealt::refusal(b, last, half, 512 * d.blocks)
+    dealt::refusal(b, h, 512 * d.blocks)
 }
 
 // The commands that one refusal answers.
-pub fn refusal(d: Dealt, last: u64, line: &[u8]) -> u32
+pub fn refusal(d: Dealt, line: &[u8]) -> u32
     requires { ⌜ d .blocks ≤ 16 ⌝ }
 {
+    if d.blocks == 0 {
+        return BAD_LINE;
+    }
+    // examine HALF LAST PARTY KEY NAME
     if script::is_command(line, b"examine", 13) {
-        return elsewhere(d, last, line);
+        let half = d.half;
+        let b = fields::read_holder(line, 10, 11, 12, 9);
+        return dealt::refusal(b, half, 512 * d.blocks);
+    }
+    if script::is_command(line, b"cut", 11) {
+        return cut(d, fields::number(line, 10));
     }
     if script::is_command(line, b"mixed", 20) {
-        return mixed(d, last, line);
-    }
-    let n = fields::number(line, 10);
-    // cut HALF LAST BYTES
-    if script::is_command(line, b"cut", 11) {
-        return cut(d, last, n);
+        return mixed(d, line);
     }
     // spread HALF LAST FROM TO BYTE
     if script::is_command(line, b"spread", 13) {
         let plain = d.plain;
+        let from = fields::number(line, 10);
         let to = fields::number(line, 11);
-        let byte = fields::byte(line, 12);
-        return of_content(d, last, spread(plain, n, to, byte));
+        return of_content(d, spread(plain, from, to, fields::byte(line, 12)));
     }
     BAD_LINE
 }

@@ -29,10 +29,10 @@ fn nobody() -> Holder
     ensures { λ r. ⌜ r .party ≤ 1 ⌝ }
 {
     Holder {
-        ok: false,
         party: 0,
         key: [0; 32],
         name: [0; 16],
+        last: 0,
     }
 }
 
@@ -83,7 +83,7 @@ fn deal(h: Half) -> Dealt
 {
     let b = h.holder;
     let seed = h.seed;
-    if !h.ok | !measure::threshold_fits(h.code, h.t) {
+    if !measure::threshold_fits(h.code, h.t) {
         return not_dealt();
     }
     if b.party <= 1 {
@@ -98,7 +98,7 @@ fn deal(h: Half) -> Dealt
     not_dealt()
 }
 
-// The half that eight of a line's fields stand for, of which PARTY is field `at`.
+// The half of a line, whose PARTY is field `at`.
 pub fn made(line: &[u8], at: usize) -> Dealt
     requires { ⌜ at ≤ 10 ⌝ }
     ensures { λ r. ⌜ (r .blocks ≤ 16) × (r .holder .party ≤ 1) ⌝ }
@@ -122,10 +122,10 @@ pub fn first(half: &[u8], size: usize) -> &[u8] {
 }
 
 // Why the first `size` bytes are turned down at a box, 0 if they are not.
-pub fn refusal(b: Holder, last: u64, half: [u8; HALF], size: usize) -> u32 {
+pub fn refusal(b: Holder, half: [u8; HALF], size: usize) -> u32 {
     let key = b.key;
     let name = b.name;
-    let e = half::examine(&key, name, b.party, last, first(&half, size));
+    let e = half::examine(&key, name, b.party, b.last, first(&half, size));
     e.why
 }
 
@@ -135,14 +135,14 @@ pub struct Resealed {
     pub half: [u8; HALF],
 }
 
-pub fn reseal(d: Dealt, last: u64) -> Resealed
+pub fn reseal(d: Dealt) -> Resealed
     requires { ⌜ (d .blocks ≤ 16) × (d .holder .party ≤ 1) ⌝ }
 {
     let b = d.holder;
     let key = b.key;
     let name = b.name;
     let half = d.half;
-    let e = half::examine(&key, name, b.party, last, first(&half, 512 * d.blocks));
+    let e = half::examine(&key, name, b.party, b.last, first(&half, 512 * d.blocks));
     if e.why != 0 {
         return Resealed { why: e.why, half };
     }

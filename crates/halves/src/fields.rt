@@ -1,90 +1,81 @@
-// What the fields of a line say.
+// What the fields of a line say. A field that is no number stands for the largest, and one that is
+// no bytes for zeros: a mistake in the script then shows as a difference in the output.
 ghost use Prim.Native.Nat.{_≤_};
 use script::Number;
 use script::Word;
 
-// More than any number that a command takes: what is no number stands for it.
-pub const TOO_MANY: usize = 4294967295;
-
-fn size(w: u32) -> usize {
-    w as usize
+pub fn word(line: &[u8], place: usize) -> u32 {
+    match script::read_word(script::field(line, place)) {
+        Word::Value(w) => w,
+        Word::NotAWord => 4294967295,
+    }
 }
 
-// A number that a command takes.
 pub fn number(line: &[u8], place: usize) -> usize {
-    match script::read_word(script::field(line, place)) {
-        Word::Value(w) => size(w),
-        Word::NotAWord => TOO_MANY,
-    }
+    word(line, place) as usize
 }
 
 pub fn byte(line: &[u8], place: usize) -> u8 {
-    (number(line, place) % 256) as u8
+    (word(line, place) % 256) as u8
 }
 
-// Who a half is for, or whom it is handed to. `ok`: all of it was read.
-pub struct Holder {
-    pub ok: bool,
-    pub party: u32,
-    pub key: [u8; 32],
-    pub name: [u8; 16],
-}
-
-// PARTY, KEY and NAME, at three of a line's fields.
-pub fn read_holder(line: &[u8], party_at: usize, key_at: usize, name_at: usize) -> Holder {
-    let mut w = [0u32; 1];
-    let mut key = [0u8; 32];
-    let mut name = [0u8; 16];
-    let ok = script::read_words(line, b' ', &[party_at], &mut w)
-        & script::fill(script::field(line, key_at), &mut key)
-        & script::fill(script::field(line, name_at), &mut name);
-    Holder {
-        ok,
-        party: w[0],
-        key,
-        name,
+fn set_number(line: &[u8], place: usize) -> u64 {
+    match script::read_number(script::field(line, place)) {
+        Number::Value(n) => n,
+        Number::NotANumber => 18446744073709551615,
     }
 }
 
-// What a half is made from. `ok`: all of it was read.
+fn bytes_32(line: &[u8], place: usize) -> [u8; 32] {
+    let mut b = [0u8; 32];
+    script::fill(script::field(line, place), &mut b);
+    b
+}
+
+fn bytes_16(line: &[u8], place: usize) -> [u8; 16] {
+    let mut b = [0u8; 16];
+    script::fill(script::field(line, place), &mut b);
+    b
+}
+
+// A box.
+pub struct Holder {
+    pub party: u32,
+    pub key: [u8; 32],
+    pub name: [u8; 16],
+    pub last: u64,
+}
+
+// The box whose party, key, name and last number stand at these places of a line.
+pub fn read_holder(line: &[u8], party: usize, key: usize, name: usize, last: usize) -> Holder {
+    Holder {
+        party: word(line, party),
+        key: bytes_32(line, key),
+        name: bytes_16(line, name),
+        last: set_number(line, last),
+    }
+}
+
+// What a half is made from, and the box that it is for.
 pub struct Half {
-    pub ok: bool,
-    pub holder: Holder,
     pub code: u32,
     pub n: usize,
     pub t: u32,
     pub number: u64,
     pub seed: [u8; 32],
+    pub holder: Holder,
 }
 
-// CODE, L, T, NUMBER and SEED, of which CODE is field `at`.
-fn read_set(line: &[u8], holder: Holder, at: usize) -> Half
-    requires { ⌜ at ≤ 20 ⌝ }
-{
-    let mut w = [0u32; 3];
-    let mut seed = [0u8; 32];
-    let mut number: u64 = 0;
-    let ok = script::read_words(line, b' ', &[at, at + 1, at + 2], &mut w)
-        & script::fill(script::field(line, at + 4), &mut seed);
-    let mut ok = ok & holder.ok;
-    match script::read_number(script::field(line, at + 3)) {
-        Number::Value(n) => number = n,
-        Number::NotANumber => ok = false,
-    }
-    Half {
-        ok,
-        holder,
-        code: w[0],
-        n: size(w[1]),
-        t: w[2],
-        number,
-        seed,
-    }
-}
-
-// PARTY CODE L T NUMBER SEED KEY NAME, of which PARTY is field `at`.
+// PARTY CODE L T NUMBER SEED KEY NAME LAST, of which PARTY is field `at`.
 pub fn read_half(line: &[u8], at: usize) -> Half
     requires { ⌜ at ≤ 10 ⌝ }
 {
-    read_set(line, read_holder(line, at, at + 6, at + 7), at + 1)
+    Half {
+        code: word(line, at + 1),
+        n: number(line, at + 2),
+        t: word(line, at + 3),
+        number: set_number(line, at + 4),
+        seed: bytes_32(line, at + 5),
+        holder: read_holder(line, at, at + 6, at + 7, at + 8),
+    }
 }

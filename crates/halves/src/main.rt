@@ -9,16 +9,10 @@ mod fields;
 
 use changed::Change;
 use dealt::Dealt;
-use script::Number;
 use script::ROOM;
 
 // One more than the longest script.
 const SIZE: usize = 65537;
-
-// So that a mistake shows as a difference in the output.
-fn bad_line(out: &mut [u8; ROOM], at: usize) -> usize {
-    script::put_text(out, at, b"bad line")
-}
 
 // The tag that stands for long bytes: Poly1305's under the key of bytes 0 to 31.
 fn put_tag(out: &mut [u8; ROOM], at: usize, bytes: &[u8]) -> usize {
@@ -60,10 +54,10 @@ fn put_tag(out: &mut [u8; ROOM], at: usize, bytes: &[u8]) -> usize {
 }
 
 // again HALF LAST
-fn put_again(d: Dealt, last: u64, out: &mut [u8; ROOM], at: usize) -> usize
+fn put_again(d: Dealt, out: &mut [u8; ROOM], at: usize) -> usize
     requires { ⌜ (d .blocks ≤ 16) × (d .holder .party ≤ 1) ⌝ }
 {
-    let again = dealt::reseal(d, last);
+    let again = dealt::reseal(d);
     if again.why != 0 {
         return script::put_numbers(out, at, &[again.why]);
     }
@@ -75,7 +69,6 @@ fn put_again(d: Dealt, last: u64, out: &mut [u8; ROOM], at: usize) -> usize
 // between two.
 fn put_each(
     d: Dealt,
-    last: u64,
     change: Change,
     from: usize,
     to: usize,
@@ -91,48 +84,55 @@ fn put_each(
         if from < i {
             next = script::put_byte(out, next, b' ');
         }
-        next = script::put_numbers(out, next, &[changed::at(d, last, change, i)]);
+        next = script::put_numbers(out, next, &[changed::at(d, change, i)]);
         i += 1;
     }
     next
 }
 
-// The commands that hand the half to a box.
-fn handed(d: Dealt, line: &[u8], out: &mut [u8; ROOM], at: usize) -> usize
-    requires { ⌜ (d .blocks ≤ 16) × (d .holder .party ≤ 1) ⌝ }
-{
-    let Number::Value(last) = script::read_number(script::field(line, 9)) else {
-        return bad_line(out, at);
-    };
+enum Kind {
+    Whole,
+    Tag,
+    Again,
+    Each(Change),
+    One,
+}
+
+// How a line is answered: by a half, a tag, the tag of a half that is sealed again, a refusal for
+// each place, or one refusal.
+fn kind_of(line: &[u8]) -> Kind {
+    if script::is_command(line, b"half", 9) {
+        return Kind::Whole;
+    }
+    if script::is_command(line, b"tag", 9) {
+        return Kind::Tag;
+    }
     if script::is_command(line, b"again", 10) {
-        return put_again(d, last, out, at);
+        return Kind::Again;
     }
-    let from = fields::number(line, 10);
-    let to = fields::number(line, 11);
     if script::is_command(line, b"flip", 12) {
-        return put_each(d, last, Change::Flip, from, to, out, at);
+        return Kind::Each(Change::Flip);
     }
-    let byte = fields::byte(line, 12);
     if script::is_command(line, b"content", 13) {
-        return put_each(d, last, Change::Set(byte), from, to, out, at);
+        return Kind::Each(Change::Set(fields::byte(line, 12)));
     }
-    script::put_numbers(out, at, &[changed::refusal(d, last, line)])
+    Kind::One
 }
 
 fn answer(line: &[u8], out: &mut [u8; ROOM], at: usize) -> usize {
     let d = dealt::made(line, 1);
-    if d.blocks == 0 {
-        return bad_line(out, at);
-    }
     let half = d.half;
     let size = 512 * d.blocks;
-    if script::is_command(line, b"half", 9) {
-        return script::put_hex(out, at, dealt::first(&half, size));
+    match kind_of(line) {
+        Kind::Whole => script::put_hex(out, at, dealt::first(&half, size)),
+        Kind::Tag => put_tag(out, at, dealt::first(&half, size)),
+        Kind::Again => put_again(d, out, at),
+        Kind::Each(change) => {
+            let from = fields::number(line, 10);
+            put_each(d, change, from, fields::number(line, 11), out, at)
+        }
+        Kind::One => script::put_numbers(out, at, &[changed::refusal(d, line)]),
     }
-    if script::is_command(line, b"tag", 9) {
-        return put_tag(out, at, dealt::first(&half, size));
-    }
-    handed(d, line, out, at)
 }
 
 fn answers(text: &[u8]) {
