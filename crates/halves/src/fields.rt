@@ -4,6 +4,57 @@ ghost use Prim.Native.Nat.{_≤_};
 use script::Number;
 use script::Word;
 
+// half HALF
+// tag HALF
+// again HALF LAST
+// examine HALF LAST PARTY KEY NAME
+// flip HALF LAST FROM TO
+// cut HALF LAST BYTES
+// mixed HALF LAST HALF I J
+// content HALF LAST FROM TO BYTE
+// spread HALF LAST FROM TO BYTE
+// where HALF is PARTY CODE L T NUMBER SEED KEY NAME.
+pub enum Command {
+    Half,
+    Tag,
+    Again,
+    Examine,
+    Flip,
+    Cut,
+    Mixed,
+    Content,
+    Spread,
+    None,
+}
+
+// The first letter tells, but for two of which one has more fields.
+fn command_from(letter: u8, fields: usize) -> Command {
+    match letter {
+        b'h' => Command::Half,
+        b't' => Command::Tag,
+        b'a' => Command::Again,
+        b'e' => Command::Examine,
+        b'f' => Command::Flip,
+        b'm' => Command::Mixed,
+        b's' => Command::Spread,
+        b'c' => {
+            if fields == 11 {
+                Command::Cut
+            } else {
+                Command::Content
+            }
+        }
+        _ => Command::None,
+    }
+}
+
+pub fn command_of(line: &[u8]) -> Command {
+    if line.len() == 0 {
+        return Command::None;
+    }
+    command_from(line[0], script::part_count(line, b' '))
+}
+
 pub fn word(line: &[u8], place: usize) -> u32 {
     match script::read_word(script::field(line, place)) {
         Word::Value(w) => w,

@@ -7,8 +7,9 @@ mod changed;
 mod dealt;
 mod fields;
 
-use changed::Change;
 use dealt::Dealt;
+use dealt::HALF;
+use fields::Command;
 use script::ROOM;
 
 // One more than the longest script.
@@ -53,7 +54,20 @@ fn put_tag(out: &mut [u8; ROOM], at: usize, bytes: &[u8]) -> usize {
     script::put_hex(out, at, &poly1305::mac(&key, bytes))
 }
 
-// again HALF LAST
+fn put_half(d: Dealt, out: &mut [u8; ROOM], at: usize) -> usize
+    requires { ⌜ d .blocks ≤ 16 ⌝ }
+{
+    let half = d.half;
+    script::put_hex(out, at, dealt::first(&half, 512 * d.blocks))
+}
+
+// What is sealed again has as many blocks.
+fn put_tag_of(half: [u8; HALF], blocks: usize, out: &mut [u8; ROOM], at: usize) -> usize
+    requires { ⌜ blocks ≤ 16 ⌝ }
+{
+    put_tag(out, at, dealt::first(&half, 512 * blocks))
+}
+
 fn put_again(d: Dealt, out: &mut [u8; ROOM], at: usize) -> usize
     requires { ⌜ (d .blocks ≤ 16) × (d .holder .party ≤ 1) ⌝ }
 {
@@ -62,14 +76,14 @@ fn put_again(d: Dealt, out: &mut [u8; ROOM], at: usize) -> usize
         return script::put_numbers(out, at, &[again.why]);
     }
     let half = again.half;
-    put_tag(out, at, dealt::first(&half, 512 * d.blocks))
+    put_tag_of(half, d.blocks, out, at)
 }
 
-// flip HALF LAST FROM TO, content HALF LAST FROM TO BYTE: a refusal for each place, with a space
-// between two.
+// A refusal for each place, with a space between two.
 fn put_each(
     d: Dealt,
-    change: Change,
+    c: Command,
+    byte: u8,
     from: usize,
     to: usize,
     out: &mut [u8; ROOM],
@@ -77,62 +91,45 @@ fn put_each(
 ) -> usize
     requires { ⌜ d .blocks ≤ 16 ⌝ }
 {
-    let end = words::least(to, dealt::HALF);
+    let end = words::least(to, HALF);
     let mut next = at;
     let mut i = from;
     while i < end {
         if from < i {
             next = script::put_byte(out, next, b' ');
         }
-        next = script::put_numbers(out, next, &[changed::at(d, change, i)]);
+        next = script::put_numbers(out, next, &[changed::at(d, c, byte, i)]);
         i += 1;
     }
     next
 }
 
-enum Kind {
-    Whole,
-    Tag,
-    Again,
-    Each(Change),
-    One,
+fn put_places(d: Dealt, c: Command, line: &[u8], out: &mut [u8; ROOM], at: usize) -> usize
+    requires { ⌜ d .blocks ≤ 16 ⌝ }
+{
+    let byte = fields::byte(line, 12);
+    let from = fields::number(line, 10);
+    let to = fields::number(line, 11);
+    put_each(d, c, byte, from, to, out, at)
 }
 
-// How a line is answered: by a half, a tag, the tag of a half that is sealed again, a refusal for
-// each place, or one refusal.
-fn kind_of(line: &[u8]) -> Kind {
-    if script::is_command(line, b"half", 9) {
-        return Kind::Whole;
+fn put_answer(d: Dealt, c: Command, line: &[u8], out: &mut [u8; ROOM], at: usize) -> usize
+    requires { ⌜ (d .blocks ≤ 16) × (d .holder .party ≤ 1) ⌝ }
+{
+    let half = d.half;
+    match c {
+        Command::Half => put_half(d, out, at),
+        Command::Tag => put_tag_of(half, d.blocks, out, at),
+        Command::Again => put_again(d, out, at),
+        Command::Flip => put_places(d, c, line, out, at),
+        Command::Content => put_places(d, c, line, out, at),
+        _ => script::put_numbers(out, at, &[changed::refusal(d, c, line)]),
     }
-    if script::is_command(line, b"tag", 9) {
-        return Kind::Tag;
-    }
-    if script::is_command(line, b"again", 10) {
-        return Kind::Again;
-    }
-    if script::is_command(line, b"flip", 12) {
-        return Kind::Each(Change::Flip);
-    }
-    if script::is_command(line, b"content", 13) {
-        return Kind::Each(Change::Set(fields::byte(line, 12)));
-    }
-    Kind::One
 }
 
 fn answer(line: &[u8], out: &mut [u8; ROOM], at: usize) -> usize {
-    let d = dealt::made(line, 1);
-    let half = d.half;
-    let size = 512 * d.blocks;
-    match kind_of(line) {
-        Kind::Whole => script::put_hex(out, at, dealt::first(&half, size)),
-        Kind::Tag => put_tag(out, at, dealt::first(&half, size)),
-        Kind::Again => put_again(d, out, at),
-        Kind::Each(change) => {
-            let from = fields::number(line, 10);
-            put_each(d, change, from, fields::number(line, 11), out, at)
-        }
-        Kind::One => script::put_numbers(out, at, &[changed::refusal(d, line)]),
-    }
+    let c = fields::command_of(line);
+    put_answer(dealt::made(line, 1), c, line, out, at)
 }
 
 fn answers(text: &[u8]) {

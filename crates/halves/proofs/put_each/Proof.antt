@@ -4,10 +4,10 @@ use Rattle.halves.proofs.put_each.Statement.{statement}
 use Rattle.halves.proofs.put_each.Tie as tie
 
 abbrev Inv-loop : tie.InvT-loop
-Inv-loop d change from to out₀ at end next₀ i₀ out next i = Unit {0}
+Inv-loop d c byte from to out₀ at end next₀ i₀ out next i = Unit {0}
 
 abbrev μ-loop : tie.MeasureT-loop
-μ-loop d change from to out₀ at end next₀ i₀ out next i = end - i
+μ-loop d c byte from to out₀ at end next₀ i₀ out next i = end - i
 
 least-requires : tie.Need-least-requires Inv-loop μ-loop
 least-requires c κs = search needs
