@@ -40,7 +40,7 @@ fn write_block(key: &[u8; 32], number: u64, i: u32, text: &[u8], out: &mut [u8])
 }
 
 // The first `count` blocks of plain content p, from the start of out.
-fn write_blocks(key: &[u8; 32], number: u64, count: usize, p: &[u8], out: &mut [u8])
+pub fn write_blocks(key: &[u8; 32], number: u64, count: usize, p: &[u8], out: &mut [u8])
     requires { ⌜ (count ≤ 16) × (484 * count ≤ length (now p)) × (512 * count ≤ length (now out)) ⌝ }
     ensures { λ _. ⌜ now (out .exit) ≡ over 0 (firstBlocks (now (key .entry)) number (now (p .entry)) count) (now (out .entry)) ⌝ }
 {

@@ -1,0 +1,61 @@
+-- A dealt set can be sealed, and an opened one laid out again. Assumes nothing.
+use mathlib.Core.Path.{_≡_, refl, sym, ap, _∙_, subst}
+use mathlib.Core.Bool.{Bool, true, _&&_}
+use mathlib.Core.List.{List, [], _∷_}
+use lib.Dec.{eqb, leb, ltb}
+use lib.ListN.{getD, drop}
+use Prim.Native.Nat.{ℕ, zero, suc, _^_, _<_, _≤_}
+use native.Mathlib.Omega.{arith}
+use borrow.Author.Tests.{lt-ltb, ltb-true, leb-true}
+use Rattle.words.specs.List.{same}
+use Rattle.node.specs.declared.Correction.{Correction}
+use Rattle.measure.specs.Measure.{isCode}
+use Rattle.measure.specs.Order.{both-left, both-right}
+use Rattle.messages.specs.Laws.{unless-none, taken}
+use Rattle.content.specs.declared.Set.{Set}
+use Rattle.content.specs.Content.{size, blocks, field, setIn, noSet, lengthFits, flagsFit, zeros, contentFits, FlagBytes, Proper}
+use Rattle.dealing.specs.Dealing.{dealtSet}
+use Rattle.dealing.specs.Laws.{proper}
+use Rattle.half.specs.declared.Examined.{Examined}
+use Rattle.half.specs.Half.{whyNot, whyNotOpened, openedSet}
+use Rattle.half.specs.Examined.{answerFor, examined}
+
+pub dealt-proper : (seed : List ℕ) (number code n t party : ℕ) (s : Set) → s ≡ dealtSet seed number code n t party → number < 2 ^ 64 → code < 3 → 1 ≤ n → n ≤ 512 → party ≤ 1 → Proper s
+unfolding isCode
+dealt-proper seed number code n t party s e hnumber hcode some most hparty =
+    subst Proper (sym e) (proper seed number code n t party hnumber (lt-ltb code 3 hcode) some most hparty)
+
+-- ---- what laying a set out asks of it
+
+abbrev pub Laid : Set → Type 0
+Laid s = (s .code < 256) × (s .n ≤ 512) × FlagBytes (s .key .corrections)
+
+flag-bytes : (cs : List Correction) → flagsFit cs ≡ true → FlagBytes cs
+unfolding flagsFit FlagBytes
+flag-bytes [] h i l = absurd (omega arith)
+flag-bytes (c ∷ cs) h zero l = omega (arith, ltb-true (c .flags) 4 (both-left (ltb (c .flags) 4) (flagsFit cs) h))
+flag-bytes (c ∷ cs) h (suc i) l = flag-bytes cs (both-right (ltb (c .flags) 4) (flagsFit cs) h) i (omega arith)
+
+fits-laid : (name : List ℕ) (party count number : ℕ) (b : List ℕ) → contentFits name party count b ≡ true → Laid (setIn number b)
+unfolding contentFits setIn isCode lengthFits
+fits-laid name party count number b h =
+    let s : Set = setIn number b in
+    let t = tests (same (field b 0) name) (eqb (getD (field b 1) 0 0) party) (isCode (s .code)) (lengthFits (s .n)) (eqb (blocks (s .n)) count) (flagsFit (s .key .corrections)) (zeros (drop (size (s .n)) b)) h in
+    (omega (arith, ltb-true (s .code) 3 (t .0)), leb-true (s .n) 512 (both-right (leb 1 (s .n)) (leb (s .n) 512) (t .1)), flag-bytes (s .key .corrections) (t .2))
+  where
+    tests : (a b c d e f g : Bool) → a && (b && (c && (d && (e && (f && g))))) ≡ true → (c ≡ true) × (d ≡ true) × (f ≡ true)
+    tests a b c d e f g h =
+        let coded : c && (d && (e && (f && g))) ≡ true = both-right b _ (both-right a _ h) in
+        let long : d && (e && (f && g)) ≡ true = both-right c _ coded in
+        (both-left c _ coded, both-left d _ long, both-left f g (both-right e _ (both-right d _ long)))
+
+pub opened-laid : (key name : List ℕ) (party last : ℕ) (h : List ℕ) (e : Examined) → e ≡ examined key name party last h → e .why ≡ 0 → Laid (e .set)
+unfolding examined answerFor whyNot whyNotOpened openedSet
+opened-laid key name party last h e same none =
+    let why : whyNot key name party last h ≡ 0 = ap (λ (x : Examined). x .why) (sym same) ∙ none in
+    let whole = unless-none _ 4 _ (λ z. omega arith) why in
+    let above = unless-none _ 7 _ (λ z. omega arith) (whole .1) in
+    let fit = unless-none _ 10 _ (λ z. omega arith) (above .1) in
+    let content = unless-none _ 11 _ (λ z. omega arith) (fit .1) in
+    let opened = ap (λ (x : Examined). x .set) same ∙ sym (taken (openedSet key h) noSet refl why) in
+    subst Laid (sym opened) (fits-laid name party _ _ _ (content .0))

@@ -1,0 +1,158 @@
+// Answers a script of halves, a line for each line: what is dealt and sealed, and why a half is
+// turned down that is handed to a box whole, changed or mixed. A second implementation made the
+// script, and the output is compared with that implementation's.
+ghost use Prim.Native.Nat.{_≤_};
+
+mod changed;
+mod dealt;
+mod fields;
+
+use dealt::Dealt;
+use dealt::HALF;
+use fields::Command;
+use script::ROOM;
+
+// One more than the longest script.
+const SIZE: usize = 65537;
+
+// The tag that stands for long bytes: Poly1305's under the key of bytes 0 to 31.
+fn put_tag(out: &mut [u8; ROOM], at: usize, bytes: &[u8]) -> usize {
+    let key = [
+        0,
+        1,
+        2,
+        3,
+        4,
+        5,
+        6,
+        7,
+        8,
+        9,
+        10,
+        11,
+        12,
+        13,
+        14,
+        15,
+        16,
+        17,
+        18,
+        19,
+        20,
+        21,
+        22,
+        23,
+        24,
+        25,
+        26,
+        27,
+        28,
+        29,
+        30,
+        31,
+    ];
+    script::put_hex(out, at, &poly1305::mac(&key, bytes))
+}
+
+fn put_half(d: Dealt, out: &mut [u8; ROOM], at: usize) -> usize
+    requires { ⌜ d .blocks ≤ 16 ⌝ }
+{
+    let half = d.half;
+    script::put_hex(out, at, dealt::first(&half, 512 * d.blocks))
+}
+
+// What is sealed again has as many blocks.
+fn put_tag_of(half: [u8; HALF], blocks: usize, out: &mut [u8; ROOM], at: usize) -> usize
+    requires { ⌜ blocks ≤ 16 ⌝ }
+{
+    put_tag(out, at, dealt::first(&half, 512 * blocks))
+}
+
+fn put_again(d: Dealt, out: &mut [u8; ROOM], at: usize) -> usize
+    requires { ⌜ (d .blocks ≤ 16) × (d .holder .party ≤ 1) ⌝ }
+{
+    let again = dealt::reseal(d);
+    if again.why != 0 {
+        return script::put_numbers(out, at, &[again.why]);
+    }
+    let half = again.half;
+    put_tag_of(half, d.blocks, out, at)
+}
+
+// A refusal for each place, with a space between two.
+fn put_each(
+    d: Dealt,
+    c: Command,
+    byte: u8,
+    from: usize,
+    to: usize,
+    out: &mut [u8; ROOM],
+    at: usize,
+) -> usize
+    requires { ⌜ d .blocks ≤ 16 ⌝ }
+{
+    let end = words::least(to, HALF);
+    let mut next = at;
+    let mut i = from;
+    while i < end {
+        if from < i {
+            next = script::put_byte(out, next, b' ');
+        }
+        next = script::put_numbers(out, next, &[changed::at(d, c, byte, i)]);
+        i += 1;
+    }
+    next
+}
+
+fn put_places(d: Dealt, c: Command, line: &[u8], out: &mut [u8; ROOM], at: usize) -> usize
+    requires { ⌜ d .blocks ≤ 16 ⌝ }
+{
+    let byte = fields::byte(line, 12);
+    let from = fields::number(line, 10);
+    let to = fields::number(line, 11);
+    put_each(d, c, byte, from, to, out, at)
+}
+
+fn put_answer(d: Dealt, c: Command, line: &[u8], out: &mut [u8; ROOM], at: usize) -> usize
+    requires { ⌜ (d .blocks ≤ 16) × (d .holder .party ≤ 1) ⌝ }
+{
+    let half = d.half;
+    match c {
+        Command::Half => put_half(d, out, at),
+        Command::Tag => put_tag_of(half, d.blocks, out, at),
+        Command::Again => put_again(d, out, at),
+        Command::Flip => put_places(d, c, line, out, at),
+        Command::Content => put_places(d, c, line, out, at),
+        _ => script::put_numbers(out, at, &[changed::refusal(d, c, line)]),
+    }
+}
+
+fn answer(line: &[u8], out: &mut [u8; ROOM], at: usize) -> usize {
+    let c = fields::command_of(line);
+    put_answer(dealt::made(line, 1), c, line, out, at)
+}
+
+fn answers(text: &[u8]) {
+    let mut out = [0u8; ROOM];
+    let mut at: usize = 0;
+    let mut from: usize = 0;
+    while from < text.len() {
+        let line = script::next_line(text, from);
+        let start = line.start;
+        let end = line.end;
+        at = answer(&text[start..end], &mut out, at);
+        at = script::put_byte(&mut out, at, b'\n');
+        from = line.next;
+    }
+    script::flush(&out, at);
+}
+
+fn main() {
+    let mut text = [0u8; SIZE];
+    let n = io::read_full(0, &mut text);
+    if n == SIZE {
+        io::write_all(1, b"script too long\n");
+        return;
+    }
+    answers(&text[..n]);
+}
