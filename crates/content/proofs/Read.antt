@@ -12,13 +12,12 @@ use Rattle.node.specs.declared.Correction.{Correction}
 use Rattle.node.specs.Node.{none}
 use Rattle.content.specs.declared.Set.{Set}
 use Rattle.content.specs.Content.{part, fill, widths, lengthIn, field, correctionIn, correctionsIn, setIn}
-use Rattle.content.specs.Pieces.{offset, cut-at, drop-replicate, getD-part, wordAt-part, wordsAt-part}
+use Rattle.content.specs.Laws.{fill-rest}
+use Rattle.content.specs.Pieces.{offset, cut-at, getD-part, wordAt-part, wordsAt-part}
 
 pub vector-law : (f w z : List ℕ) (n : ℕ) → n ≤ 512 → z ≡ replicate 512 0 → w ≡ tab (λ i. wordAt f (4 * i)) n ++ drop n z → w ≡ fill (wordsAt n f)
-unfolding fill wordsAt
-vector-law f w z n h ez e =
-    let l : length (tab (λ i. wordAt f (4 * i)) n) ≡ n = length-tab (λ i. wordAt f (4 * i)) n in
-    e ∙ ap (λ (r : List ℕ). tab (λ i. wordAt f (4 * i)) n ++ r) (ap (drop n) ez ∙ drop-replicate n 512 h ∙ ap (λ (k : ℕ). replicate (512 - k) 0) (sym l))
+unfolding wordsAt
+vector-law f w z n h ez e = e ∙ fill-rest _ z n (length-tab (λ i. wordAt f (4 * i)) n) h ez
 
 -- a correction, from its own 37 bytes
 pub correction-in-law : (f seed : List ℕ) (i word flags : ℕ) → seed ≡ wordsAt 8 (take (37 * i + 32 - 37 * i) (drop (37 * i) f)) → word ≡ wordAt f (37 * i + 32) → flags ≡ getD f (37 * i + 36) 0

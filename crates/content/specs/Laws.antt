@@ -1,22 +1,23 @@
 -- A set that was laid out is read back, and its plain content fits. Assumes nothing.
 use mathlib.Core.Path.{_≡_, refl, sym, ap, ap₂, _∙_, subst}
-use mathlib.Core.Bool.{Bool, true, false, _&&_}
+use mathlib.Core.Bool.{true, _&&_}
 use mathlib.Core.List.{List, [], _∷_, _++_, map, append-nil}
 use Prim.Native.Nat.{ℕ, zero, suc, _+_, _*_, _-_, _^_, _<_, _≤_}
 use native.Mathlib.Omega.{arith}
-use borrow.Author.Tests.{eq-eqb, eqb-true, eqb-false, le-leb, leb-true, lt-ltb, ltb-true}
-use lib.Dec.{eqb, leb}
+use borrow.Author.Tests.{eq-eqb, eqb-true, le-leb, leb-true, lt-ltb, ltb-true}
+use lib.Dec.{eqb}
 use lib.ListN.{length, getD, take, drop, replicate, length-append, length-replicate, length-map}
 use lib.Seq.{take-at, drop-at, take-suc, take-all, getD-take, getD-drop, take-append-add}
-use Rattle.words.specs.List.{same, same-refl}
+use Rattle.words.specs.List.{over, same, same-refl}
 use Rattle.words.specs.Bytes.{le32, bytesOf, wordAt, wordsAt, length-bytesOf}
 use Rattle.lanes.specs.Lanes.{flat}
 use Rattle.poly1305.specs.Poly1305.{bytes, number}
 use Rattle.node.specs.declared.Correction.{Correction}
 use Rattle.measure.specs.Measure.{isCode}
+use Rattle.measure.specs.Order.{both}
 use Rattle.content.specs.declared.Set.{Set}
 use Rattle.content.specs.Content.{part, fill, correctionBytes, fields, widths, size, blocks, plain, cut, lengthIn, field, correctionIn, correctionsIn, setIn, noCorrection, lengthFits, flagsFit, zeros, contentFits, Words, Filled, Corrections, FlagBytes, Proper}
-use Rattle.content.specs.Pieces.{offset, length-flat, cut-flat, cut-at, part-flat, take-replicate, wordAt-past, getD-past, length-even, wordsAt-bytesOf, words-back, wordAt-le32}
+use Rattle.content.specs.Pieces.{offset, length-flat, cut-flat, cut-at, part-flat, take-replicate, drop-replicate, over-zeros, wordAt-past, getD-past, length-even, wordsAt-bytesOf, words-back, wordAt-le32}
 
 -- ---- sizes
 
@@ -28,7 +29,23 @@ pub size-le : (n : ℕ) → size n ≤ 484 * blocks n
 unfolding blocks size
 size-le n = omega arith
 
+pub length-fits : (n : ℕ) → lengthFits n ≡ true → (1 ≤ n) × (n ≤ 512)
+unfolding lengthFits
+length-fits n h =
+    let parts = both _ _ h in
+    (leb-true _ _ (parts .0), leb-true _ _ (parts .1))
+
 -- ---- an array of n words
+
+-- n words and the rest of an array of zeros ..
+pub fill-rest : (l a : List ℕ) (n : ℕ) → length l ≡ n → n ≤ 512 → a ≡ replicate 512 0 → l ++ drop n a ≡ fill l
+unfolding fill
+fill-rest l a n e h ea = ap (λ (r : List ℕ). l ++ r) (ap (drop n) ea ∙ drop-replicate n 512 h ∙ ap (λ (k : ℕ). replicate (512 - k) 0) (sym e))
+
+-- .. and written over its start
+pub fill-over : (l a : List ℕ) (n : ℕ) → length l ≡ n → n ≤ 512 → a ≡ replicate 512 0 → over 0 l a ≡ fill l
+unfolding fill
+fill-over l a n e h ea = over-zeros l a (length l) 512 refl (omega arith) ea
 
 pub take-fill : (n : ℕ) (a l : List ℕ) → length l ≡ n → a ≡ fill l → take n a ≡ l
 unfolding fill
@@ -82,14 +99,6 @@ module _ (cs : List Correction) (fit : Corrections cs) where
       ap₂ (λ (p : List Correction) (c : Correction). p ++ (c ∷ [])) (corrections-back k (omega arith)) (correction-back (getD cs k noCorrection) (flat (map correctionBytes cs)) k at (fit k l .0) (fit k l .1)) ∙ sym (take-suc cs k noCorrection l)
 
 -- ---- what contentFits asks
-
-both-left : (a b : Bool) → a && b ≡ true → a ≡ true
-both-left true b h = refl
-both-left false b h = h
-
-both-right : (a b : Bool) → a && b ≡ true → b ≡ true
-both-right true b h = h
-both-right false b h = absurd (eqb-false 0 0 (sym h) refl)
 
 flags-fit : (cs : List Correction) → Corrections cs → flagsFit cs ≡ true
 unfolding flagsFit Corrections
@@ -227,17 +236,19 @@ pub flag-bytes : (s : Set) → Proper s → FlagBytes (s .key .corrections)
 unfolding FlagBytes Corrections
 flag-bytes s p i h = omega (arith, p .corrections-fit i h .2)
 
+-- where content fits, its L does, and as many blocks as that asks for were opened
+pub fits-length : (name : List ℕ) (party count : ℕ) (b : List ℕ) → contentFits name party count b ≡ true → (lengthFits (lengthIn b) ≡ true) × (blocks (lengthIn b) ≡ count)
+unfolding contentFits setIn
+fits-length name party count b h =
+    let named = both (same (field b 0) name) _ h in
+    let owned = both (eqb (getD (field b 1) 0 0) party) _ (named .1) in
+    let coded = both (isCode (getD (field b 2) 0 0)) _ (owned .1) in
+    let range = both (lengthFits (lengthIn b)) _ (coded .1) in
+    (range .0, eqb-true (blocks (lengthIn b)) count (both (eqb (blocks (lengthIn b)) count) _ (range .1) .0))
+
 -- read_set asks of content what contentFits says of it
 pub fits-reads : (name : List ℕ) (party count : ℕ) (b : List ℕ) → contentFits name party count b ≡ true → length b ≡ 484 * count
     → (lengthIn b ≤ 512) × (size (lengthIn b) ≤ length b)
-unfolding contentFits setIn lengthFits
 fits-reads name party count b h l =
-    let rest = flagsFit (correctionsIn (field b 10) 32) && zeros (drop (size (lengthIn b)) b) in
-    let many = eqb (blocks (lengthIn b)) count in
-    let range = leb 1 (lengthIn b) && leb (lengthIn b) 512 in
-    let code = isCode (getD (field b 2) 0 0) in
-    let owned = eqb (getD (field b 1) 0 0) party in
-    let tests : range && (many && rest) ≡ true = both-right code (range && (many && rest)) (both-right owned (code && (range && (many && rest))) (both-right (same (field b 0) name) (owned && (code && (range && (many && rest)))) h)) in
-    let most = leb-true (lengthIn b) 512 (both-right (leb 1 (lengthIn b)) (leb (lengthIn b) 512) (both-left range (many && rest) tests)) in
-    let count = eqb-true (blocks (lengthIn b)) count (both-left many rest (both-right range (many && rest) tests)) in
-    (most, omega (arith, size-le (lengthIn b)))
+    let fits = fits-length name party count b h in
+    (length-fits (lengthIn b) (fits .0) .1, omega (arith, fits .1, size-le (lengthIn b)))

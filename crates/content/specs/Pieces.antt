@@ -1,11 +1,11 @@
 -- Lists cut in pieces of given widths, and words read back from their bytes. Assumes nothing.
-use mathlib.Core.Path.{_≡_, refl, sym, ap, _∙_, subst}
+use mathlib.Core.Path.{_≡_, refl, sym, ap, ap₂, _∙_, subst}
 use mathlib.Core.List.{List, [], _∷_, _++_, map, append-assoc, append-nil}
 use Prim.Native.Nat.{ℕ, zero, suc, _+_, _*_, _-_, _^_, _<_, _≤_}
 use native.Mathlib.Omega.{arith}
-use lib.ListN.{length, getD, take, drop, length-append, length-replicate, List·getD-append, replicate, replicate-append-replicate}
-use lib.Seq.{take-append-seam, drop-append-seam, drop-drop, getD-append-add, getD-take, getD-drop, take-at, drop-at}
-use Rattle.words.specs.List.{tab, tab-ext, tab-getD}
+use lib.ListN.{length, getD, take, drop, length-append, length-drop, length-replicate, List·getD-append, replicate, replicate-append-replicate}
+use lib.Seq.{take-append-seam, drop-append-seam, drop-drop, getD-append-add, getD-take, getD-drop, take-at, drop-at, length-take-le}
+use Rattle.words.specs.List.{over, over-eq, tab, tab-ext, tab-getD}
 use Rattle.words.specs.Bytes.{le32, bytesOf, wordAt, wordsAt, length-bytesOf, wordAt-bytesOf}
 use Rattle.lanes.specs.Lanes.{flat}
 use Rattle.content.specs.Content.{part, cut, Words}
@@ -15,6 +15,15 @@ pub getD-any {ℓ} : {A : Type ℓ} (l : List A) (i : ℕ) (d e : A) → i < len
 getD-any [] i d e h = absurd (omega arith)
 getD-any (x ∷ l) zero d e h = refl
 getD-any (x ∷ l) (suc i) d e h = getD-any l i d e (omega arith)
+
+-- a part, as it is cut
+pub part-is : (at n : ℕ) (l : List ℕ) → take n (drop at l) ≡ part at n l
+unfolding part
+part-is at n l = refl
+
+pub length-part : (l : List ℕ) (at n : ℕ) → at + n ≤ length l → length (part at n l) ≡ n
+unfolding part
+length-part l at n h = length-take-le n (drop at l) (omega (arith, length-drop at l))
 
 -- ---- pieces
 
@@ -77,6 +86,13 @@ pub drop-replicate : (k m : ℕ) → k ≤ m → drop k (replicate m 0) ≡ repl
 drop-replicate k m h =
     let e : k + (m - k) ≡ m = omega arith in
     ap (drop k) (sym (replicate-append-replicate k (m - k) 0 ∙ ap (λ (i : ℕ). replicate i 0) e)) ∙ drop-at (replicate k 0) (replicate (m - k) 0) k (length-replicate k 0)
+
+-- what is written over the start of zeros
+pub over-zeros : (p z : List ℕ) (k n : ℕ) → length p ≡ k → k ≤ n → z ≡ replicate n 0 → over 0 p z ≡ p ++ replicate (n - k) 0
+over-zeros p z k n l h e =
+    let lz : length z ≡ n = ap length e ∙ length-replicate n 0 in
+    let at : 0 + length p ≡ k = omega arith in
+    over-eq p z 0 (omega arith) ∙ ap (λ (l : List ℕ). p ++ l) (ap₂ drop at e ∙ drop-replicate k n h)
 
 -- ---- words and their bytes
 

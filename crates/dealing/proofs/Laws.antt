@@ -1,14 +1,14 @@
 -- What the functions of this crate come to, over plain numbers and lists. Assumes nothing.
 use mathlib.Core.Path.{_≡_, sym, ap, ap₂, _∙_}
 use mathlib.Core.List.{List, [], _∷_, _++_}
-use Prim.Native.Nat.{ℕ, zero, suc, _+_, _-_, _*_, _<_, _≤_}
-use native.Mathlib.Nat.{mul-le-mul-right, sub-zero, zero-sub, suc-sub-suc}
+use Prim.Native.Nat.{ℕ, _+_, _-_, _*_, _<_, _≤_}
+use native.Mathlib.Nat.{mul-le-mul-right}
 use native.Mathlib.Numerals.{add-one}
 use native.Mathlib.Omega.{arith}
 use lib.ListN.{length, getD, take, drop, set, replicate, length-drop}
 use lib.Seq.{length-take-le, take-suc, take-suc-set, take-all, take-at, getD-drop, getD-take}
 use Rattle.algebra.specs.Word.{add}
-use Rattle.words.specs.List.{over, over-eq, length-tab, tab-ext}
+use Rattle.words.specs.List.{over, length-tab, tab-ext}
 use Rattle.words.specs.Bytes.{wordsAt}
 use Rattle.keystream.specs.Keystream.{stream}
 use Rattle.node.specs.declared.Key.{Key}
@@ -16,6 +16,8 @@ use Rattle.node.specs.Node.{keyFor}
 use Rattle.share.specs.Share.{plus, otherC, otherR}
 use Rattle.content.specs.declared.Set.{Set}
 use Rattle.content.specs.Content.{part, fill}
+use Rattle.content.specs.Laws.{fill-rest, fill-over}
+use Rattle.content.specs.Pieces.{length-part}
 use Rattle.dealing.specs.Dealing.{setWords, x, y, c0, r, r0, keySeed, maskX, maskY, ownMask, cOf, rOf, setFrom}
 use Rattle.dealing.specs.Laws.{other-c-fill}
 
@@ -38,27 +40,15 @@ copy-done w out before at i size done e = sym (take-all i out (omega arith)) ∙
 abbrev pub zeros : ℕ → List ℕ
 zeros k = replicate k 0
 
-drop-zeros : (n k : ℕ) → drop n (zeros k) ≡ zeros (k - n)
-drop-zeros zero k = rw (sub-zero k)
-drop-zeros (suc n) zero = rw (zero-sub (suc n))
-drop-zeros (suc n) (suc k) = rw (suc-sub-suc k n) (drop-zeros n k)
-
--- a list of n words and the array's rest
-filled : (p a : List ℕ) (n : ℕ) → length p ≡ n → a ≡ zeros 512 → p ++ drop n a ≡ fill p
-unfolding fill
-filled p a n long ea = ap (λ (l : List ℕ). p ++ l) (ap (drop n) ea ∙ drop-zeros n 512 ∙ ap (λ (k : ℕ). zeros (512 - k)) (sym long))
-
 pub room : (w : List ℕ) (at n : ℕ) → n ≤ 512 → at + n ≤ length w → at + length (take n (zeros 512)) ≤ length w
 room w at n most fits = omega (arith, length-take-le n (zeros 512) most)
 
 pub words-law : (w a out : List ℕ) (at n : ℕ) → a ≡ zeros 512 → n ≤ 512 → at + n ≤ length w → out ≡ part at (length (take n a)) w
     → out ++ drop n a ≡ fill (part at n w)
-unfolding part
 words-law w a out at n ea most fits e =
     let size : length (take n a) ≡ n = length-take-le n a (omega (arith, ap length ea)) in
     let is : out ≡ part at n w = e ∙ ap (λ (k : ℕ). part at k w) size in
-    let long : length (part at n w) ≡ n = length-take-le n (drop at w) (omega (arith, length-drop at w)) in
-    ap (λ (l : List ℕ). l ++ drop n a) is ∙ filled (part at n w) a n long ea
+    ap (λ (l : List ℕ). l ++ drop n a) is ∙ fill-rest (part at n w) a n (length-part w at n fits) most ea
 
 -- a sum of vectors asks for its own places only, however far the slices reach
 pub mask-law : (w a out : List ℕ) (at n : ℕ) → a ≡ zeros 512 → n ≤ 512 → at + 2 * n ≤ length w
@@ -68,9 +58,7 @@ mask-law w a out at n ea most fits e =
     let p : List ℕ = plus n (part at n w) (part (at + n) n w) in
     let same : plus n (take (length w - at) (drop at w)) (take (length w - (at + n)) (drop (at + n) w)) ≡ p =
     tab-ext _ _ n (λ i h. ap₂ add (front (drop at w) (length w - at) i h (omega arith)) (front (drop (at + n) w) (length w - (at + n)) i h (omega arith))) in
-    let long : length p ≡ n = length-tab _ n in
-    let past : 0 + length p ≡ n = omega arith in
-    e ∙ ap (λ (q : List ℕ). over 0 q a) same ∙ over-eq p a 0 (omega (arith, ap length ea)) ∙ ap (λ (k : ℕ). p ++ drop k a) past ∙ filled p a n long ea
+    e ∙ ap (λ (q : List ℕ). over 0 q a) same ∙ fill-over p a n (length-tab _ n) most ea
   where
     front : (l : List ℕ) (k i : ℕ) → i < n → n ≤ k → getD (take k l) i 0 ≡ getD (take n l) i 0
     front l k i h more = getD-take k l i 0 (omega arith) ∙ sym (getD-take n l i 0 h)

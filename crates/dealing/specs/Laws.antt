@@ -7,8 +7,8 @@ use Prim.Native.Nat.{ℕ, zero, suc, _+_, _-_, _*_, _^_, _<_, _≤_}
 use native.Mathlib.Nat.{mul-le-mul-right}
 use native.Mathlib.Omega.{arith}
 use lib.Dec.{eqb}
-use lib.ListN.{length, getD, drop, replicate, length-drop}
-use lib.Seq.{length-take-le, getD-drop}
+use lib.ListN.{length, getD, drop, replicate}
+use lib.Seq.{getD-drop}
 use Rattle.algebra.specs.Word.{add, sub, mul, signed, add-lt, sub-lt}
 use Rattle.algebra.specs.Bit.{only, odd}
 use Rattle.algebra.specs.Sum.{sum-ext}
@@ -22,6 +22,7 @@ use Rattle.share.specs.Share.{plus, inner, otherC, otherR, share, word, answer}
 use Rattle.share.specs.Claims.{join-law}
 use Rattle.content.specs.declared.Set.{Set}
 use Rattle.content.specs.Content.{part, fill, noCorrection, Words, Filled, Corrections, Proper}
+use Rattle.content.specs.Pieces.{length-part}
 use Rattle.dealing.specs.Dealing.{setWords, x, y, c0, r, r0, keySeed, maskX, maskY, ownMask, cOf, rOf, setFrom, dealtSet}
 
 -- ---- words
@@ -51,7 +52,7 @@ pub part-words : (at n : ℕ) (w : List ℕ) → at + n ≤ length w → Below w
 unfolding part
 part-words at n w fits h =
     record {
-      long = length-take-le n (drop at w) (omega (arith, length-drop at w));
+      long = length-part w at n fits;
       below = take-below n (drop at w) (λ i. rw (getD-drop at w i 0) (h (at + i)));
     }
 

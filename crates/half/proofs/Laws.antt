@@ -1,6 +1,6 @@
 -- What the code of sealing and opening blocks comes to. Assumes nothing.
 use mathlib.Core.Path.{_≡_, refl, sym, ap, ap₂, _∙_}
-use mathlib.Core.Bool.{Bool, true, false, _&&_, true≢false}
+use mathlib.Core.Bool.{Bool, true, _&&_}
 use mathlib.Core.List.{List, [], _∷_, _++_, append-assoc, append-nil}
 use Prim.Native.Nat.{ℕ, zero, suc, _+_, _*_, _-_, _/_, _%_, _^_, _≤_}
 use native.Mathlib.Omega.{arith}
@@ -17,11 +17,13 @@ use Rattle.aead.specs.declared.Sealed.{Sealed}
 use Rattle.aead.specs.Aead.{cipher, tagFor, within, sealed, sealedText, opens, openedText as openedTextOf}
 use Rattle.aead.specs.Claims.{length-cipher}
 use Rattle.lanes.specs.Lanes.{flat}
+use Rattle.measure.specs.Order.{both}
 use Rattle.content.specs.declared.Set.{Set}
 use Rattle.content.specs.Content.{part, fields, size, blocks, Proper}
 use Rattle.content.specs.Laws.{blocks-bounds, take-laid}
+use Rattle.content.specs.Pieces.{part-is, length-part}
 use Rattle.half.specs.Half.{header, block, firstBlocks, half, setNumber, blockFits, firstFit, blockAt, openedText}
-use Rattle.half.specs.Laws.{part-front, length-tag, length-block, length-blocks, length-part}
+use Rattle.half.specs.Laws.{part-front, length-tag, length-block, length-blocks}
 
 pub header-law : (a i : ℕ) (out t : List ℕ) → length out ≡ 12 → t ≡ over 0 (bytesOf (a % 2 ^ 32 ∷ a / 2 ^ 32 ∷ i ∷ [])) out → t ≡ header a i
 unfolding bytesOf le32 header
@@ -138,11 +140,6 @@ module _ (key name : List ℕ) (party : ℕ) (s : Set) (named : length name ≡ 
 
 -- ---- opening
 
-last-true : (a b c : Bool) → a && (b && c) ≡ true → c ≡ true
-last-true true true c h = h
-last-true true false c h = absurd (true≢false (sym h))
-last-true false b c h = absurd (true≢false (sym h))
-
 pub load-law : (b : List ℕ) (x y : ℕ) → 8 ≤ length b → x ≡ wordAt b 0 → y ≡ wordAt b 4 → x + y * 2 ^ 32 ≡ setNumber b
 unfolding setNumber part
 load-law b x y h e f = (λ i. e i + f i * 2 ^ 32) ∙ sym (number-words b 0 h)
@@ -168,20 +165,8 @@ module _ (key b out0 n t o z : List ℕ) (set i x s : ℕ) (r : Bool) (lb : leng
     pub open-text : r ≡ opens key n n o t → z ≡ openedTextOf key n n o t → eqb x i && (eqb s set && r) ≡ true → z ≡ cipher key (part 0 12 b) (part 12 484 b)
     unfolding openedTextOf
     open-text er ez ok =
-        let opens-so : opens key n n o t ≡ true = sym er ∙ last-true (eqb x i) (eqb s set) r ok in
+        let opens-so : opens key n n o t ≡ true = sym er ∙ both (eqb s set) r (both (eqb x i) _ ok .1) .1 in
         ez ∙ rw opens-so (ap₂ (cipher key) nonce-is text-part)
-
-pub and-left : (a b : Bool) → a && b ≡ true → a ≡ true
-and-left true b e = refl
-and-left false b e = absurd (true≢false (sym e))
-
-pub and-right : (a b : Bool) → a && b ≡ true → b ≡ true
-and-right true b e = e
-and-right false b e = absurd (true≢false (sym e))
-
-part-is : (at n : ℕ) (l : List ℕ) → take n (drop at l) ≡ part at n l
-unfolding part
-part-is at n l = refl
 
 length-opened : (key h : List ℕ) (i : ℕ) → 512 * i ≤ length h → length (openedText key h i) ≡ 484 * i
 unfolding openedText blockAt
@@ -203,9 +188,10 @@ module _ (key h out0 out b : List ℕ) (set i k m : ℕ) (fit this : Bool) (es :
   unfolding openedText blockAt
   opened-more em lh lo lb f g ok =
       let block : List ℕ = part (512 * i) 512 h in
-      let e = f (and-left fit this ok) in
+      let fits = both fit this ok in
+      let e = f (fits .0) in
       let is : b ≡ cipher key (part 0 12 block) (part 12 484 block) =
-      g (and-right fit this ok) ∙ ap (λ (n : ℕ). cipher key (part 0 12 (take n (drop (512 * i) h))) (part 12 484 (take n (drop (512 * i) h)))) ek ∙ unfolded in
+      g (fits .1) ∙ ap (λ (n : ℕ). cipher key (part 0 12 (take n (drop (512 * i) h))) (part 12 484 (take n (drop (512 * i) h)))) ek ∙ unfolded in
       rw (add-one i)
       (over-next (openedText key h i) (cipher key (part 0 12 block) (part 12 484 block)) out0 out (putMid (484 * i) m out b) 0 (484 * i) (length-opened key h i (omega arith)) e
       (put-over (484 * i) m out b (lb ∙ sym em) (omega arith) ∙ ap₂ (λ (n : ℕ) (l : List ℕ). over n l out) (omega arith) is))

@@ -7,6 +7,7 @@ use native.Mathlib.Omega.{arith}
 use borrow.Author.Tests.{not-false, leb-true}
 use lib.Dec.{eqb, leb, ltb}
 use lib.ListN.{length}
+use Rattle.measure.specs.Order.{both}
 use Rattle.messages.specs.Laws as Refusals
 use Rattle.messages.specs.Laws.{turned-down, goes-on}
 use Rattle.content.specs.declared.Set.{Set}
@@ -15,7 +16,6 @@ use Rattle.content.specs.Laws.{fits-reads}
 use Rattle.half.specs.declared.Examined.{Examined}
 use Rattle.half.specs.Half.{setNumber, firstFit, openedText, wholeBlocks, whyNotOpened, whyNot, openedSet}
 use Rattle.half.specs.Examined.{refused, answerFor, examined}
-use Rattle.half.proofs.Laws.{and-left, and-right}
 
 -- an answer that refuses, and one that does not
 refused-as : (why k : ℕ) (key h : List ℕ) (r : Examined) → r ≡ refused k → k ≡ why → (k ≡ 0 → ⊥) → r ≡ answerFor why key h
@@ -57,8 +57,8 @@ module _ (key name h : List ℕ) (party last : ℕ) (whole : Bool) (ew : whole �
   module _ (left : not whole ≡ false) where
     pub some-blocks : (3 ≤ length h / 512) × (length h / 512 ≤ 16)
     some-blocks =
-        let b = and-right (eqb (length h % 512) 0) (leb 3 (length h / 512) && leb (length h / 512) 16) (sym ew ∙ not-false whole left) in
-        (leb-true 3 (length h / 512) (and-left (leb 3 (length h / 512)) (leb (length h / 512) 16) b), leb-true (length h / 512) 16 (and-right (leb 3 (length h / 512)) (leb (length h / 512) 16) b))
+        let b = both (leb 3 (length h / 512)) _ (both (eqb (length h % 512) 0) _ (sym ew ∙ not-false whole left) .1) in
+        (leb-true 3 (length h / 512) (b .0), leb-true (length h / 512) 16 (b .1))
 
     module _ (number : ℕ) (en : number ≡ setNumber h) where
       pub examined-7 : (r : Examined) → not (ltb last number) ≡ true → r ≡ refused 7 → r ≡ examined key name party last h

@@ -1,43 +1,24 @@
 -- Claim half: the half that a deal writes for a party is taken there and opens to the dealt set; and of any whole blocks that some deals of distinct numbers wrote for that
 -- party, only one deal's whole half is taken. A deal is its set here. Assumes nothing.
 use mathlib.Core.Path.{_≡_, refl, sym, ap, ap₂, _∙_, subst}
-use mathlib.Core.Bool.{Bool, true, false, _&&_, true≢false}
+use mathlib.Core.Bool.{Bool, true, false, _&&_}
 use mathlib.Core.List.{List, _++_}
 use Prim.Native.Nat.{ℕ, zero, suc, _+_, _*_, _-_, _/_, _%_, _^_, _<_, _≤_}
 use native.Mathlib.Omega.{arith}
 use borrow.Author.Tests.{eq-eqb, eqb-true, leb-true, le-leb, lt-ltb, ltb-true, ltb-false}
 use lib.Dec.{eqb, leb, ltb}
-use lib.ListN.{length, getD, take, drop}
+use lib.ListN.{length, take}
 use lib.Seq.{take-all, take-take, take-add}
-use Rattle.words.specs.List.{same}
 use Rattle.poly1305.specs.Poly1305.{number}
-use Rattle.measure.specs.Measure.{isCode}
+use Rattle.measure.specs.Order.{both}
 use Rattle.messages.specs.Messages.{unless}
-use Rattle.messages.specs.Laws.{unless-none}
+use Rattle.messages.specs.Laws.{passed}
 use Rattle.content.specs.declared.Set.{Set}
-use Rattle.content.specs.Content.{part, size, blocks, plain, field, setIn, correctionsIn, lengthIn, lengthFits, flagsFit, zeros, contentFits, Proper}
-use Rattle.content.specs.Laws.{blocks-bounds, length-plain, lengthIn-plain, lengthIn-take, setIn-plain, fits-plain}
+use Rattle.content.specs.Content.{part, blocks, plain, lengthIn, contentFits, Proper}
+use Rattle.content.specs.Pieces.{part-is, length-part}
+use Rattle.content.specs.Laws.{fits-length, blocks-bounds, length-plain, lengthIn-plain, lengthIn-take, setIn-plain, fits-plain}
 use Rattle.half.specs.Half.{block, firstBlocks, half, blockAt, setNumber, blockFits, firstFit, openedText, wholeBlocks, whyNotOpened, whyNot, openedSet}
-use Rattle.half.specs.Laws.{length-part, length-blocks, block-at, set-of-block, index-of-block, are-fit, are-opened}
-
-and-parts : (a b : Bool) → a && b ≡ true → (a ≡ true) × (b ≡ true)
-and-parts true b h = (refl, h)
-and-parts false b h = absurd (true≢false (sym h))
-
-part-is : (at n : ℕ) (l : List ℕ) → take n (drop at l) ≡ part at n l
-unfolding part
-part-is at n l = refl
-
--- content that fits has as many blocks as its L asks
-fits-count : (name : List ℕ) (party count : ℕ) (b : List ℕ) → contentFits name party count b ≡ true → blocks (lengthIn b) ≡ count
-unfolding contentFits setIn
-fits-count name party count b e =
-    eqb-true (blocks (lengthIn b)) count
-    (fifth (same (field b 0) name) (eqb (getD (field b 1) 0 0) party) (isCode (getD (field b 2) 0 0)) (lengthFits (lengthIn b)) (eqb (blocks (lengthIn b)) count)
-    (flagsFit (correctionsIn (field b 10) 32) && zeros (drop (size (lengthIn b)) b)) e)
-  where
-    fifth : (a b c d e f : Bool) → a && (b && (c && (d && (e && f)))) ≡ true → e ≡ true
-    fifth a b c d e f h = and-parts e f (and-parts d (e && f) (and-parts c _ (and-parts b _ (and-parts a _ h .1) .1) .1) .1) .0
+use Rattle.half.specs.Laws.{length-blocks, block-at, set-of-block, index-of-block, are-fit, are-opened}
 
 -- ---- a set's own half
 
@@ -115,19 +96,19 @@ module _ (key name : List ℕ) (party : ℕ) (named : length name ≡ 16) where
   taken : (last : ℕ) (h : List ℕ) → whyNot key name party last h ≡ 0 → Taken h
   unfolding whyNot whyNotOpened wholeBlocks
   taken last h e =
-      let w = unless-none (wholeBlocks h) 4 _ (λ z. omega arith) e in
-      let n = unless-none (ltb last (setNumber h)) 7 _ (λ z. omega arith) (w .1) in
-      let f = unless-none (firstFit key h (length h / 512)) 10 _ (λ z. omega arith) (n .1) in
-      let c = unless-none (contentFits name party (length h / 512) (openedText key h (length h / 512))) 11 _ (λ z. omega arith) (f .1) in
-      let a = and-parts (eqb (length h % 512) 0) (leb 3 (length h / 512) && leb (length h / 512) 16) (w .0) in
-      let b = and-parts (leb 3 (length h / 512)) (leb (length h / 512) 16) (a .1) in
+      let w = passed _ e in
+      let n = passed _ (w .1) in
+      let f = passed _ (n .1) in
+      let c = passed _ (f .1) in
+      let a = both (eqb (length h % 512) 0) (leb 3 (length h / 512) && leb (length h / 512) 16) (w .0) in
+      let b = both (leb 3 (length h / 512)) (leb (length h / 512) 16) (a .1) in
       record { whole = omega (arith, eqb-true (length h % 512) 0 (a .0)); three = leb-true 3 (length h / 512) (b .0); fit = f .0; content = c .0 }
 
   -- block i of those that fit
   fits-at : (h : List ℕ) (k i : ℕ) → firstFit key h k ≡ true → i < k → blockFits key (setNumber h) i (blockAt h i) ≡ true
   unfolding firstFit
   fits-at h zero i e l = absurd (omega arith)
-  fits-at h (suc k) i e l = last-or (ltb i k) refl (and-parts (firstFit key h k) (blockFits key (setNumber h) k (blockAt h k)) e) (λ e l. fits-at h k i e l)
+  fits-at h (suc k) i e l = last-or (ltb i k) refl (both (firstFit key h k) (blockFits key (setNumber h) k (blockAt h k)) e) (λ e l. fits-at h k i e l)
     where
       last-or : (t : Bool) → ltb i k ≡ t → (firstFit key h k ≡ true) × (blockFits key (setNumber h) k (blockAt h k) ≡ true)
           → (firstFit key h k ≡ true → i < k → blockFits key (setNumber h) i (blockAt h i) ≡ true) → blockFits key (setNumber h) i (blockAt h i) ≡ true
@@ -165,8 +146,8 @@ module _ (key name : List ℕ) (party : ℕ) (named : length name ≡ 16) where
           let k = w .place in
           let text = plain name party s in
           let fits = fits-at h (length h / 512) i (t .fit) l in
-          let a = and-parts (eqb (number (part 8 4 (blockAt h i))) i) _ fits in
-          let b = and-parts (eqb (number (part 0 8 (blockAt h i))) (setNumber h)) _ (a .1) in
+          let a = both (eqb (number (part 8 4 (blockAt h i))) i) _ fits in
+          let b = both (eqb (number (part 0 8 (blockAt h i))) (setNumber h)) _ (a .1) in
           let whole : 484 * k + 484 ≤ length text = omega (arith, length-plain name party s named p, w .among) in
           let at : blockAt h i ≡ block key (s .number) k (part (484 * k) 484 text) = w .is ∙ are s p k (w .among) in
           let size = length-part text (484 * k) 484 whole in
@@ -202,7 +183,7 @@ module _ (key name : List ℕ) (party : ℕ) (named : length name ≡ 16) where
           let enough : 484 * k ≤ length text = omega (arith, length-plain name party deal named proper) in
           let opened : openedText key h k ≡ take (484 * k) text = are-opened key (deal .number) text h k enough (λ i l. all-its i l .1) in
           let n : lengthIn (openedText key h k) ≡ deal .n = ap lengthIn opened ∙ lengthIn-take (484 * k) text (omega (arith, t .three)) ∙ lengthIn-plain name party deal named proper in
-          let e = fits-count name party k (openedText key h k) (t .content) in
+          let e = fits-length name party k (openedText key h k) (t .content) .1 in
           sym (sym (ap blocks n) ∙ e)
 
       is-its : h ≡ half key name party deal

@@ -2,18 +2,19 @@
 use mathlib.Core.Path.{_≡_, refl, sym, ap, _∙_}
 use mathlib.Core.Bool.{Bool, true, false}
 use mathlib.Core.List.{List, _++_}
-use Prim.Native.Nat.{ℕ, zero, suc, _+_, _*_, _-_, _^_, _<_, _≤_}
+use Prim.Native.Nat.{ℕ, zero, suc, _+_, _*_, _^_, _<_, _≤_}
 use native.Mathlib.Omega.{arith}
 use borrow.Author.Tests.{eq-eqb, ltb-true, ltb-false}
 use lib.Dec.{ltb}
 use lib.ListN.{length, take, drop, length-append, length-drop}
-use lib.Seq.{take-append-le, drop-append-le, drop-append-add, length-take-le, take-all, take-add}
+use lib.Seq.{take-append-le, drop-append-le, drop-append-add, take-all, take-add}
 use Rattle.poly1305.specs.Poly1305.{bytes, number}
 use Rattle.poly1305.specs.Laws.{length-bytes, length-mac}
 use Rattle.poly1305.specs.Numbers.{number-four, number-eight}
 use Rattle.aead.specs.Aead.{cipher, tagFor, opens, polyKey, macData}
 use Rattle.aead.specs.Claims.{length-cipher, opens-if, cipher-twice}
 use Rattle.content.specs.Content.{part}
+use Rattle.content.specs.Pieces.{length-part}
 use Rattle.half.specs.Half.{header, block, firstBlocks, blockAt, blockFits, firstFit, setNumber, openedText}
 
 -- ---- parts of a list made of two
@@ -30,10 +31,6 @@ part-back a b k at n e = ap (λ (i : ℕ). take n (drop i (a ++ b))) e ∙ ap (t
 pub part-all : (a : List ℕ) (n : ℕ) → length a ≡ n → part 0 n a ≡ a
 unfolding part
 part-all a n e = take-all n a (omega arith)
-
-pub length-part : (a : List ℕ) (at n : ℕ) → at + n ≤ length a → length (part at n a) ≡ n
-unfolding part
-length-part a at n h = length-take-le n (drop at a) (omega (arith, length-drop at a))
 
 -- ---- a block
 

@@ -5,9 +5,9 @@ use Prim.Native.Nat.{ℕ, _+_, _*_, _-_, _<_, _≤_}
 use native.Mathlib.Nat.{zero-add}
 use native.Mathlib.Numerals.{add-one}
 use native.Mathlib.Omega.{arith}
-use lib.ListN.{length, getD, take, drop, replicate, length-append, length-replicate}
+use lib.ListN.{length, getD, take, replicate, length-append}
 use lib.Seq.{take-suc, take-all, length-take-le}
-use Rattle.words.specs.List.{over, over-next, over-all, over-eq}
+use Rattle.words.specs.List.{over, over-next, over-all}
 use Rattle.words.specs.Bytes.{le32, bytesOf, length-bytesOf}
 use Rattle.lanes.specs.Lanes.{flat}
 use Rattle.poly1305.specs.Poly1305.{bytes}
@@ -15,7 +15,7 @@ use Rattle.node.specs.declared.Correction.{Correction}
 use Rattle.node.specs.Node.{none}
 use Rattle.content.specs.declared.Set.{Set}
 use Rattle.content.specs.Content.{correctionBytes, fields, size, noCorrection, FlagBytes}
-use Rattle.content.specs.Pieces.{getD-any, flat-append, drop-replicate}
+use Rattle.content.specs.Pieces.{getD-any, flat-append, over-zeros}
 
 -- one piece more
 pub next : (p q s t u : List ℕ) (at : ℕ) → length p ≡ at → t ≡ over 0 p s → u ≡ over at q t → u ≡ over 0 (p ++ q) s
@@ -80,13 +80,6 @@ five a b c d e z t₁ t₂ t₃ t₄ u o₁ o₂ o₃ o₄ l₁ l₂ l₃ l₄ e
     let k₄ : length four ≡ o₄ = length-append three d ∙ omega arith in
     next four e z t₄ u o₄ k₄ (next three d z t₃ t₄ o₃ k₃ (next two c z t₂ t₃ o₂ k₂ (next a b z t₁ t₂ o₁ l₁ e₁ e₂) e₃) e₄) e₅
     ∙ ap (λ (l : List ℕ). over 0 l z) (append-assoc three d e ∙ append-assoc two c (d ++ e) ∙ append-assoc a b (c ++ (d ++ e)))
-
--- what is written over the start of zeros
-pub over-zeros : (p z : List ℕ) (k n : ℕ) → length p ≡ k → k ≤ n → z ≡ replicate n 0 → over 0 p z ≡ p ++ replicate (n - k) 0
-over-zeros p z k n l h e =
-    let lz : length z ≡ n = ap length e ∙ length-replicate n 0 in
-    let at : 0 + length p ≡ k = omega arith in
-    over-eq p z 0 (omega arith) ∙ ap (λ (l : List ℕ). p ++ l) (ap₂ drop at e ∙ drop-replicate k n h)
 
 pub tail-law : (c r last : ℕ) (seed cs z t₁ t₂ t₃ t₄ u : List ℕ) → length seed ≡ 8 → length cs ≡ 1184 → length z ≡ 1228
     → t₁ ≡ over 0 (le32 c) z → t₂ ≡ over 4 (le32 r) t₁ → t₃ ≡ over 8 (bytesOf seed) t₂ → t₄ ≡ over 40 cs t₃ → u ≡ over 1224 (le32 last) t₄

@@ -8,7 +8,7 @@ use lib.Dec.{eqb, leb, ltb}
 use Rattle.algebra.specs.Word.{add}
 use Rattle.messages.specs.declared.Label.{Label}
 use Rattle.messages.specs.Messages.{isName, expected}
-use Rattle.messages.specs.Laws.{unless-none, unless-most, taken, refused}
+use Rattle.messages.specs.Laws.{passed, unless-most, taken, refused}
 use Rattle.lock.specs.Lock.{whyNotJoin, join}
 use Rattle.lock.specs.declared.Lock.{Lock}
 use Rattle.lock.specs.declared.LockAnswer.{LockAnswer}
@@ -30,10 +30,10 @@ module _ (s : Lock) (l0 : Label) (name0 : List ℕ) (answer0 : ℕ) (l1 : Label)
       × (leb (add answer0 answer1) 1 ≡ true)
   unfolding whyNotJoin
   accepted h =
-      let a = unless-none _ 4 _ (λ z. omega arith) h in
-      let b = unless-none _ 6 _ (λ z. omega arith) (a .1) in
-      let c = unless-none _ 7 _ (λ z. omega arith) (b .1) in
-      let d = unless-none _ 12 _ (λ z. omega arith) (c .1) in
+      let a = passed _ h in
+      let b = passed _ (a .1) in
+      let c = passed _ (b .1) in
+      let d = passed _ (c .1) in
       (a .0, b .0, c .0, d .0)
 
   -- refused: the state stays

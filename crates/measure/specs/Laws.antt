@@ -17,7 +17,7 @@ use Rattle.algebra.specs.Word.{words, add, neg, mul, signed, _≈_, mul≈, neg
 use Rattle.algebra.specs.Sum.{sum, sumℤ, sum≈, sum-lt}
 use Rattle.algebra.specs.Bit.{only, less, less-lt, less-ge}
 use Rattle.measure.specs.Measure.{Row, scalarProduct, squaredEuclid, hamming, row, isCode, element, own, measure, reached, within, inRange, allInRange, thresholdFits, word, kWord, ownWord}
-use Rattle.measure.specs.Order.{both-left, both-right, difference, Le, of-test, to-test, le-trans, le-sub, square-pos, product-most, product-least, sum-least, sum-most}
+use Rattle.measure.specs.Order.{both, difference, Le, of-test, to-test, le-trans, le-sub, square-pos, product-most, product-least, sum-least, sum-most}
 
 pub code-lt : (code : ℕ) → isCode code ≡ true → code < 3
 unfolding isCode
@@ -195,17 +195,14 @@ zero-in (suc (suc code)) = refl
 pub in-range-at : (code : ℕ) (v : List ℕ) → allInRange code v ≡ true → (i : ℕ) → inRange code (getD v i 0) ≡ true
 unfolding allInRange
 in-range-at code [] h i = zero-in code
-in-range-at code (w ∷ v) h zero = both-left (inRange code w) (allInRange code v) h
-in-range-at code (w ∷ v) h (suc i) = in-range-at code v (both-right (inRange code w) (allInRange code v) h) i
+in-range-at code (w ∷ v) h zero = both (inRange code w) (allInRange code v) h .0
+in-range-at code (w ∷ v) h (suc i) = in-range-at code v (both (inRange code w) (allInRange code v) h .1) i
 
 in-row : (code : ℕ) (v : List ℕ) → allInRange code v ≡ true → (i : ℕ) → In (row code) (element v i)
 unfolding inRange within element
 in-row code v h i =
-    let t = in-range-at code v h i in
-    record {
-      from = of-test (row code .low) (signed (getD v i 0)) (both-left (leZ (row code .low) (signed (getD v i 0))) _ t);
-      to = of-test (signed (getD v i 0)) (row code .high) (both-right (leZ (row code .low) (signed (getD v i 0))) _ t);
-    }
+    let t = both (leZ (row code .low) (signed (getD v i 0))) _ (in-range-at code v h i) in
+    record { from = of-test (row code .low) (signed (getD v i 0)) (t .0); to = of-test (signed (getD v i 0)) (row code .high) (t .1) }
 
 pub bound : (code n t : ℕ) (x y : List ℕ) → n ≤ 512 → allInRange code x ≡ true → allInRange code y ≡ true → thresholdFits code t ≡ true
     → (leZ (negℤ (pos (2 ^ 31))) (measure code n x y -ℤ signed t) ≡ true) × (leZ (measure code n x y -ℤ signed t) (pos (2 ^ 31 - 1)) ≡ true)
@@ -216,8 +213,9 @@ bound code n t x y l hx hy ht =
     let f : ℕ → ℤ = λ i. term r (element x i) (element y i) in
     let down : (i : ℕ) → Le (negℤ (pos (b .down))) (f i) = λ i. b .term-down _ _ (in-row code x hx i) (in-row code y hy i) in
     let up : (i : ℕ) → Le (f i) (pos (b .up)) = λ i. b .term-up _ _ (in-row code x hx i) (in-row code y hy i) in
-    let least = of-test (r .least) (signed t) (both-left (leZ (r .least) (signed t)) _ ht) in
-    let most = of-test (signed t) (r .most) (both-right (leZ (r .least) (signed t)) _ ht) in
+    let fits = both (leZ (r .least) (signed t)) _ ht in
+    let least = of-test (r .least) (signed t) (fits .0) in
+    let most = of-test (signed t) (r .most) (fits .1) in
     let from : Le (negℤ (pos (2 ^ 31))) (sumℤ f n -ℤ signed t) = le-trans (of-test _ _ (b .lowest)) (le-sub (sum-least f (b .down) (b .up) down up n 512 l) most) in
     let to : Le (sumℤ f n -ℤ signed t) (pos (2 ^ 31 - 1)) = le-trans (le-sub (sum-most f (b .down) (b .up) down up n 512 l) least) (of-test _ _ (b .highest)) in
     (rw (one-sum code n x y) (to-test from), rw (one-sum code n x y) (to-test to))

@@ -16,13 +16,10 @@ use Rattle.algebra.specs.Sum.{sumℤ}
 pub neither {ℓ} : {X : Type ℓ} → false ≡ true → X
 neither h = absurd (subst T (sym h) tt)
 
-pub both-left : (a b : Bool) → a && b ≡ true → a ≡ true
-both-left true b h = refl
-both-left false b h = h
-
-pub both-right : (a b : Bool) → a && b ≡ true → b ≡ true
-both-right true b h = h
-both-right false b h = neither h
+-- two tests that are both passed
+pub both : (a b : Bool) → a && b ≡ true → (a ≡ true) × (b ≡ true)
+both true b h = (refl, h)
+both false b h = neither h
 
 -- ---- the test, as a test of the difference
 

@@ -2,7 +2,8 @@
 use mathlib.Core.Path.{_≡_, refl, sym, ap, subst, _∙_}
 use mathlib.Core.Bool.{Bool, true, false, not, cond, _&&_}
 use mathlib.Core.List.{List, _++_, append-nil}
-use Prim.Native.Nat.{ℕ, _-_, _≤_}
+use Prim.Native.Nat.{ℕ, suc, _-_, _≤_}
+use native.Mathlib.Omega.{arith}
 use lib.Dec.{T, leb}
 use lib.ListN.{length, replicate}
 use borrow.Author.Tests.{not-true, not-false, leb-true, eq-eqb, ne-eqb}
@@ -28,10 +29,10 @@ pub goes-on : (b : Bool) (k rest : ℕ) {r : ℕ} → not b ≡ false → r ≡ 
 goes-on b k rest e h = unless-true b k rest (not-false b e) h
 
 -- where nothing refuses, the test holds and nothing after it refuses
-pub unless-none : (b : Bool) (k rest : ℕ) → (k ≡ 0 → ⊥) → unless b k rest ≡ 0 → (b ≡ true) × (rest ≡ 0)
+pub passed : {b : Bool} (k : ℕ) {rest : ℕ} → unless b (suc k) rest ≡ 0 → (b ≡ true) × (rest ≡ 0)
 unfolding unless
-unless-none true k rest h e = (refl, e)
-unless-none false k rest h e = absurd (h e)
+passed {b = true} k e = (refl, e)
+passed {b = false} k e = absurd (omega arith)
 
 -- no number in the chain is above n
 pub unless-most : (b : Bool) (k rest n : ℕ) → k ≤ n → rest ≤ n → unless b k rest ≤ n
