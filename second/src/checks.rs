@@ -144,7 +144,8 @@ fn seeds(seed0: &str, seed1: &str) -> Result<[Seed; 2], String> {
     ])
 }
 
-fn words(text: &str) -> Result<Vec<u32>, String> {
+/// The words of a bytes field.
+pub fn words(text: &str) -> Result<Vec<u32>, String> {
     let bytes = field::parse(text)?;
     if bytes.len() % 4 != 0 {
         return Err(format!("whole words wanted: {text}"));

@@ -2,6 +2,8 @@
 //! N bytes generated from the seed S, or `~N:S:LOW:MASK` for N generated words,
 //! 4 N bytes, each LOW plus some of the bits of MASK.
 
+use std::str::FromStr;
+
 /// The states of the generator after its seed.
 fn states(seed: u32) -> impl Iterator<Item = u32> {
     let next = |state: &u32| Some(state.wrapping_mul(1664525).wrapping_add(1013904223));
@@ -51,9 +53,15 @@ pub fn parse_array<const N: usize>(field: &str) -> Result<[u8; N], String> {
         .map_err(|_| format!("{N} bytes wanted: {field}"))
 }
 
+/// A decimal number: digits alone, with no sign.
+pub fn decimal<N: FromStr>(text: &str) -> Option<N> {
+    let digits = text.bytes().all(|byte| byte.is_ascii_digit());
+    text.parse().ok().filter(|_| digits)
+}
+
 fn parse_numbers<const N: usize>(text: &str) -> Option<[u32; N]> {
-    let numbers: Result<Vec<u32>, _> = text.split(':').map(str::parse).collect();
-    numbers.ok()?.try_into().ok()
+    let numbers: Option<Vec<u32>> = text.split(':').map(decimal).collect();
+    numbers?.try_into().ok()
 }
 
 fn parse_hex(text: &str) -> Option<Vec<u8>> {
@@ -87,7 +95,7 @@ mod tests {
         for bad in ["", "0", "0G", "AB", "@", "@1", "@1:4294967296", "@:1"] {
             assert!(parse(bad).is_err(), "{bad}");
         }
-        for bad in ["~", "~1:0:0", "~1:0:0:0:0", "@1:2:3", "~1::0:0"] {
+        for bad in ["~", "~1:0:0", "~1:0:0:0:0", "@1:2:3", "~1::0:0", "@+1:2"] {
             assert!(parse(bad).is_err(), "{bad}");
         }
         assert!(parse_array::<3>("0011").is_err());

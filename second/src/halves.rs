@@ -198,7 +198,7 @@ impl Dealt {
 }
 
 /// The tag that stands for long bytes.
-fn tag(bytes: &[u8]) -> String {
+pub fn tag(bytes: &[u8]) -> String {
     let key = std::array::from_fn(|i| i as u8);
     field::format(&poly1305::tag(&key, bytes))
 }

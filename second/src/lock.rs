@@ -50,6 +50,15 @@ pub fn host_join(name: &[u8], last: u64, answers: [&Answer; 2]) -> u32 {
     joined.unwrap_or_else(|refusal| 100 + refusal as u32)
 }
 
+/// The C host's last number after that join: the joined one, or the same as before if
+/// the join was turned down.
+pub fn host_last(name: &[u8], last: u64, answers: [&Answer; 2]) -> u64 {
+    match host_join(name, last, answers) {
+        0 | 1 => answers[0].label.number,
+        _ => last,
+    }
+}
+
 #[cfg(test)]
 mod tests {
     use super::*;
@@ -89,6 +98,8 @@ mod tests {
             assert_eq!(lock.last, if joined.is_ok() { 11 } else { 10 });
             let host = joined.unwrap_or(112);
             assert_eq!(host_join(&NAME, 10, answers), host);
+            assert_eq!(host_last(&NAME, 10, answers), lock.last);
+            assert_eq!(host_last(&NAME[..15], 10, answers), 10);
             assert_eq!(host_join(&NAME[..15], 10, answers), 104);
         }
     }

@@ -1,13 +1,14 @@
 //! Prints a test script, or the answers that it must get.
 
-use second::script::{self, Case, Runner, MAX_LINE};
-use second::{check_cases, checks, generated, half_cases, halves, rfc8439};
-use std::io::Write;
+use second::replay::Replay;
+use second::script::{self, Case, MAX_LINE};
+use second::{check_cases, checks, generated, half_cases, halves, replay_cases, rfc8439};
+use std::io::{Read, Write};
 use std::process::ExitCode;
 
 const USAGE: &str =
     "usage: second vectors-stdin | vectors-stdout | checks-stdin | checks-stdout | \
-                     halves-stdin | halves-stdout";
+                     halves-stdin | halves-stdout | replay-stdin | replay-stdout | replay <SCRIPT";
 
 fn main() -> ExitCode {
     let arguments: Vec<String> = std::env::args().skip(1).collect();
@@ -19,6 +20,9 @@ fn main() -> ExitCode {
         ["checks-stdout"] => print(&check_cases::cases(), checks::run, |case| &case.expected),
         ["halves-stdin"] => print(&half_cases::cases(), halves::run, |case| &case.line),
         ["halves-stdout"] => print(&half_cases::cases(), halves::run, |case| &case.expected),
+        ["replay-stdin"] => print_replay(|case| &case.line),
+        ["replay-stdout"] => print_replay(|case| &case.expected),
+        ["replay"] => replay(),
         _ => Err(USAGE.to_string()),
     };
     match result {
@@ -37,17 +41,40 @@ fn vectors() -> Vec<Case> {
     cases
 }
 
+/// Prints one side of the script of `replay`.
+fn print_replay(side: fn(&Case) -> &str) -> Result<(), String> {
+    let mut replay = Replay::default();
+    print(&replay_cases::cases(), |line| Ok(replay.answer(line)), side)
+}
+
+/// Answers a script of `replay` from standard input.
+fn replay() -> Result<(), String> {
+    let mut script = Vec::new();
+    std::io::stdin()
+        .read_to_end(&mut script)
+        .map_err(|error| format!("standard input: {error}"))?;
+    write(&Replay::default().answers(&String::from_utf8_lossy(&script)))
+}
+
 /// Prints one side of every case, and nothing at all if a case is wrong.
-fn print(cases: &[Case], run: Runner, side: fn(&Case) -> &str) -> Result<(), String> {
+fn print(
+    cases: &[Case],
+    mut run: impl FnMut(&str) -> Result<String, String>,
+    side: fn(&Case) -> &str,
+) -> Result<(), String> {
     let mut text = String::new();
     for case in cases {
-        case.check(run)?;
+        case.check(&mut run)?;
         if case.line.len() > MAX_LINE {
             return Err(format!("line too long: {}", case.line));
         }
         text.push_str(side(case));
         text.push('\n');
     }
+    write(&text)
+}
+
+fn write(text: &str) -> Result<(), String> {
     std::io::stdout()
         .write_all(text.as_bytes())
         .map_err(|error| format!("standard output: {error}"))

@@ -19,7 +19,7 @@ pub type Runner = fn(&str) -> Result<String, String>;
 
 impl Case {
     /// Whether this implementation answers as expected.
-    pub fn check(&self, run: Runner) -> Result<(), String> {
+    pub fn check(&self, mut run: impl FnMut(&str) -> Result<String, String>) -> Result<(), String> {
         let answer = run(&self.line)?;
         if answer == self.expected {
             return Ok(());

@@ -1,0 +1,564 @@
+//! The script of the program `replay`: calls on a door's four parts, one a line, and
+//! what this implementation answers to them, one line each.
+//!
+//! One space stands between two fields, and none at an end. Numbers are decimal: set
+//! numbers and floors are below 2^64, the others below 2^32. A bytes field is hex or
+//! `@N:S`; a vector field is hex or `@N:S`, little-endian words both, or
+//! `~N:S:LOW:MASK`; `-` is nothing (`field`). BOX and FROM are `camera` or `office`.
+//! A MESSAGE is four fields, `KIND NAME SENDER NUMBER`. An empty line and a line that
+//! starts with `#` are answered by an empty line.
+//!
+//! - `dealer NAME KEY0 KEY1 FLOOR`, `party BOX NAME PARTY KEY FLOOR` and
+//!   `lock NAME FLOOR`: the starts.
+//! - `deal NUMBER SEED CODE L T ROOM0 ROOM1`: a deal into buffers of ROOM0 and ROOM1
+//!   bytes (at most 8,704), filled with 170 before.
+//! - `load BOX FROM K BYTES AT`: a load of the first BYTES bytes of the half that the
+//!   K-th accepted deal before the newest (K from 0 to 3) wrote for FROM, followed by
+//!   its first block again; the byte AT is xored with 1 where AT is below BYTES.
+//! - `mixed BOX I K J`: a load of the newest half for BOX, its block I replaced by
+//!   block J of the half that the K-th deal before the newest wrote for BOX.
+//! - `bytes BOX BYTES`: a load of these bytes.
+//! - `mask BOX VECTOR ROOM`: call 2, into a buffer of ROOM words (at most 520), filled
+//!   with 2863311530 before.
+//! - `take BOX MESSAGE VECTOR`: call 3. VECTOR may be `camera` or `office`: the last
+//!   masked vector that this box sent (no words before the first).
+//! - `finish BOX MESSAGE WORD`: call 4. WORD may be a box too: the last word that it
+//!   sent (0 before the first).
+//! - `drop BOX`: drop.
+//! - `join MESSAGE0 ANSWER0 MESSAGE1 ANSWER1`: the join. An ANSWER may be a box too:
+//!   the last answer that it sent (0 before the first).
+//! - `host NAME LAST` and the fields of `join`: what the C host's two functions give.
+//! - `put BOX PHASE PARTY CODE L`: puts these numbers into the box's state, as a host
+//!   may.
+//! - `show PART`: the tag of the state of `dealer`, `camera`, `office` or `lock`.
+//!
+//! Before the first start every state is zero. A refused call is answered by its
+//! number alone, an accepted one by `0` and then, each after a space: a deal, the tags
+//! of its two buffers; call 2, that of its buffer; call 3, the word; call 4, the
+//! answer; the join, 0 or 1. `put` is answered by `put`. A tag is Poly1305's under
+//! the key of bytes 0 to 31. A line that is none of these is answered by `bad line N`,
+//! counted from 1, and changes nothing.
+
+use crate::dealer::{Dealer, Order};
+use crate::field::{self, decimal};
+use crate::halves::tag;
+use crate::lock::{self, Answer, Lock};
+use crate::message::Label;
+use crate::party::Party;
+use crate::refusal::Refusal;
+use crate::sealed::{BLOCKS, BLOCK_BYTES};
+use crate::{checks, content};
+use std::collections::VecDeque;
+
+/// The boxes by their fields, each at the place of its party.
+pub const BOXES: [&str; 2] = ["camera", "office"];
+
+/// How many deals a load can look back to, the newest included.
+pub const DEALS_KEPT: usize = 4;
+
+/// The largest buffer of a deal: a block more than any half.
+pub const MAX_BYTES: usize = (*BLOCKS.end() + 1) * BLOCK_BYTES;
+
+/// The largest buffer of call 2.
+pub const MAX_WORDS: usize = 520;
+
+const BYTE_BEFORE: u8 = 170;
+const WORD_BEFORE: u32 = 2_863_311_530;
+
+/// A script as far as it has been run.
+#[derive(Default)]
+pub struct Replay {
+    pub dealer: Dealer,
+    pub boxes: [Party; 2],
+    pub lock: Lock,
+    /// The halves that the last accepted deals wrote, the newest first.
+    pub dealt: VecDeque<[Vec<u8>; 2]>,
+    /// What each box sent last.
+    pub sent: [Sent; 2],
+    lines: usize,
+}
+
+/// What a box sent last, of each kind.
+#[derive(Default)]
+pub struct Sent {
+    pub vector: Vec<u32>,
+    pub word: u32,
+    pub answer: u32,
+}
+
+/// A message without its content.
+struct Message {
+    kind: u32,
+    name: Vec<u8>,
+    sender: u32,
+    number: u64,
+}
+
+impl Message {
+    fn parse(fields: &[&str]) -> Option<Message> {
+        let [kind, name, sender, number] = fields else {
+            return None;
+        };
+        Some(Message {
+            kind: decimal(kind)?,
+            name: bytes(name)?,
+            sender: decimal(sender)?,
+            number: decimal(number)?,
+        })
+    }
+
+    fn label(&self) -> Label<'_> {
+        Label {
+            kind: self.kind.into(),
+            name: &self.name,
+            sender: self.sender.into(),
+            number: self.number,
+        }
+    }
+}
+
+impl Replay {
+    /// The answer to the next line.
+    pub fn answer(&mut self, line: &str) -> String {
+        self.lines += 1;
+        if line.is_empty() || line.starts_with('#') {
+            return String::new();
+        }
+        let fields: Vec<&str> = line.split(' ').collect();
+        let answer = self.run(fields[0], &fields[1..]);
+        answer.unwrap_or_else(|| format!("bad line {}", self.lines))
+    }
+
+    /// The answers to the lines of a text, each with its end.
+    pub fn answers(&mut self, text: &str) -> String {
+        let lines = text.split_terminator('\n');
+        lines.map(|line| self.answer(line) + "\n").collect()
+    }
+
+    /// What a command answers, and nothing where its fields do not fit.
+    fn run(&mut self, command: &str, fields: &[&str]) -> Option<String> {
+        match (command, fields) {
+            ("dealer", [name, key0, key1, floor]) => self.start_dealer(name, [key0, key1], floor),
+            ("party", [at, name, party, key, floor]) => {
+                self.start_party(at, name, party, key, floor)
+            }
+            ("lock", [name, floor]) => self.start_lock(name, floor),
+            ("deal", [_, _, _, _, _, room0, room1]) => self.deal(&fields[..5], [room0, room1]),
+            ("load", [at, half @ ..]) => self.load(at, self.cut_half(half)?),
+            ("mixed", [at, blocks @ ..]) => self.load(at, self.mixed_half(at, blocks)?),
+            ("bytes", [at, half]) => self.load(at, bytes(half)?),
+            ("mask", [at, vector, room]) => self.mask(at, vector, room),
+            ("take", [at, message @ .., vector]) => self.take(at, message, vector),
+            ("finish", [at, message @ .., word]) => self.finish(at, message, word),
+            ("drop", [at]) => self.drop_set(at),
+            ("join", fields) => self.join(fields),
+            ("host", [name, last, fields @ ..]) => self.host(name, last, fields),
+            ("put", [at, numbers @ ..]) => self.put(at, numbers),
+            ("show", [part]) => self.show(part),
+            _ => None,
+        }
+    }
+
+    fn start_dealer(&mut self, name: &str, keys: [&str; 2], floor: &str) -> Option<String> {
+        let (key0, key1) = (bytes(keys[0])?, bytes(keys[1])?);
+        let started = Dealer::start(&bytes(name)?, decimal(floor)?, [&key0, &key1]);
+        Some(answered(started.map(|dealer| {
+            self.dealer = dealer;
+            Vec::new()
+        })))
+    }
+
+    fn start_party(
+        &mut self,
+        at: &str,
+        name: &str,
+        party: &str,
+        key: &str,
+        floor: &str,
+    ) -> Option<String> {
+        let (at, party) = (place(at)?, decimal::<u32>(party)?);
+        let started = Party::start(&bytes(name)?, party.into(), &bytes(key)?, decimal(floor)?);
+        Some(answered(started.map(|state| {
+            self.boxes[at] = state;
+            Vec::new()
+        })))
+    }
+
+    fn start_lock(&mut self, name: &str, floor: &str) -> Option<String> {
+        let started = Lock::start(&bytes(name)?, decimal(floor)?);
+        Some(answered(started.map(|lock| {
+            self.lock = lock;
+            Vec::new()
+        })))
+    }
+
+    fn deal(&mut self, order: &[&str], rooms: [&str; 2]) -> Option<String> {
+        let [number, seed, code, length, threshold] = order else {
+            return None;
+        };
+        let seed = bytes(seed)?;
+        let order = Order {
+            number: decimal(number)?,
+            seed: &seed,
+            code: decimal::<u32>(code)?.into(),
+            length: decimal::<u32>(length)?.into(),
+            threshold: decimal(threshold)?,
+        };
+        let mut buffer0 = vec![BYTE_BEFORE; room(rooms[0], MAX_BYTES)?];
+        let mut buffer1 = vec![BYTE_BEFORE; room(rooms[1], MAX_BYTES)?];
+        let dealt = self.dealer.deal(&order, [&mut buffer0, &mut buffer1]);
+        Some(answered(dealt.map(|()| {
+            let tags = vec![tag(&buffer0), tag(&buffer1)];
+            let bytes = BLOCK_BYTES * content::blocks(order.length as usize);
+            buffer0.truncate(bytes);
+            buffer1.truncate(bytes);
+            self.dealt.push_front([buffer0, buffer1]);
+            self.dealt.truncate(DEALS_KEPT);
+            tags
+        })))
+    }
+
+    /// The half that an earlier deal wrote.
+    fn half(&self, party: usize, back: &str) -> Option<&[u8]> {
+        let halves = self.dealt.get(decimal(back)?)?;
+        Some(&halves[party])
+    }
+
+    /// The bytes of `load`.
+    fn cut_half(&self, fields: &[&str]) -> Option<Vec<u8>> {
+        let [from, back, count, at] = fields else {
+            return None;
+        };
+        let half = self.half(place(from)?, back)?;
+        let longer = [half, &half[..BLOCK_BYTES]].concat();
+        let mut bytes = longer.get(..room(count, MAX_BYTES)?)?.to_vec();
+        if let Some(byte) = bytes.get_mut(decimal::<u32>(at)? as usize) {
+            *byte ^= 1;
+        }
+        Some(bytes)
+    }
+
+    /// The bytes of `mixed`.
+    fn mixed_half(&self, at: &str, fields: &[&str]) -> Option<Vec<u8>> {
+        let [to, back, from] = fields else {
+            return None;
+        };
+        let at = place(at)?;
+        let mut half = self.half(at, "0")?.to_vec();
+        let block = self.half(at, back)?;
+        let block = block.chunks_exact(BLOCK_BYTES).nth(decimal(from)?)?;
+        let mut blocks = half.chunks_exact_mut(BLOCK_BYTES);
+        blocks.nth(decimal(to)?)?.copy_from_slice(block);
+        Some(half)
+    }
+
+    fn load(&mut self, at: &str, half: Vec<u8>) -> Option<String> {
+        let loaded = self.boxes[place(at)?].load(&half);
+        Some(answered(loaded.map(|()| Vec::new())))
+    }
+
+    fn mask(&mut self, at: &str, vector: &str, words: &str) -> Option<String> {
+        let (at, vector) = (place(at)?, checks::words(vector).ok()?);
+        let mut buffer = vec![WORD_BEFORE; room(words, MAX_WORDS)?];
+        let masked = self.boxes[at].mask(&vector, &mut buffer);
+        Some(answered(masked.map(|()| {
+            self.sent[at].vector = buffer[..vector.len()].to_vec();
+            vec![tag(&bytes_of(&buffer))]
+        })))
+    }
+
+    fn take(&mut self, at: &str, message: &[&str], vector: &str) -> Option<String> {
+        let (at, message) = (place(at)?, Message::parse(message)?);
+        let vector = match place(vector) {
+            Some(from) => self.sent[from].vector.clone(),
+            None => checks::words(vector).ok()?,
+        };
+        let word = self.boxes[at].take(&message.label(), &vector);
+        Some(answered(word.map(|word| {
+            self.sent[at].word = word;
+            vec![word.to_string()]
+        })))
+    }
+
+    fn finish(&mut self, at: &str, message: &[&str], word: &str) -> Option<String> {
+        let (at, message) = (place(at)?, Message::parse(message)?);
+        let word = match place(word) {
+            Some(from) => self.sent[from].word,
+            None => decimal(word)?,
+        };
+        let answer = self.boxes[at].finish(&message.label(), word);
+        Some(answered(answer.map(|answer| {
+            self.sent[at].answer = answer;
+            vec![answer.to_string()]
+        })))
+    }
+
+    fn drop_set(&mut self, at: &str) -> Option<String> {
+        let dropped = self.boxes[place(at)?].drop_set();
+        Some(answered(dropped.map(|()| Vec::new())))
+    }
+
+    /// The messages and answers of a join.
+    fn answers_of(&self, fields: &[&str]) -> Option<[(Message, u32); 2]> {
+        let answer = |fields: &[&str]| {
+            let (answer, message) = fields.split_last()?;
+            let answer = match place(answer) {
+                Some(from) => self.sent[from].answer,
+                None => decimal(answer)?,
+            };
+            Some((Message::parse(message)?, answer))
+        };
+        match fields.len() {
+            10 => Some([answer(&fields[..5])?, answer(&fields[5..])?]),
+            _ => None,
+        }
+    }
+
+    fn join(&mut self, fields: &[&str]) -> Option<String> {
+        let answers = self.answers_of(fields)?;
+        let [first, second] = handed(&answers);
+        let joined = self.lock.join([&first, &second]);
+        Some(answered(joined.map(|bit| vec![bit.to_string()])))
+    }
+
+    fn host(&self, name: &str, last: &str, fields: &[&str]) -> Option<String> {
+        let (name, last) = (bytes(name)?, decimal(last)?);
+        let answers = self.answers_of(fields)?;
+        let [first, second] = handed(&answers);
+        let joined = lock::host_join(&name, last, [&first, &second]);
+        let next = lock::host_last(&name, last, [&first, &second]);
+        Some(format!("{joined} {next}"))
+    }
+
+    fn put(&mut self, at: &str, numbers: &[&str]) -> Option<String> {
+        let [phase, party, code, length] = numbers else {
+            return None;
+        };
+        let (at, phase, party) = (place(at)?, decimal(phase)?, decimal(party)?);
+        let (code, length) = (decimal(code)?, decimal(length)?);
+        let state = &mut self.boxes[at];
+        (state.phase, state.party) = (phase, party);
+        (state.set.code, state.set.length) = (code, length);
+        Some("put".to_string())
+    }
+
+    fn show(&self, part: &str) -> Option<String> {
+        let state = match part {
+            "dealer" => dealer_bytes(&self.dealer),
+            "lock" => lock_bytes(&self.lock),
+            _ => party_bytes(&self.boxes[place(part)?]),
+        };
+        Some(tag(&state))
+    }
+}
+
+/// What a call is answered by: a refusal's number, or 0 and what else it gives.
+fn answered(answer: Result<Vec<String>, Refusal>) -> String {
+    match answer {
+        Err(refusal) => (refusal as u32).to_string(),
+        Ok(more) => [vec!["0".to_string()], more].concat().join(" "),
+    }
+}
+
+fn handed(answers: &[(Message, u32); 2]) -> [Answer<'_>; 2] {
+    [0, 1].map(|place: usize| Answer {
+        label: answers[place].0.label(),
+        answer: answers[place].1,
+    })
+}
+
+/// The place of a box.
+fn place(field: &str) -> Option<usize> {
+    BOXES.iter().position(|name| *name == field)
+}
+
+/// The size of a buffer.
+fn room(field: &str, most: usize) -> Option<usize> {
+    decimal(field).filter(|room| *room <= most)
+}
+
+/// A bytes field: words are not generated in it.
+fn bytes(field: &str) -> Option<Vec<u8>> {
+    match field.starts_with('~') {
+        true => None,
+        false => field::parse(field).ok(),
+    }
+}
+
+fn bytes_of(words: &[u32]) -> Vec<u8> {
+    words.iter().flat_map(|word| word.to_le_bytes()).collect()
+}
+
+fn dealer_bytes(dealer: &Dealer) -> Vec<u8> {
+    let [key0, key1] = &dealer.keys;
+    [&dealer.name[..], key0, key1, &dealer.last.to_le_bytes()].concat()
+}
+
+fn lock_bytes(lock: &Lock) -> Vec<u8> {
+    [&lock.name[..], &lock.last.to_le_bytes()].concat()
+}
+
+/// A box's fields in their order. A correction's flags are one word: bit 0 left, bit 1
+/// right.
+fn party_bytes(state: &Party) -> Vec<u8> {
+    let (set, check) = (&state.set, &state.check);
+    let mut bytes = state.name.to_vec();
+    bytes.extend(state.party.to_le_bytes());
+    bytes.extend(state.key);
+    bytes.extend(state.last.to_le_bytes());
+    bytes.extend(state.phase.to_le_bytes());
+    bytes.extend(set.number.to_le_bytes());
+    bytes.extend(set.code.to_le_bytes());
+    bytes.extend(u64::from(set.length).to_le_bytes());
+    for words in [&set.own_mask, &set.x_share, &set.y_share] {
+        bytes.extend(bytes_of(words));
+    }
+    bytes.extend(bytes_of(&[set.c, set.r]));
+    bytes.extend(bytes_of(&set.seed));
+    for correction in &set.key.corrections {
+        let flags = u32::from(correction.left) | u32::from(correction.right) << 1;
+        bytes.extend(bytes_of(&correction.seed));
+        bytes.extend(bytes_of(&[correction.word, flags]));
+    }
+    bytes.extend(set.key.final_word.to_le_bytes());
+    bytes.extend(bytes_of(&check.masked));
+    bytes.extend(bytes_of(&[check.own, check.word]));
+    bytes
+}
+
+#[cfg(test)]
+mod tests {
+    use super::*;
+    use crate::message::ANSWER;
+
+    /// `Hut 4`, bare and padded.
+    const NAME: &str = "4875742034";
+    const PADDED: &str = "48757420340000000000000000000000";
+
+    fn started() -> Replay {
+        let mut replay = Replay::default();
+        let starts = format!(
+            "dealer {NAME} @32:1 @32:2 0\nparty camera {NAME} 0 @32:1 0\n\
+             party office {NAME} 1 @32:2 0\nlock {NAME} 0\n"
+        );
+        assert_eq!(replay.answers(&starts), "0\n0\n0\n0\n");
+        replay
+    }
+
+    /// A check under number 1, the squared Euclid line of 01, up to its join.
+    fn checked(replay: &mut Replay, threshold: u32) -> String {
+        let deal = format!("deal 1 @32:3 1 2 {threshold} 1536 2048");
+        assert!(replay.answer(&deal).starts_with("0 "));
+        for (at, vector) in [
+            ("camera", "03000000fcffffff"),
+            ("office", "0200000005000000"),
+        ] {
+            assert_eq!(replay.answer(&format!("load {at} {at} 0 1536 9999")), "0");
+            let mask = replay.answer(&format!("mask {at} {vector} 3"));
+            assert!(mask.starts_with("0 "));
+        }
+        for (call, kind) in [("take", 0), ("finish", 1)] {
+            for (at, from, sender) in [("camera", "office", 1), ("office", "camera", 0)] {
+                let line = format!("{call} {at} {kind} {PADDED} {sender} 1 {from}");
+                assert!(replay.answer(&line).starts_with("0 "));
+            }
+        }
+        let answers = format!("{ANSWER} {PADDED} 0 1 camera {ANSWER} {PADDED} 1 1 office");
+        let host = replay.answer(&format!("host {PADDED} 0 {answers}"));
+        let join = replay.answer(&format!("join {answers}"));
+        assert_eq!(host, format!("{} 1", &join[2..]));
+        assert_eq!(replay.answer(&format!("join {answers}")), "7");
+        assert_eq!(
+            replay.answer(&format!("host {PADDED} 1 {answers}")),
+            "107 1"
+        );
+        join
+    }
+
+    #[test]
+    fn a_check_is_answered() {
+        assert_eq!(checked(&mut started(), 82), "0 1");
+        assert_eq!(checked(&mut started(), 83), "0 0");
+    }
+
+    /// Each field of a box's state has its place: 01's arrays, seeds and corrections.
+    #[test]
+    fn a_state_has_all_its_bytes() {
+        let state = Party::default();
+        let head = 16 + 4 + 32 + 8 + 4;
+        let set = 8 + 4 + 8 + 3 * 2048 + 4 + 4 + 32 + 32 * 40 + 4;
+        assert_eq!(party_bytes(&state), vec![0; head + set + 2048 + 8]);
+        let mut replay = started();
+        checked(&mut replay, 82);
+        assert_eq!(replay.answer("deal 9 @32:5 2 512 0 8192 8192").len(), 67);
+        replay.answer("load office office 0 8192 9999");
+        let loaded = party_bytes(&replay.boxes[1]);
+        assert_eq!(loaded[16], 1);
+        assert_eq!(loaded[52..54], [9, 0]);
+        assert_eq!(loaded[60..86], {
+            let mut numbers = [0; 26];
+            (numbers[0], numbers[4], numbers[12], numbers[17]) = (1, 9, 2, 2);
+            let mask = replay.boxes[1].set.own_mask[0].to_le_bytes();
+            numbers[24..].copy_from_slice(&mask[..2]);
+            numbers
+        });
+    }
+
+    /// What is no line of a script is answered so, and changes nothing.
+    #[test]
+    fn bad_lines() {
+        let mut replay = started();
+        checked(&mut replay, 82);
+        let states = ["dealer", "camera", "office", "lock"].map(|part| format!("show {part}"));
+        let before = states.clone().map(|line| replay.answer(&line));
+        let lines = replay.lines;
+        for (place, bad) in [
+            "deal",
+            "drop door",
+            "drop camera ",
+            " drop camera",
+            "drop  camera",
+            "Drop camera",
+            "deal 2 @32:3 1 2 5 1536 8705",
+            "deal 18446744073709551616 @32:3 1 2 5 1536 1536",
+            "deal 2 @32:3 1 2 4294967296 1536 1536",
+            "deal +2 @32:3 1 2 5 1536 1536",
+            "deal -2 @32:3 1 2 5 1536 1536",
+            "deal 2 @+32:3 1 2 5 1536 1536",
+            "deal 2 ~8:3:0:1 1 2 5 1536 1536",
+            "load camera camera 4 1536 0",
+            "load camera camera 1 1536 0",
+            "load camera camera 0 2049 0",
+            "load camera lock 0 1536 0",
+            "mixed camera 3 0 0",
+            "mixed camera 0 0 3",
+            "bytes camera 0G",
+            "mask camera 03000000fcffff 2",
+            "mask camera - 521",
+            "take camera 0 - 1 1 lock",
+            "finish camera 0 - 1 4294967296",
+            "put camera 0 0 0",
+            "show door",
+        ]
+        .into_iter()
+        .enumerate()
+        {
+            let number = lines + 1 + place;
+            assert_eq!(replay.answer(bad), format!("bad line {number}"), "{bad}");
+        }
+        assert_eq!(replay.answer(""), "");
+        assert_eq!(replay.answer("# drop camera"), "");
+        assert_eq!(states.map(|line| replay.answer(&line)), before);
+    }
+
+    #[test]
+    fn before_the_first_start_all_is_zero() {
+        let mut replay = Replay::default();
+        assert_eq!(replay.answer("show lock"), tag(&[0; 24]));
+        assert_eq!(replay.answer("show dealer"), tag(&[0; 88]));
+        let zeros = "00".repeat(16);
+        let join = format!("join 2 {zeros} 0 5 camera 2 {zeros} 1 5 office");
+        assert_eq!(replay.answer(&join), "0 0");
+        assert_eq!(replay.answer("load camera camera 0 0 0"), "bad line 4");
+    }
+}

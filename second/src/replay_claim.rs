@@ -1,0 +1,129 @@
+//! What 01, "A door's list of calls", claims of every list: no part accepts a set number
+//! twice, and an accepted join says whether the measure of the two vectors, taken over
+//! whole numbers, reaches the threshold.
+
+use crate::measure::Measure;
+use std::collections::{BTreeMap, BTreeSet};
+use std::fmt::Debug;
+
+/// What has been accepted in a door's list of calls, by set number.
+#[derive(Default)]
+pub struct Claim {
+    pub deals: BTreeMap<u64, (Measure, i32)>,
+    pub boxes: [AtBox; 2],
+    pub joined: BTreeMap<u64, u32>,
+    /// Numbers under which a message was taken that had not been sent so: of these
+    /// nothing is claimed.
+    pub forged: BTreeSet<u64>,
+    /// Whether something other than calls writes states: then nothing is claimed at all.
+    pub off: bool,
+}
+
+/// What a box was handed, and what it sent.
+#[derive(Default)]
+pub struct AtBox {
+    pub loads: BTreeMap<u64, ()>,
+    pub vectors: BTreeMap<u64, Vec<i32>>,
+    pub masked: BTreeMap<u64, Vec<u32>>,
+    pub words: BTreeMap<u64, u32>,
+    pub answers: BTreeMap<u64, u32>,
+}
+
+impl Claim {
+    pub fn deal(&mut self, number: u64, measure: Measure, threshold: i32) {
+        once(self.off, &mut self.deals, number, (measure, threshold));
+    }
+
+    pub fn load(&mut self, at: usize, number: u64) {
+        once(self.off, &mut self.boxes[at].loads, number, ());
+    }
+
+    pub fn mask(&mut self, at: usize, number: u64, vector: Vec<i32>, masked: Vec<u32>) {
+        once(self.off, &mut self.boxes[at].vectors, number, vector);
+        once(self.off, &mut self.boxes[at].masked, number, masked);
+    }
+
+    pub fn take(&mut self, at: usize, number: u64, vector: &[u32], word: u32) {
+        let sent = self.boxes[1 - at].masked.get(&number);
+        if sent.is_none_or(|sent| sent != vector) {
+            self.forged.insert(number);
+        }
+        once(self.off, &mut self.boxes[at].words, number, word);
+    }
+
+    pub fn finish(&mut self, at: usize, number: u64, word: u32, answer: u32) {
+        if self.boxes[1 - at].words.get(&number) != Some(&word) {
+            self.forged.insert(number);
+        }
+        once(self.off, &mut self.boxes[at].answers, number, answer);
+    }
+
+    pub fn join(&mut self, number: u64, answers: [u32; 2], bit: u32) {
+        once(self.off, &mut self.joined, number, bit);
+        let sent = [0, 1].map(|at: usize| self.boxes[at].answers.get(&number).copied());
+        if sent != answers.map(Some) {
+            self.forged.insert(number);
+        }
+        if self.off || self.forged.contains(&number) {
+            return;
+        }
+        let (measure, threshold) = self.deals[&number];
+        let [x, y] = [0, 1].map(|at: usize| &self.boxes[at].vectors[&number]);
+        let reached = measure.reached(x, y, threshold);
+        assert_eq!(bit, u32::from(reached), "the join of {number}");
+    }
+}
+
+/// Puts what was accepted under a number where nothing has been yet.
+fn once<T: Debug>(off: bool, accepted: &mut BTreeMap<u64, T>, number: u64, what: T) {
+    let before = accepted.insert(number, what);
+    assert!(off || before.is_none(), "{number} again, after {before:?}");
+}
+
+#[cfg(test)]
+mod tests {
+    use super::*;
+
+    /// A check under number 5 up to its join: the line of 01 that ends in -14.
+    fn answered(threshold: i32) -> Claim {
+        let mut claim = Claim::default();
+        claim.deal(5, Measure::Scalar, threshold);
+        for (at, vector) in [(0, vec![3, -4]), (1, vec![2, 5])] {
+            claim.load(at, 5);
+            claim.mask(at, 5, vector, vec![at as u32, 9]);
+        }
+        claim.take(0, 5, &[1, 9], 70);
+        claim.take(1, 5, &[0, 9], 71);
+        claim.finish(0, 5, 71, 100);
+        claim.finish(1, 5, 70, 101);
+        claim
+    }
+
+    #[test]
+    fn a_join_must_be_right() {
+        answered(-14).join(5, [100, 101], 1);
+        answered(-13).join(5, [100, 101], 0);
+        for (threshold, bit) in [(-14, 0), (-13, 1)] {
+            let mut claim = answered(threshold);
+            let join = std::panic::AssertUnwindSafe(|| claim.join(5, [100, 101], bit));
+            assert!(std::panic::catch_unwind(join).is_err());
+        }
+    }
+
+    #[test]
+    fn of_what_was_forged_nothing_is_claimed() {
+        let mut claim = answered(-14);
+        claim.join(5, [100, 102], 0);
+        assert!(claim.forged.contains(&5));
+        let mut claim = answered(-14);
+        claim.mask(0, 6, vec![1], vec![1]);
+        claim.take(1, 6, &[2], 3);
+        assert!(claim.forged.contains(&6) && !claim.forged.contains(&5));
+    }
+
+    #[test]
+    #[should_panic(expected = "5 again")]
+    fn no_number_is_used_twice() {
+        answered(0).load(1, 5);
+    }
+}
