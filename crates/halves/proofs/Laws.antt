@@ -10,7 +10,7 @@ use borrow.Author.Tests.{lt-ltb, ltb-true, leb-true}
 use Rattle.words.specs.List.{same}
 use Rattle.node.specs.declared.Correction.{Correction}
 use Rattle.measure.specs.Measure.{isCode}
-use Rattle.measure.specs.Order.{both-left, both-right}
+use Rattle.measure.specs.Order.{both}
 use Rattle.messages.specs.Laws.{unless-none, taken}
 use Rattle.content.specs.declared.Set.{Set}
 use Rattle.content.specs.Content.{size, blocks, field, setIn, noSet, lengthFits, flagsFit, zeros, contentFits, FlagBytes, Proper}
@@ -33,21 +33,21 @@ Laid s = (s .code < 256) × (s .n ≤ 512) × FlagBytes (s .key .corrections)
 flag-bytes : (cs : List Correction) → flagsFit cs ≡ true → FlagBytes cs
 unfolding flagsFit FlagBytes
 flag-bytes [] h i l = absurd (omega arith)
-flag-bytes (c ∷ cs) h zero l = omega (arith, ltb-true (c .flags) 4 (both-left (ltb (c .flags) 4) (flagsFit cs) h))
-flag-bytes (c ∷ cs) h (suc i) l = flag-bytes cs (both-right (ltb (c .flags) 4) (flagsFit cs) h) i (omega arith)
+flag-bytes (c ∷ cs) h zero l = omega (arith, ltb-true (c .flags) 4 (both (ltb (c .flags) 4) (flagsFit cs) h .0))
+flag-bytes (c ∷ cs) h (suc i) l = flag-bytes cs (both (ltb (c .flags) 4) (flagsFit cs) h .1) i (omega arith)
 
 fits-laid : (name : List ℕ) (party count number : ℕ) (b : List ℕ) → contentFits name party count b ≡ true → Laid (setIn number b)
 unfolding contentFits setIn isCode lengthFits
 fits-laid name party count number b h =
     let s : Set = setIn number b in
     let t = tests (same (field b 0) name) (eqb (getD (field b 1) 0 0) party) (isCode (s .code)) (lengthFits (s .n)) (eqb (blocks (s .n)) count) (flagsFit (s .key .corrections)) (zeros (drop (size (s .n)) b)) h in
-    (omega (arith, ltb-true (s .code) 3 (t .0)), leb-true (s .n) 512 (both-right (leb 1 (s .n)) (leb (s .n) 512) (t .1)), flag-bytes (s .key .corrections) (t .2))
+    (omega (arith, ltb-true (s .code) 3 (t .0)), leb-true (s .n) 512 (both (leb 1 (s .n)) (leb (s .n) 512) (t .1) .1), flag-bytes (s .key .corrections) (t .2))
   where
     tests : (a b c d e f g : Bool) → a && (b && (c && (d && (e && (f && g))))) ≡ true → (c ≡ true) × (d ≡ true) × (f ≡ true)
     tests a b c d e f g h =
-        let coded : c && (d && (e && (f && g))) ≡ true = both-right b _ (both-right a _ h) in
-        let long : d && (e && (f && g)) ≡ true = both-right c _ coded in
-        (both-left c _ coded, both-left d _ long, both-left f g (both-right e _ (both-right d _ long)))
+        let coded : c && (d && (e && (f && g))) ≡ true = both b _ (both a _ h .1) .1 in
+        let long : d && (e && (f && g)) ≡ true = both c _ coded .1 in
+        (both c _ coded .0, both d _ long .0, both f g (both e _ (both d _ long .1) .1) .0)
 
 pub opened-laid : (key name : List ℕ) (party last : ℕ) (h : List ℕ) (e : Examined) → e ≡ examined key name party last h → e .why ≡ 0 → Laid (e .set)
 unfolding examined answerFor whyNot whyNotOpened openedSet
