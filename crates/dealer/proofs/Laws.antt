@@ -9,15 +9,16 @@ use lib.Dec.{eqb, leb, ltb}
 use lib.ListN.{length, replicate, length-replicate}
 use Rattle.words.specs.List.{over, over-all, same}
 use Rattle.measure.specs.Measure.{isCode, thresholdFits}
+use Rattle.measure.specs.Order.{both}
 use Rattle.messages.specs.Messages.{unless, nameFits, padded, isKey}
 use Rattle.messages.specs.Laws.{unless-false, unless-true, turned-down, goes-on, taken, refused}
 use Rattle.content.specs.declared.Set.{Set}
 use Rattle.content.specs.Content.{blocks, lengthFits, Proper}
-use Rattle.content.specs.Laws.{blocks-bounds}
+use Rattle.content.specs.Laws.{blocks-bounds, length-fits}
 use Rattle.dealing.specs.Dealing.{setFrom, dealtSet}
 use Rattle.half.specs.Half.{half}
 use Rattle.dealer.specs.Dealer.{noDealer, whyNotDealer, startDealer, Deal, halfSize, whyNotDeal, keyOf, halfFor, deal, dealOut}
-use Rattle.dealer.specs.Laws.{both, length-fits, DealTells, dealt-proper}
+use Rattle.dealer.specs.Laws.{DealTells, dealt-proper}
 use Rattle.dealer.specs.declared.Dealer.{Dealer}
 use Rattle.dealer.specs.declared.DealerAnswer.{DealerAnswer}
 
