@@ -8,7 +8,7 @@ use borrow.Author.Tests.{leb-true, eqb-true, ne-eqb}
 use lib.Dec.{eqb, leb}
 use lib.ListN.{length, replicate}
 use Rattle.algebra.specs.Word.{add}
-use Rattle.words.specs.List.{over, over-all, length-tab}
+use Rattle.words.specs.List.{over, length-tab}
 use Rattle.measure.specs.Measure.{isCode, allInRange, ownWord}
 use Rattle.measure.specs.Order.{both}
 use Rattle.share.specs.Share as Share
@@ -220,9 +220,6 @@ module _ (name : List ℕ) (party : ℕ) (key : List ℕ) (floor k : ℕ) (ek : 
   started p b q none ep eb eq = moves k _ _ _ noParty ek none (eq ∙ ap₂ (λ (x y : List ℕ). idle x party y floor) ep eb)
 
 -- ---- arrays
-
-pub key-law : (key zeros out : List ℕ) → length key ≡ 32 → length zeros ≡ 32 → out ≡ over 0 key zeros → out ≡ key
-key-law key zeros out lk lz e = e ∙ over-all key zeros (lk ∙ sym lz)
 
 pub masked-law : (n : ℕ) (v mask zeros out : List ℕ) → n ≤ 512 → zeros ≡ replicate 512 0 → out ≡ over 0 (plus n v mask) zeros → out ≡ fill (plus n v mask)
 unfolding plus
