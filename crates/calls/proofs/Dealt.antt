@@ -19,6 +19,7 @@ use Rattle.dealer.specs.Dealer.{Deal}
 use Rattle.party.specs.Party.{maskedVector, boxShare, wordOf}
 use Rattle.calls.specs.Lists.{Box, camera, office, partyOf, other}
 use Rattle.calls.specs.Demand.{verdict}
+use Rattle.calls.proofs.Boxes.{party-fits}
 
 -- the set that a box gets
 abbrev pub setOf : Deal → Box → Set
@@ -45,8 +46,7 @@ pub record Sound (d : Deal) : Type 0 where
   pub threshold-fits : thresholdFits (d .code) (d .t) ≡ true
 
 pub set-proper : (d : Deal) (b : Box) → Sound d → Proper (setOf d b)
-set-proper d camera k = proper (d .seed) (d .number) (d .code) (d .n) (d .t) 0 (k .number-fits) (k .code-fits) (k .some) (k .most) (omega arith)
-set-proper d office k = proper (d .seed) (d .number) (d .code) (d .n) (d .t) 1 (k .number-fits) (k .code-fits) (k .some) (k .most) (omega arith)
+set-proper d b k = proper (d .seed) (d .number) (d .code) (d .n) (d .t) (partyOf b) (k .number-fits) (k .code-fits) (k .some) (k .most) (party-fits b)
 
 -- a box's masked vector and own
 abbrev pub maskOf : Deal → Box → List ℕ → List ℕ

@@ -12,6 +12,7 @@ use Rattle.measure.specs.Measure.{allInRange}
 use Rattle.messages.specs.Messages.{ifTaken}
 use Rattle.dealer.specs.Dealer as DealerCalls
 use Rattle.dealer.specs.Dealer.{Deal, whyNotDeal}
+use Rattle.dealer.specs.Laws.{deal-tells}
 use Rattle.party.specs.declared.Party.{Party}
 use Rattle.party.specs.declared.PartyAnswer.{PartyAnswer}
 use Rattle.party.specs.Party as BoxCalls
@@ -20,7 +21,7 @@ use Rattle.lock.specs.Lock as LockCalls
 use Rattle.lock.specs.Lock.{whyNotJoin}
 use Rattle.calls.specs.Lists.{Box, camera, office, other, World, Starts, Message, Call, deal, load, mask, take, finish, drop, join, Event, dealt, sent, joined, refused, vector, answer, put, eventOf, onBox, written, step, Fits, SentAnswer, Admits}
 use Rattle.calls.specs.Demand.{deals, lastDealt}
-use Rattle.calls.proofs.Accepted.{Heard, deal-tells, join-tells}
+use Rattle.calls.proofs.Accepted.{Heard, join-tells}
 use Rattle.calls.proofs.Dealt.{Sound, answerBy, answers-join}
 use Rattle.calls.proofs.Once.{once-cond}
 use Rattle.calls.proofs.History.{door, EventOk, Pair, look}

@@ -7,6 +7,7 @@ use Rattle.messages.specs.Laws.{refused as stays}
 use Rattle.messages.specs.Messages.{ifTaken}
 use Rattle.dealer.specs.declared.Dealer.{Dealer}
 use Rattle.dealer.specs.Dealer as DealerCalls
+use Rattle.dealer.specs.Laws.{deal-tells}
 use Rattle.party.specs.declared.Party.{Party}
 use Rattle.party.specs.declared.PartyAnswer.{PartyAnswer}
 use Rattle.party.specs.Party as BoxCalls
@@ -14,7 +15,7 @@ use Rattle.party.specs.Party.{idle}
 use Rattle.lock.specs.declared.Lock.{Lock}
 use Rattle.lock.specs.Lock as LockCalls
 use Rattle.calls.specs.Lists.{Box, World, Call, deal, load, mask, take, finish, drop, join, Event, refused, eventOf, onBox, step}
-use Rattle.calls.proofs.Accepted.{deal-tells, load-tells, mask-tells, take-tells, finish-tells, drop-tells, join-tells}
+use Rattle.calls.proofs.Accepted.{load-tells, mask-tells, take-tells, finish-tells, drop-tells, join-tells}
 use Rattle.calls.proofs.Boxes.{put-own}
 use Rattle.calls.proofs.Written.{new}
 

@@ -11,10 +11,11 @@ use Rattle.messages.specs.Messages.{ifTaken}
 use Rattle.content.specs.Content.{part}
 use Rattle.dealer.specs.declared.Dealer.{Dealer}
 use Rattle.dealer.specs.Dealer.{Deal, halfSize, whyNotDeal, halfFor, dealOut}
+use Rattle.dealer.specs.Laws.{deal-tells}
 use Rattle.party.specs.declared.Party.{Party}
 use Rattle.party.specs.Party.{whyNotMask, maskedVector, maskOut}
 use Rattle.calls.specs.Lists.{Box, camera, office, partyOf, written, maskedBy}
-use Rattle.calls.proofs.Accepted.{deal-tells, mask-tells}
+use Rattle.calls.proofs.Accepted.{mask-tells}
 use Rattle.calls.proofs.Dealt.{mask-long}
 
 pub new : {A : Type 0} (why : ℕ) (a b : A) → why ≡ 0 → ifTaken why a b ≡ a

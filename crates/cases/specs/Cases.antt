@@ -2,7 +2,7 @@
 use mathlib.Core.Path.{_≡_, refl}
 use mathlib.Core.Bool.{Bool, true, false, _&&_, Bool·beq}
 use mathlib.Core.List.{List, [], _∷_, map}
-use Prim.Native.Nat.{ℕ, _+_, _*_, _/_, _-_, _^_}
+use Prim.Native.Nat.{ℕ, _-_, _^_}
 use lib.Dec.{eqb}
 use lib.IntN.{ℤ, pos, negℤ}
 use lib.ListN.{length}
@@ -14,10 +14,7 @@ use Rattle.algebra.specs.Word as W
 use Rattle.words.specs.List.{tab, same}
 use Rattle.measure.specs.Measure.{row, scalarProduct, squaredEuclid, hamming, element, own, measure, reached, word}
 use Rattle.share.specs.Share.{plus, idealGate}
-
--- "1,248 + 12 × L bytes, zero-filled to whole blocks of 484" ("The sealed half")
-unfoldable pub blocks : ℕ → ℕ
-blocks n = (1248 + 12 * n + 483) / 484
+use Rattle.content.specs.Content.{size, blocks}
 
 -- a line: what is given, and what it comes to
 pub data Line : Type 0 where
@@ -78,5 +75,5 @@ all [] = true
 all (l ∷ t) = holds l && all t
 
 pub the-cases : all table ≡ true
-unfolding all table holds sameℤ blocks idealGate measure own element reached row scalarProduct squaredEuclid hamming word plus tab same sum sumℤ add sub W.neg W.signed only less
+unfolding all table holds sameℤ size blocks idealGate measure own element reached row scalarProduct squaredEuclid hamming word plus tab same sum sumℤ add sub W.neg W.signed only less
 the-cases = refl

@@ -6,18 +6,19 @@ use Prim.Native.Nat.{ℕ, _*_, _^_, _<_, _≤_}
 use native.Mathlib.Omega.{arith}
 use borrow.Author.Tests.{not-false}
 use lib.Dec.{eqb, leb, ltb}
-use lib.ListN.{length, replicate, length-replicate}
-use Rattle.words.specs.List.{over, over-all, same}
+use lib.ListN.{length}
+use Rattle.words.specs.List.{over, same}
 use Rattle.measure.specs.Measure.{isCode, thresholdFits}
+use Rattle.measure.specs.Order.{both}
 use Rattle.messages.specs.Messages.{unless, nameFits, padded, isKey}
 use Rattle.messages.specs.Laws.{unless-false, unless-true, turned-down, goes-on, taken, refused}
 use Rattle.content.specs.declared.Set.{Set}
 use Rattle.content.specs.Content.{blocks, lengthFits, Proper}
-use Rattle.content.specs.Laws.{blocks-bounds}
+use Rattle.content.specs.Laws.{blocks-bounds, length-fits}
 use Rattle.dealing.specs.Dealing.{setFrom, dealtSet}
 use Rattle.half.specs.Half.{half}
 use Rattle.dealer.specs.Dealer.{noDealer, whyNotDealer, startDealer, Deal, halfSize, whyNotDeal, keyOf, halfFor, deal, dealOut}
-use Rattle.dealer.specs.Laws.{both, length-fits, DealTells, dealt-proper}
+use Rattle.dealer.specs.Laws.{DealTells, dealt-proper}
 use Rattle.dealer.specs.declared.Dealer.{Dealer}
 use Rattle.dealer.specs.declared.DealerAnswer.{DealerAnswer}
 
@@ -27,9 +28,6 @@ alike p q = λ i. record { why = p i; dealer = q i }
 -- the code found no reason to refuse
 pub none : {found why : ℕ} → found ≡ why → found ≡ 0 → why ≡ 0
 none e h = sym e ∙ h
-
-pub copied : (b : List ℕ) → length b ≡ 32 → over 0 b (replicate 32 0) ≡ b
-copied b h = over-all b (replicate 32 0) (h ∙ sym (length-replicate {A = ℕ} 32 0))
 
 -- ---- start
 

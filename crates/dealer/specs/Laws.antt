@@ -1,30 +1,21 @@
 -- What an accepted start and an accepted deal have been tested for, and that the set which a deal gives each party is proper. Assumes nothing.
-use mathlib.Core.Path.{_≡_, refl, sym}
-use mathlib.Core.Bool.{Bool, true, false, _&&_, not, true≢false}
+use mathlib.Core.Path.{_≡_}
+use mathlib.Core.Bool.{true, not}
 use mathlib.Core.List.{List}
 use Prim.Native.Nat.{ℕ, _^_, _<_, _≤_}
-use native.Mathlib.Omega.{arith}
 use borrow.Author.Tests.{eqb-true, leb-true, ltb-true}
 use Rattle.words.specs.List.{same}
 use lib.ListN.{length}
 use Rattle.measure.specs.Measure.{isCode, thresholdFits}
+use Rattle.measure.specs.Order.{both}
 use Rattle.messages.specs.Messages.{nameFits, isKey}
-use Rattle.messages.specs.Laws.{unless-none}
-use Rattle.content.specs.Content.{lengthFits, Proper}
+use Rattle.messages.specs.Laws.{passed}
+use Rattle.content.specs.Content.{Proper}
+use Rattle.content.specs.Laws.{length-fits}
 use Rattle.dealing.specs.Dealing.{dealtSet}
 use Rattle.dealing.specs.Laws.{proper}
 use Rattle.dealer.specs.Dealer.{whyNotDealer, Deal, halfSize, whyNotDeal}
 use Rattle.dealer.specs.declared.Dealer.{Dealer}
-
-pub both : (a b : Bool) → a && b ≡ true → (a ≡ true) × (b ≡ true)
-both true b h = (refl, h)
-both false b h = absurd (true≢false (sym h))
-
-pub length-fits : (n : ℕ) → lengthFits n ≡ true → (1 ≤ n) × (n ≤ 512)
-unfolding lengthFits
-length-fits n h =
-    let parts = both _ _ h in
-    (leb-true _ _ (parts .0), leb-true _ _ (parts .1))
 
 -- ---- start
 
@@ -37,10 +28,10 @@ pub record StartTells (name key0 key1 : List ℕ) : Type 0 where
 pub start-tells : (name key0 key1 : List ℕ) → whyNotDealer name key0 key1 ≡ 0 → StartTells name key0 key1
 unfolding whyNotDealer isKey
 start-tells name key0 key1 h =
-    let a = unless-none _ 1 _ (λ z. omega arith) h in
-    let b = unless-none _ 4 _ (λ z. omega arith) (a .1) in
+    let a = passed _ h in
+    let b = passed _ (a .1) in
     let keys = both _ _ (b .0) in
-    record { name-fits = a .0; long-0 = eqb-true _ _ (keys .0); long-1 = eqb-true _ _ (keys .1); unequal = unless-none _ 9 _ (λ z. omega arith) (b .1) .0 }
+    record { name-fits = a .0; long-0 = eqb-true _ _ (keys .0); long-1 = eqb-true _ _ (keys .1); unequal = passed _ (b .1) .0 }
 
 -- ---- deal
 
@@ -57,10 +48,10 @@ pub record DealTells (s : Dealer) (d : Deal) (room0 room1 : ℕ) : Type 0 where
 pub deal-tells : (s : Dealer) (d : Deal) (room0 room1 : ℕ) → whyNotDeal s d room0 room1 ≡ 0 → DealTells s d room0 room1
 unfolding whyNotDeal
 deal-tells s d room0 room1 h =
-    let a = unless-none _ 2 _ (λ z. omega arith) h in
-    let b = unless-none _ 4 _ (λ z. omega arith) (a .1) in
-    let c = unless-none _ 5 _ (λ z. omega arith) (b .1) in
-    let e = unless-none _ 7 _ (λ z. omega arith) (c .1) in
+    let a = passed _ h in
+    let b = passed _ (a .1) in
+    let c = passed _ (b .1) in
+    let e = passed _ (c .1) in
     let lengths = both _ _ (b .0) in
     let long = length-fits _ (lengths .1) in
     let rooms = both _ _ (c .0) in
@@ -72,7 +63,7 @@ deal-tells s d room0 room1 h =
       room-0 = leb-true _ _ (rooms .0);
       room-1 = leb-true _ _ (rooms .1);
       above = ltb-true _ _ (e .0);
-      threshold-fits = unless-none _ 8 _ (λ z. omega arith) (e .1) .0;
+      threshold-fits = passed _ (e .1) .0;
     }
 
 -- what an accepted deal gives each party

@@ -1,6 +1,6 @@
 -- A level of key making, from what the code's calls answer, and the loop over the levels. Assumes nothing.
 use mathlib.Core.Path.{_≡_, refl, sym, _∙_, ap, ap₂}
-use mathlib.Core.Bool.{Bool, true, false, not, xor}
+use mathlib.Core.Bool.{Bool, true, false, not, cond, xor}
 use mathlib.Core.List.{List, [], _∷_, _++_, map, append-nil}
 use Prim.Native.Nat.{ℕ, zero, suc, _+_, _-_, _*_, _%_, _<_, _≤_}
 use native.Mathlib.Omega.{arith}
@@ -113,21 +113,15 @@ module _ (rs : List (List ℕ)) (g : Making) (b : ℕ) (hb : b < 2) where
       λ i. record { s0 = x0 i; s1 = x1 i; t0 = y0 i; t1 = y1 i; v = z i }
 
 -- the four blocks are the parties' nodes, opened
-is-node0 : (i : ℕ) (s0 s1 : List ℕ) → openedAt (bothOpened s0 s1) 0 ≡ node i s0
+is-node : (i : ℕ) (s0 s1 : List ℕ) (p : Bool) → openedAt (bothOpened s0 s1) (cond p 1 0) ≡ node i (cond p s1 s0)
 unfolding openedAt bothOpened node only
-is-node0 i s0 s1 = λ j d. at d j
+is-node i s0 s1 p = λ j d. at p d j
   where
-    at : (d : Bool) → openedAt (bothOpened s0 s1) 0 d ≡ node i s0 d
-    at true = refl
-    at false = refl
-
-is-node1 : (i : ℕ) (s0 s1 : List ℕ) → openedAt (bothOpened s0 s1) 1 ≡ node i s1
-unfolding openedAt bothOpened node only
-is-node1 i s0 s1 = λ j d. at d j
-  where
-    at : (d : Bool) → openedAt (bothOpened s0 s1) 1 d ≡ node i s1 d
-    at true = refl
-    at false = refl
+    at : (p d : Bool) → openedAt (bothOpened s0 s1) (cond p 1 0) d ≡ node i (cond p s1 s0) d
+    at false false = refl
+    at false true = refl
+    at true false = refl
+    at true true = refl
 
 -- the loop before level i
 pub record Made (k0 k1 : List ℕ) (r : ℕ) (l₀ l : List Correction) (g : Making) (i : ℕ) : Type 0 where
@@ -149,8 +143,8 @@ module _ (k0 k1 : List ℕ) (r : ℕ) (l₀ : List Correction) (whole : length l
   unfolding corrections asMaking D.making D.nextMaking D.levelCorrection D.keyCorrection
   one-more l g h i b c y m hi eb ey ec eh =
       let bit : odd b ≡ bits 32 r i = ap odd eb ∙ odd-only (bits 32 r i) in
-      let o0 : openedAt (rows y) 0 ≡ node i (g .s0) = ap (λ (x : List (List ℕ)). openedAt x 0) ey ∙ is-node0 i (g .s0) (g .s1) in
-      let o1 : openedAt (rows y) 1 ≡ node i (g .s1) = ap (λ (x : List (List ℕ)). openedAt x 1) ey ∙ is-node1 i (g .s0) (g .s1) in
+      let o0 : openedAt (rows y) 0 ≡ node i (g .s0) = ap (λ (x : List (List ℕ)). openedAt x 0) ey ∙ is-node i (g .s0) (g .s1) false in
+      let o1 : openedAt (rows y) 1 ≡ node i (g .s1) = ap (λ (x : List (List ℕ)). openedAt x 1) ey ∙ is-node i (g .s0) (g .s1) true in
       let now : D.Making (List ℕ) = D.making xors node first k0 k1 (bits 32 r) i in
       let made : D.correction xors (odd b) (asMaking g) (openedAt (rows y) 0) (openedAt (rows y) 1) ≡ D.keyCorrection xors node first k0 k1 (bits 32 r) i =
       (λ j. D.correction xors (bit j) (asMaking g) (o0 j) (o1 j))

@@ -5,7 +5,7 @@ use native.Mathlib.Omega.{arith}
 use native.Mathlib.Numerals.{add-one}
 use mathlib.Core.List.{List, [], _∷_}
 use lib.ListN.{length, getD, set, take}
-use lib.Seq.{take-set-le, length-take-le}
+use lib.Seq.{take-set-le, length-take-le, getD-take}
 use Rattle.words.specs.Spelt.{all}
 use Rattle.rounds.specs.declared.Four.{Four}
 use Rattle.rounds.specs.declared.State.{State}
@@ -17,12 +17,6 @@ take-set zero s i v = refl
 take-set (suc n) [] i v = refl
 take-set (suc n) (x ∷ s) zero v = refl
 take-set (suc n) (x ∷ s) (suc i) v = ap (λ (l : List ℕ). x ∷ l) (take-set n s i v)
-
-getD-take : (n : ℕ) (s : List ℕ) (i : ℕ) → i < n → getD (take n s) i 0 ≡ getD s i 0
-getD-take zero s i h = absurd (omega arith)
-getD-take (suc n) [] i h = refl
-getD-take (suc n) (x ∷ s) zero h = refl
-getD-take (suc n) (x ∷ s) (suc i) h = getD-take n s i (omega arith)
 
 -- stores past the first 32 words
 pub padded : (z : List ℕ) (at a b c d : ℕ) → 32 ≤ at → take 32 (set (set (set (set z at a) (at + 8) b) (at + 16) c) (at + 24) d) ≡ take 32 z
@@ -46,21 +40,21 @@ unfolding quarterAt store
 quarter-front z j q h e =
     four-sets z j (8 + j) (16 + j) (24 + j) (q .a) (q .b) (q .c) (q .d)
     ∙ ap (λ (p : Four). store j (8 + j) (16 + j) (24 + j) (take 32 z) p)
-    (rw (getD-take 32 z j (omega arith), getD-take 32 z (8 + j) (omega arith), getD-take 32 z (16 + j) (omega arith), getD-take 32 z (24 + j) (omega arith)) e)
+    (rw (getD-take 32 z j 0 (omega arith), getD-take 32 z (8 + j) 0 (omega arith), getD-take 32 z (16 + j) 0 (omega arith), getD-take 32 z (24 + j) 0 (omega arith)) e)
 
 pub turned-front : (z : List ℕ) (at by : ℕ) → at + 4 ≤ 32 → take 32 (turned at by z) ≡ turned at by (take 32 z)
 unfolding turned
 turned-front z at by h =
     four-sets z at (at + 1) (at + 2) (at + 3) (getD z (at + by % 4) 0) (getD z (at + (by + 1) % 4) 0) (getD z (at + (by + 2) % 4) 0) (getD z (at + (by + 3) % 4) 0)
-    ∙ rw (getD-take 32 z (at + by % 4) (omega arith), getD-take 32 z (at + (by + 1) % 4) (omega arith), getD-take 32 z (at + (by + 2) % 4) (omega arith), getD-take 32 z (at + (by + 3) % 4) (omega arith)) refl
+    ∙ rw (getD-take 32 z (at + by % 4) 0 (omega arith), getD-take 32 z (at + (by + 1) % 4) 0 (omega arith), getD-take 32 z (at + (by + 2) % 4) 0 (omega arith), getD-take 32 z (at + (by + 3) % 4) 0 (omega arith)) refl
 
 half-front : (z : List ℕ) (at : ℕ) → at + 28 ≤ 32 → half at (take 32 z) ≡ half at z
 unfolding half
 half-front z at h = λ i.
-    getD-take 32 z at (omega arith) i ∷ getD-take 32 z (at + 1) (omega arith) i ∷ getD-take 32 z (at + 2) (omega arith) i ∷ getD-take 32 z (at + 3) (omega arith) i
-    ∷ getD-take 32 z (at + 11) (omega arith) i ∷ getD-take 32 z (at + 8) (omega arith) i ∷ getD-take 32 z (at + 9) (omega arith) i ∷ getD-take 32 z (at + 10) (omega arith) i
-    ∷ getD-take 32 z (at + 18) (omega arith) i ∷ getD-take 32 z (at + 19) (omega arith) i ∷ getD-take 32 z (at + 16) (omega arith) i ∷ getD-take 32 z (at + 17) (omega arith) i
-    ∷ getD-take 32 z (at + 25) (omega arith) i ∷ getD-take 32 z (at + 26) (omega arith) i ∷ getD-take 32 z (at + 27) (omega arith) i ∷ getD-take 32 z (at + 24) (omega arith) i ∷ []
+    getD-take 32 z at 0 (omega arith) i ∷ getD-take 32 z (at + 1) 0 (omega arith) i ∷ getD-take 32 z (at + 2) 0 (omega arith) i ∷ getD-take 32 z (at + 3) 0 (omega arith) i
+    ∷ getD-take 32 z (at + 11) 0 (omega arith) i ∷ getD-take 32 z (at + 8) 0 (omega arith) i ∷ getD-take 32 z (at + 9) 0 (omega arith) i ∷ getD-take 32 z (at + 10) 0 (omega arith) i
+    ∷ getD-take 32 z (at + 18) 0 (omega arith) i ∷ getD-take 32 z (at + 19) 0 (omega arith) i ∷ getD-take 32 z (at + 16) 0 (omega arith) i ∷ getD-take 32 z (at + 17) 0 (omega arith) i
+    ∷ getD-take 32 z (at + 25) 0 (omega arith) i ∷ getD-take 32 z (at + 26) 0 (omega arith) i ∷ getD-take 32 z (at + 27) 0 (omega arith) i ∷ getD-take 32 z (at + 24) 0 (omega arith) i ∷ []
 
 -- a column round, the rows turned, and a column round, with the rows as they were in between
 abbrev pub both : List ℕ → List ℕ

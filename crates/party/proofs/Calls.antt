@@ -1,23 +1,24 @@
 -- What the methods of a box come to: the answer of each, from its tests and from what it computes. Assumes nothing.
 use mathlib.Core.Path.{_≡_, refl, sym, ap, ap₂, _∙_}
-use mathlib.Core.Bool.{Bool, true, false, not, _&&_, true≢false}
-use mathlib.Core.List.{List, _++_}
-use Prim.Native.Nat.{ℕ, suc, _+_, _-_, _≤_}
+use mathlib.Core.Bool.{Bool, true, false, not, _&&_}
+use mathlib.Core.List.{List}
+use Prim.Native.Nat.{ℕ, suc, _-_, _≤_}
 use native.Mathlib.Omega.{arith}
 use borrow.Author.Tests.{leb-true, eqb-true, ne-eqb}
 use lib.Dec.{eqb, leb}
-use lib.ListN.{length, getD, replicate, drop, length-replicate}
+use lib.ListN.{length, replicate}
 use Rattle.algebra.specs.Word.{add}
-use Rattle.words.specs.List.{over, over-eq, over-all, length-tab}
+use Rattle.words.specs.List.{over, length-tab}
 use Rattle.measure.specs.Measure.{isCode, allInRange, ownWord}
+use Rattle.measure.specs.Order.{both}
 use Rattle.share.specs.Share as Share
 use Rattle.share.specs.Share.{plus}
 use Rattle.messages.specs.declared.Label.{Label}
-use Rattle.messages.specs.Messages.{unless, ifTaken, isName, isKey, nameFits, expected, padded}
+use Rattle.messages.specs.Messages.{unless, ifTaken, isName, isKey, expected, padded}
 use Rattle.messages.specs.Laws as Refusals
-use Rattle.messages.specs.Laws.{turned-down, goes-on, unless-none, fits-short}
+use Rattle.messages.specs.Laws.{turned-down, goes-on, passed, fits-short}
 use Rattle.content.specs.Content.{fill, lengthFits}
-use Rattle.content.specs.Pieces.{drop-replicate}
+use Rattle.content.specs.Laws.{length-fits, fill-over}
 use Rattle.half.specs.declared.Examined.{Examined}
 use Rattle.half.specs.Half.{openedSet}
 use Rattle.half.specs.Examined.{answerFor, examined}
@@ -45,23 +46,15 @@ moves-telling k why next new s x w e none en ex = λ i. told (e i) ((en ∙ Refu
 
 -- ---- the turn
 
-and-left : (a b : Bool) → a && b ≡ true → a ≡ true
-and-left true b e = refl
-and-left false b e = absurd (true≢false (sym e))
-
-and-right : (a b : Bool) → a && b ≡ true → b ≡ true
-and-right true b e = e
-and-right false b e = absurd (true≢false (sym e))
-
 -- an open set's length fits an array
 open-most : (k : ℕ) (s : Party) → inTurn (suc k) s ≡ true → s .set .n ≤ 512
-unfolding inTurn sound stateFits lengthFits
+unfolding inTurn sound stateFits
 open-most k s e =
-    let phase : s .phase ≡ suc k = eqb-true (s .phase) (suc k) (and-left (eqb (s .phase) (suc k)) _ e) in
+    let turn = both (eqb (s .phase) (suc k)) _ e in
+    let phase : s .phase ≡ suc k = eqb-true (s .phase) (suc k) (turn .0) in
     let some : s .phase ≡ 0 → ⊥ = λ z. omega arith in
-    let state : leb (s .phase) 3 && (isCode (s .set .code) && (leb 1 (s .set .n) && leb (s .set .n) 512)) ≡ true =
-    rw (ne-eqb (s .phase) 0 some) at (and-right (leb (s .party) 1) _ (and-right (eqb (s .phase) (suc k)) _ e)) in
-    leb-true (s .set .n) 512 (and-right (leb 1 (s .set .n)) _ (and-right (isCode (s .set .code)) _ (and-right (leb (s .phase) 3) _ state)))
+    let state : leb (s .phase) 3 && (isCode (s .set .code) && lengthFits (s .set .n)) ≡ true = rw (ne-eqb (s .phase) 0 some) at (both (leb (s .party) 1) _ (turn .1) .1) in
+    length-fits (s .set .n) (both (isCode (s .set .code)) _ (both (leb (s .phase) 3) _ state .1) .1) .1
 
 module _ (s : Party) (t : Bool) (et : t ≡ stateFits (s .party) (s .phase) (s .set .code) (s .set .n)) where
   turn-is : (k : ℕ) → eqb (s .phase) k && t ≡ inTurn k s
@@ -118,9 +111,9 @@ module _ (s : Party) (t : Bool) (et : t ≡ stateFits (s .party) (s .phase) (s .
       pub mask-fits : k ≡ 0 → (s .set .n ≤ 512) × (length v ≡ s .set .n) × (s .set .n ≤ length out)
       unfolding whyNotMask
       mask-fits none =
-          let a = unless-none (inTurn 1 s) 3 _ (λ z. omega arith) (sym why-mask ∙ none) in
-          let b = unless-none (eqb (length v) (s .set .n)) 4 _ (λ z. omega arith) (a .1) in
-          let c = unless-none (leb (s .set .n) (length out)) 5 _ (λ z. omega arith) (b .1) in
+          let a = passed _ (sym why-mask ∙ none) in
+          let b = passed _ (a .1) in
+          let c = passed _ (b .1) in
           (open-most 0 s (a .0), eqb-true (length v) (s .set .n) (b .0), leb-true (s .set .n) (length out) (c .0))
 
       pub mask-refused : (k ≡ 0 → ⊥) → told k s 0 ≡ P.mask s v (length out)
@@ -157,9 +150,9 @@ module _ (s : Party) (t : Bool) (et : t ≡ stateFits (s .party) (s .phase) (s .
       pub take-fits : k ≡ 0 → (s .set .n ≤ 512) × (s .set .n ≤ length v)
       unfolding whyNotTake isName
       take-fits none =
-          let a = unless-none (inTurn 2 s) 3 _ (λ z. omega arith) (sym why-take ∙ none) in
-          let b = unless-none (eqb (length name) 16 && eqb (length v) (s .set .n)) 4 _ (λ z. omega arith) (a .1) in
-          (open-most 1 s (a .0), omega (arith, eqb-true (length v) (s .set .n) (and-right (eqb (length name) 16) _ (b .0))))
+          let a = passed _ (sym why-take ∙ none) in
+          let b = passed _ (a .1) in
+          (open-most 1 s (a .0), omega (arith, eqb-true (length v) (s .set .n) (both (eqb (length name) 16) _ (b .0) .1)))
 
       pub take-refused : (k ≡ 0 → ⊥) → told k s 0 ≡ P.take s l name v
       unfolding P.take
@@ -217,9 +210,9 @@ module _ (name : List ℕ) (party : ℕ) (key : List ℕ) (floor k : ℕ) (ek : 
   pub start-fits : k ≡ 0 → (length name ≤ 16) × (length key ≡ 32)
   unfolding whyNotParty isKey
   start-fits none =
-      let a = unless-none (nameFits name) 1 _ (λ z. omega arith) (sym ek ∙ none) in
-      let b = unless-none (leb party 1) 2 _ (λ z. omega arith) (a .1) in
-      let c = unless-none (eqb (length key) 32) 4 _ (λ z. omega arith) (b .1) in
+      let a = passed _ (sym ek ∙ none) in
+      let b = passed _ (a .1) in
+      let c = passed _ (b .1) in
       (fits-short name (a .0), eqb-true (length key) 32 (c .0))
 
   pub started : (p b : List ℕ) (q : Party) → k ≡ 0 → p ≡ padded name → b ≡ key → q ≡ idle p party b floor → told k q 0 ≡ startParty name party key floor
@@ -228,17 +221,6 @@ module _ (name : List ℕ) (party : ℕ) (key : List ℕ) (floor k : ℕ) (ek : 
 
 -- ---- arrays
 
-pub key-law : (key zeros out : List ℕ) → length key ≡ 32 → length zeros ≡ 32 → out ≡ over 0 key zeros → out ≡ key
-key-law key zeros out lk lz e = e ∙ over-all key zeros (lk ∙ sym lz)
-
-pub fill-law : (l zeros out : List ℕ) → length l ≤ 512 → zeros ≡ replicate 512 0 → out ≡ over 0 l zeros → out ≡ fill l
-unfolding fill
-fill-law l zeros out h ez e =
-    e ∙ ap (over 0 l) ez
-    ∙ over-eq l (replicate 512 0) 0 (omega (arith, length-replicate {A = ℕ} 512 0))
-    ∙ ap (λ (k : ℕ). l ++ drop k (replicate 512 0)) (let front : 0 + length l ≡ length l = omega arith in front)
-    ∙ ap (λ (r : List ℕ). l ++ r) (drop-replicate (length l) 512 h)
-
-pub length-plus : (n : ℕ) (a b : List ℕ) → length (plus n a b) ≡ n
+pub masked-law : (n : ℕ) (v mask zeros out : List ℕ) → n ≤ 512 → zeros ≡ replicate 512 0 → out ≡ over 0 (plus n v mask) zeros → out ≡ fill (plus n v mask)
 unfolding plus
-length-plus n a b = length-tab (λ i. add (getD a i 0) (getD b i 0)) n
+masked-law n v mask zeros out most ez e = e ∙ fill-over _ zeros n (length-tab _ n) most ez

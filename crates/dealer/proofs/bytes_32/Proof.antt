@@ -1,5 +1,5 @@
 use mathlib.Core.Path.{_∙_}
-use Rattle.dealer.proofs.Laws.{copied}
+use Rattle.words.specs.List.{over-all}
 use borrow.Author.Needs.{needs}
 use Rattle.dealer.proofs.bytes_32.Statement.{statement}
 use Rattle.dealer.proofs.bytes_32.Tie as tie
@@ -11,7 +11,7 @@ copy-requires : tie.Need-copy-requires
 copy-requires c κs = search needs
 
 returns : tie.Need-returns
-returns c = c .before .copy .ensures ∙ copied _ (search needs)
+returns c = c .before .copy .ensures ∙ over-all _ _ (search needs)
 
 pub bytes-32-spec : {M : Type 1} → statement M
 bytes-32-spec = tie.close (tie.spec slice-aggregate-copy copy-requires returns)

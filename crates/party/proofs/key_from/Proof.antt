@@ -1,5 +1,5 @@
-use Rattle.party.proofs.Calls.{key-law}
-use mathlib.Core.Path.{refl}
+use mathlib.Core.Path.{_∙_}
+use Rattle.words.specs.List.{over-all}
 use borrow.Author.Needs.{needs}
 use Rattle.party.proofs.key_from.Statement.{statement}
 use Rattle.party.proofs.key_from.Tie as tie
@@ -11,7 +11,7 @@ copy-requires : tie.Need-copy-requires
 copy-requires c κs = search needs
 
 returns : tie.Need-returns
-returns c = key-law _ _ _ (c .before .before .before .before .pre) refl (c .before .copy .ensures)
+returns c = c .before .copy .ensures ∙ over-all _ _ (c .before .before .before .before .pre)
 
 pub key-from-spec : {M : Type 1} → statement M
 key-from-spec = tie.close (tie.spec slice-aggregate-copy copy-requires returns)

@@ -1,4 +1,4 @@
-use Rattle.party.proofs.Calls.{fill-law, length-plus}
+use Rattle.party.proofs.Calls.{masked-law}
 use mathlib.Core.Path.{refl}
 use borrow.Author.Needs.{needs}
 use Rattle.party.proofs.masked_array.Statement.{statement}
@@ -14,7 +14,7 @@ add-vectors-requires : tie.Need-add-vectors-requires
 add-vectors-requires c κs = search needs
 
 returns : tie.Need-returns
-returns c = fill-law _ _ _ (rw (length-plus _ _ _) (c .before .before .before .before .before .pre .0)) refl (c .before .add-vectors .ensures)
+returns c = masked-law _ _ _ _ _ (c .before .before .before .before .before .pre .0) refl (c .before .add-vectors .ensures)
 
 pub masked-array-spec : {M : Type 1} → statement M
 masked-array-spec =
