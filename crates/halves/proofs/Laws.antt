@@ -11,7 +11,7 @@ use Rattle.words.specs.List.{same}
 use Rattle.node.specs.declared.Correction.{Correction}
 use Rattle.measure.specs.Measure.{isCode}
 use Rattle.measure.specs.Order.{both}
-use Rattle.messages.specs.Laws.{unless-none, taken}
+use Rattle.messages.specs.Laws.{passed, taken}
 use Rattle.content.specs.declared.Set.{Set}
 use Rattle.content.specs.Content.{size, blocks, field, setIn, noSet, lengthFits, flagsFit, zeros, contentFits, FlagBytes, Proper}
 use Rattle.dealing.specs.Dealing.{dealtSet}
@@ -53,9 +53,9 @@ pub opened-laid : (key name : List ℕ) (party last : ℕ) (h : List ℕ) (e : E
 unfolding examined answerFor whyNot whyNotOpened openedSet
 opened-laid key name party last h e same none =
     let why : whyNot key name party last h ≡ 0 = ap (λ (x : Examined). x .why) (sym same) ∙ none in
-    let whole = unless-none _ 4 _ (λ z. omega arith) why in
-    let above = unless-none _ 7 _ (λ z. omega arith) (whole .1) in
-    let fit = unless-none _ 10 _ (λ z. omega arith) (above .1) in
-    let content = unless-none _ 11 _ (λ z. omega arith) (fit .1) in
+    let whole = passed 3 why in
+    let above = passed 6 (whole .1) in
+    let fit = passed 9 (above .1) in
+    let content = passed 10 (fit .1) in
     let opened = ap (λ (x : Examined). x .set) same ∙ sym (taken (openedSet key h) noSet refl why) in
     subst Laid (sym opened) (fits-laid name party _ _ _ (content .0))
