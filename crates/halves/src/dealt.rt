@@ -25,22 +25,11 @@ fn no_half() -> [u8; HALF] {
     [0; HALF]
 }
 
-fn nobody() -> Holder
-    ensures { λ r. ⌜ r .party ≤ 1 ⌝ }
-{
-    Holder {
-        party: 0,
-        key: [0; 32],
-        name: [0; 16],
-        last: 0,
-    }
-}
-
-fn not_dealt() -> Dealt
-    ensures { λ r. ⌜ (r .blocks ≤ 16) × (r .holder .party ≤ 1) ⌝ }
+fn not_dealt(b: Holder) -> Dealt
+    ensures { λ r. ⌜ r .blocks ≤ 16 ⌝ }
 {
     Dealt {
-        holder: nobody(),
+        holder: b,
         number: 0,
         blocks: 0,
         plain: [0; PLAIN],
@@ -51,7 +40,7 @@ fn not_dealt() -> Dealt
 fn deal_to(b: Holder, set: Set) -> Dealt
     requires { ⌜ b .party ≤ 1 ⌝ }
     requires { ⌜ Proper set ⌝ }
-    ensures { λ r. ⌜ (r .blocks ≤ 16) × (r .holder .party ≤ 1) ⌝ }
+    ensures { λ r. ⌜ r .blocks ≤ 16 ⌝ }
 {
     let key = b.key;
     let name = b.name;
@@ -69,7 +58,7 @@ fn deal_to(b: Holder, set: Set) -> Dealt
 
 fn deal_in_range(b: Holder, seed: [u8; 32], number: u64, code: u32, n: usize, t: u32) -> Dealt
     requires { ⌜ (b .party ≤ 1) × (code < 3) × (1 ≤ n) × (n ≤ 512) ⌝ }
-    ensures { λ r. ⌜ (r .blocks ≤ 16) × (r .holder .party ≤ 1) ⌝ }
+    ensures { λ r. ⌜ r .blocks ≤ 16 ⌝ }
 {
     let sets = dealing::sets(&seed, number, code, n, t);
     if b.party == 0 {
@@ -79,12 +68,12 @@ fn deal_in_range(b: Holder, seed: [u8; 32], number: u64, code: u32, n: usize, t:
 }
 
 fn deal(h: Half) -> Dealt
-    ensures { λ r. ⌜ (r .blocks ≤ 16) × (r .holder .party ≤ 1) ⌝ }
+    ensures { λ r. ⌜ r .blocks ≤ 16 ⌝ }
 {
     let b = h.holder;
     let seed = h.seed;
     if !measure::threshold_fits(h.code, h.t) {
-        return not_dealt();
+        return not_dealt(b);
     }
     if b.party <= 1 {
         if h.code < 3 {
@@ -95,13 +84,13 @@ fn deal(h: Half) -> Dealt
             }
         }
     }
-    not_dealt()
+    not_dealt(b)
 }
 
 // The half of a line, whose PARTY is field `at`.
 pub fn made(line: &[u8], at: usize) -> Dealt
     requires { ⌜ at ≤ 10 ⌝ }
-    ensures { λ r. ⌜ (r .blocks ≤ 16) × (r .holder .party ≤ 1) ⌝ }
+    ensures { λ r. ⌜ r .blocks ≤ 16 ⌝ }
 {
     deal(fields::read_half(line, at))
 }
@@ -136,7 +125,7 @@ pub struct Resealed {
 }
 
 pub fn reseal(d: Dealt) -> Resealed
-    requires { ⌜ (d .blocks ≤ 16) × (d .holder .party ≤ 1) ⌝ }
+    requires { ⌜ d .blocks ≤ 16 ⌝ }
 {
     let b = d.holder;
     let key = b.key;
@@ -147,7 +136,11 @@ pub fn reseal(d: Dealt) -> Resealed
         return Resealed { why: e.why, half };
     }
     let set = e.set;
+<<<<<<< HEAD
     let plain = layout::lay_out(name, b.party, set);
+=======
+    let plain = content::lay_out(name, b.party % 2, set);
+>>>>>>> 4dd708c8f168d2262a0a78a181220dbdbbaad05b
     Resealed {
         why: 0,
         half: sealed(key, set.number, d.blocks, plain),

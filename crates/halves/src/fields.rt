@@ -1,5 +1,5 @@
-// What the fields of a line say. A field that is no number stands for the largest, and one that is
-// no bytes for zeros: a mistake in the script then shows as a difference in the output.
+// What the fields of a line say. One that can't be read stands for some number or bytes all the same,
+// so that a mistake shows as a difference in the output.
 ghost use Prim.Native.Nat.{_≤_};
 use script::Number;
 use script::Word;

@@ -15,68 +15,35 @@ use script::ROOM;
 // One more than the longest script.
 const SIZE: usize = 65537;
 
-// The tag that stands for long bytes: Poly1305's under the key of bytes 0 to 31.
-fn put_tag(out: &mut [u8; ROOM], at: usize, bytes: &[u8]) -> usize {
-    let key = [
-        0,
-        1,
-        2,
-        3,
-        4,
-        5,
-        6,
-        7,
-        8,
-        9,
-        10,
-        11,
-        12,
-        13,
-        14,
-        15,
-        16,
-        17,
-        18,
-        19,
-        20,
-        21,
-        22,
-        23,
-        24,
-        25,
-        26,
-        27,
-        28,
-        29,
-        30,
-        31,
-    ];
-    script::put_hex(out, at, &poly1305::mac(&key, bytes))
+fn put_half(half: [u8; HALF], blocks: usize, out: &mut [u8; ROOM], at: usize) -> usize
+    requires { ⌜ blocks ≤ 16 ⌝ }
+{
+    script::put_hex(out, at, dealt::first(&half, 512 * blocks))
 }
 
-fn put_half(d: Dealt, out: &mut [u8; ROOM], at: usize) -> usize
-    requires { ⌜ d .blocks ≤ 16 ⌝ }
+// The tag that stands for a half: Poly1305's under the key of bytes 0 to 31.
+fn put_tag(half: [u8; HALF], blocks: usize, out: &mut [u8; ROOM], at: usize) -> usize
+    requires { ⌜ blocks ≤ 16 ⌝ }
 {
-    let half = d.half;
-    script::put_hex(out, at, dealt::first(&half, 512 * d.blocks))
+    let mut key = [0u8; 32];
+    script::fill(
+        b"000102030405060708090a0b0c0d0e0f101112131415161718191a1b1c1d1e1f",
+        &mut key,
+    );
+    let tag = poly1305::mac(&key, dealt::first(&half, 512 * blocks));
+    script::put_hex(out, at, &tag)
 }
 
 // What is sealed again has as many blocks.
-fn put_tag_of(half: [u8; HALF], blocks: usize, out: &mut [u8; ROOM], at: usize) -> usize
-    requires { ⌜ blocks ≤ 16 ⌝ }
-{
-    put_tag(out, at, dealt::first(&half, 512 * blocks))
-}
-
 fn put_again(d: Dealt, out: &mut [u8; ROOM], at: usize) -> usize
-    requires { ⌜ (d .blocks ≤ 16) × (d .holder .party ≤ 1) ⌝ }
+    requires { ⌜ d .blocks ≤ 16 ⌝ }
 {
     let again = dealt::reseal(d);
     if again.why != 0 {
         return script::put_numbers(out, at, &[again.why]);
     }
     let half = again.half;
-    put_tag_of(half, d.blocks, out, at)
+    put_tag(half, d.blocks, out, at)
 }
 
 // A refusal for each place, with a space between two.
@@ -114,12 +81,12 @@ fn put_places(d: Dealt, c: Command, line: &[u8], out: &mut [u8; ROOM], at: usize
 }
 
 fn put_answer(d: Dealt, c: Command, line: &[u8], out: &mut [u8; ROOM], at: usize) -> usize
-    requires { ⌜ (d .blocks ≤ 16) × (d .holder .party ≤ 1) ⌝ }
+    requires { ⌜ d .blocks ≤ 16 ⌝ }
 {
     let half = d.half;
     match c {
-        Command::Half => put_half(d, out, at),
-        Command::Tag => put_tag_of(half, d.blocks, out, at),
+        Command::Half => put_half(half, d.blocks, out, at),
+        Command::Tag => put_tag(half, d.blocks, out, at),
         Command::Again => put_again(d, out, at),
         Command::Flip => put_places(d, c, line, out, at),
         Command::Content => put_places(d, c, line, out, at),

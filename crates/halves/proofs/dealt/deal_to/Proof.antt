@@ -20,7 +20,7 @@ blocks-of-requires : tie.Need-blocks-of-requires
 blocks-of-requires c κs = search needs
 
 returns : tie.Need-returns
-returns c = let p = c .before .before .before .before .before .before .before .before .before .pre .1 in (omega (arith, c .blocks-of .ensures, blocks-bounds _ (p .some) (p .most) .1), c .before .before .before .before .before .before .before .before .before .pre .0)
+returns c = let p = c .before .before .before .before .before .before .before .before .before .pre .1 in omega (arith, c .blocks-of .ensures, blocks-bounds _ (p .some) (p .most) .1)
 
 pub deal-to-spec : {M : Type 1} → statement M
 deal-to-spec =
