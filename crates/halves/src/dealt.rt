@@ -136,11 +136,7 @@ pub fn reseal(d: Dealt) -> Resealed
         return Resealed { why: e.why, half };
     }
     let set = e.set;
-<<<<<<< HEAD
-    let plain = layout::lay_out(name, b.party, set);
-=======
-    let plain = content::lay_out(name, b.party % 2, set);
->>>>>>> 4dd708c8f168d2262a0a78a181220dbdbbaad05b
+    let plain = layout::lay_out(name, b.party % 2, set);
     Resealed {
         why: 0,
         half: sealed(key, set.number, d.blocks, plain),
