@@ -1,6 +1,6 @@
 -- What acceptance tells: for each call, over any state and anything handed in, what its tests say where none refuses. Assumes nothing.
 use mathlib.Core.Path.{_≡_, refl}
-use mathlib.Core.Bool.{true, not}
+use mathlib.Core.Bool.{Bool, true, not}
 use mathlib.Core.List.{List}
 use Prim.Native.Nat.{ℕ, _-_, _<_, _≤_}
 use borrow.Author.Tests.{leb-true, ltb-true, eqb-true, eqb-false, not-true}
@@ -11,7 +11,7 @@ use Rattle.measure.specs.Measure.{allInRange}
 use Rattle.measure.specs.Order.{both}
 use Rattle.messages.specs.declared.Label.{Label}
 use Rattle.messages.specs.Laws.{passed, fits-short}
-use Rattle.messages.specs.Messages.{expected}
+use Rattle.messages.specs.Messages.{unless, expected}
 use Rattle.half.specs.Half.{whyNot, setNumber}
 use Rattle.party.specs.declared.Party.{Party}
 use Rattle.party.specs.Party.{inTurn, whyNotLoad, whyNotMask, whyNotTake, whyNotFinish, whyNotDrop}
@@ -81,31 +81,26 @@ mask-tells s v room e =
       in-range = passed _ (w .1) .0;
     }
 
-pub record TakeTells (s : Party) (l : Label) (name : List ℕ) : Type 0 where
-  pub turn : s .phase ≡ 2
-  pub hears : Heard 0 (1 - s .party) (s .set .number) (s .name) l name
+-- calls 3 and 4: at this phase, a message of this kind
+pub record MessageTells (phase kind : ℕ) (s : Party) (l : Label) (name : List ℕ) : Type 0 where
+  pub turn : s .phase ≡ phase
+  pub hears : Heard kind (1 - s .party) (s .set .number) (s .name) l name
 
-pub take-tells : (s : Party) (l : Label) (name v : List ℕ) → whyNotTake s l name v ≡ 0 → TakeTells s l name
+message-tells : (phase kind : ℕ) (s : Party) (l : Label) (name : List ℕ) (lengths : Bool)
+    → unless (inTurn phase s) 3 (unless lengths 4 (unless (expected kind (s .name) (1 - s .party) l name) 6 (unless (eqb (l .number) (s .set .number)) 7 0))) ≡ 0
+    → MessageTells phase kind s l name
+message-tells phase kind s l name lengths e =
+    let t = passed _ e in
+    let u = passed _ (passed _ (t .1) .1) in
+    record { turn = in-turn phase s (t .0); hears = heard kind _ _ (s .name) l name (u .0) (eqb-true _ _ (passed _ (u .1) .0)) }
+
+pub take-tells : (s : Party) (l : Label) (name v : List ℕ) → whyNotTake s l name v ≡ 0 → MessageTells 2 0 s l name
 unfolding whyNotTake
-take-tells s l name v e =
-    let t = passed _ e in
-    let u = passed _ (t .1) in
-    let w = passed _ (u .1) in
-    let n = passed _ (w .1) in
-    record { turn = in-turn 2 s (t .0); hears = heard 0 _ _ (s .name) l name (w .0) (eqb-true _ _ (n .0)) }
+take-tells s l name v e = message-tells 2 0 s l name _ e
 
-pub record FinishTells (s : Party) (l : Label) (name : List ℕ) : Type 0 where
-  pub turn : s .phase ≡ 3
-  pub hears : Heard 1 (1 - s .party) (s .set .number) (s .name) l name
-
-pub finish-tells : (s : Party) (l : Label) (name : List ℕ) → whyNotFinish s l name ≡ 0 → FinishTells s l name
+pub finish-tells : (s : Party) (l : Label) (name : List ℕ) → whyNotFinish s l name ≡ 0 → MessageTells 3 1 s l name
 unfolding whyNotFinish
-finish-tells s l name e =
-    let t = passed _ e in
-    let u = passed _ (t .1) in
-    let w = passed _ (u .1) in
-    let n = passed _ (w .1) in
-    record { turn = in-turn 3 s (t .0); hears = heard 1 _ _ (s .name) l name (w .0) (eqb-true _ _ (n .0)) }
+finish-tells s l name e = message-tells 3 1 s l name _ e
 
 pub drop-tells : (s : Party) → whyNotDrop s ≡ 0 → s .phase ≡ 0 → ⊥
 unfolding whyNotDrop

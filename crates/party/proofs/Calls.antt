@@ -135,17 +135,22 @@ module _ (s : Party) (t : Bool) (et : t ≡ stateFits (s .party) (s .phase) (s .
       unfolding maskOut maskedVector
       out-taken written none e = e ∙ Refusals.taken _ out why-mask none
 
-  -- ---- call 3
+  -- ---- calls 3 and 4, each at its phase with a message of its kind
+
+  why-message : (phase kind : ℕ) (l : Label) (name : List ℕ) (lengths f : Bool) (from k : ℕ) → from ≡ 1 - s .party → f ≡ expected kind (s .name) from l name
+      → k ≡ unless (eqb (s .phase) phase && t) 3 (unless lengths 4 (unless f 6 (unless (eqb (l .number) (s .set .number)) 7 0)))
+      → k ≡ unless (inTurn phase s) 3 (unless lengths 4 (unless (expected kind (s .name) (1 - s .party) l name) 6 (unless (eqb (l .number) (s .set .number)) 7 0)))
+  why-message phase kind l name lengths f from k eo ef ek =
+      ek
+      ∙ ap₂ (λ (a b : Bool). unless a 3 (unless lengths 4 (unless b 6 (unless (eqb (l .number) (s .set .number)) 7 0)))) (turn-is phase)
+      (ef ∙ ap (λ (p : ℕ). expected kind (s .name) p l name) eo)
 
   module _ (l : Label) (name v : List ℕ) (f : Bool) (from : ℕ) (eo : from ≡ 1 - s .party) (ef : f ≡ expected 0 (s .name) from l name) (k : ℕ)
       (ek : k ≡ unless (eqb (s .phase) 2 && t) 3 (unless (eqb (length name) 16 && eqb (length v) (s .set .n)) 4 (unless f 6 (unless (eqb (l .number) (s .set .number)) 7 0))))
     where
       why-take : k ≡ whyNotTake s l name v
       unfolding whyNotTake isName
-      why-take =
-          ek
-          ∙ ap₂ (λ (a b : Bool). unless a 3 (unless (eqb (length name) 16 && eqb (length v) (s .set .n)) 4 (unless b 6 (unless (eqb (l .number) (s .set .number)) 7 0)))) (turn-is 2)
-          (ef ∙ ap (λ (p : ℕ). expected 0 (s .name) p l name) eo)
+      why-take = why-message 2 0 l name (eqb (length name) 16 && eqb (length v) (s .set .n)) f from k eo ef ek
 
       pub take-fits : k ≡ 0 → (s .set .n ≤ 512) × (s .set .n ≤ length v)
       unfolding whyNotTake isName
@@ -165,17 +170,12 @@ module _ (s : Party) (t : Bool) (et : t ≡ stateFits (s .party) (s .phase) (s .
           let is : w ≡ wordOf (s .set) (s .party) (s .masked) (s .own) v = ew ∙ ap (λ (y : ℕ). Share.word (s .set .code) y (s .own) (s .set .r)) ex in
           moves-telling k _ _ _ s w _ why-take none (ap (worded s) is) is
 
-  -- ---- call 4
-
   module _ (l : Label) (name : List ℕ) (w : ℕ) (f : Bool) (from : ℕ) (eo : from ≡ 1 - s .party) (ef : f ≡ expected 1 (s .name) from l name) (k : ℕ)
       (ek : k ≡ unless (eqb (s .phase) 3 && t) 3 (unless (eqb (length name) 16) 4 (unless f 6 (unless (eqb (l .number) (s .set .number)) 7 0))))
     where
       why-finish : k ≡ whyNotFinish s l name
       unfolding whyNotFinish isName
-      why-finish =
-          ek
-          ∙ ap₂ (λ (a b : Bool). unless a 3 (unless (eqb (length name) 16) 4 (unless b 6 (unless (eqb (l .number) (s .set .number)) 7 0)))) (turn-is 3)
-          (ef ∙ ap (λ (p : ℕ). expected 1 (s .name) p l name) eo)
+      why-finish = why-message 3 1 l name (eqb (length name) 16) f from k eo ef ek
 
       pub finish-refused : (k ≡ 0 → ⊥) → told k s 0 ≡ P.finish s l name w
       unfolding P.finish
