@@ -1,19 +1,33 @@
 // What the fields of a line say.
 ghost use Prim.Native.Nat.{_≤_};
-use crate::door::Door;
-use crate::door::WORDS;
+use crate::sent;
+use crate::sent::Sent;
 use messages::Label;
 use script::Number;
 use script::Word;
 
-// The most bytes of a bytes field: one block more than a half may have.
+// The most bytes of a bytes field, one block more than a half may have, and the most words of a
+// vector field.
 pub const BYTES: usize = 8704;
 
-// The bytes of a field, at the start of the array. `ok`: they were read.
+pub const WORDS: usize = 2176;
+
+// More than any number below 2^32: what is no number stands for it.
+pub const TOO_MANY: usize = 4294967296;
+
+// The n bytes of a field, at the start of the array. `ok`: they were read.
 pub struct Field {
     pub ok: bool,
     pub n: usize,
     pub bytes: [u8; BYTES],
+}
+
+pub fn no_field() -> Field {
+    Field {
+        ok: false,
+        n: 0,
+        bytes: [0; BYTES],
+    }
 }
 
 pub fn read_field(line: &[u8], place: usize) -> Field {
@@ -26,19 +40,29 @@ pub fn read_field(line: &[u8], place: usize) -> Field {
     }
 }
 
-// The first n bytes, or all.
-pub fn first(bytes: &[u8], n: usize) -> &[u8] {
-    let k = words::least(n, bytes.len());
-    &bytes[..k]
+// The n bytes from a place on, or as many as there are.
+pub fn part(b: &[u8], at: usize, n: usize) -> &[u8] {
+    let start = words::least(at, b.len());
+    let end = start + words::least(n, b.len() - start);
+    &b[start..end]
 }
 
-// The first n words, or all.
-pub fn first_words(w: &[u32], n: usize) -> &[u32] {
-    let k = words::least(n, w.len());
-    &w[..k]
+// The first n bytes, or all. It takes an array and no slice, so that a caller has nothing to prove
+// of its length.
+pub fn first(b: &[u8; BYTES], n: usize) -> &[u8] {
+    part(b, 0, n)
 }
 
-// The words of a field, at the start of the array.
+fn first_part(w: &[u32], n: usize) -> &[u32] {
+    let end = words::least(n, w.len());
+    &w[0..end]
+}
+
+pub fn first_words(w: &[u32; WORDS], n: usize) -> &[u32] {
+    first_part(w, n)
+}
+
+// The n words of a field, at the start of the array. `ok`: they were read.
 pub struct Vector {
     pub ok: bool,
     pub n: usize,
@@ -54,30 +78,19 @@ fn load_all(bytes: &[u8], w: &mut [u32]) {
     }
 }
 
+fn as_words(bytes: [u8; BYTES]) -> [u32; WORDS] {
+    let mut words = [0u32; WORDS];
+    load_all(&bytes, &mut words);
+    words
+}
+
 pub fn read_words(line: &[u8], place: usize) -> Vector {
     let f = read_field(line, place);
     let bytes = f.bytes;
-    let mut words = [0u32; WORDS];
-    load_all(&bytes, &mut words);
     Vector {
         ok: f.ok & (f.n % 4 == 0),
         n: f.n / 4,
-        words,
-    }
-}
-
-// A vector, or the last one that a box sent.
-pub fn read_vector(door: Door, line: &[u8], place: usize) -> Vector {
-    let which = read_box(line, place);
-    if which > 1 {
-        return read_words(line, place);
-    }
-    let s = crate::door::station(door, which);
-    let words = s.masked;
-    Vector {
-        ok: true,
-        n: s.n,
-        words,
+        words: as_words(bytes),
     }
 }
 
@@ -93,12 +106,18 @@ pub fn read_box(line: &[u8], place: usize) -> usize {
     2
 }
 
+// A vector, or the last one that a box sent.
+pub fn read_vector(s: Sent, line: &[u8], place: usize) -> Vector {
+    let from = read_box(line, place);
+    if from > 1 {
+        return read_words(line, place);
+    }
+    sent::masked(s, from)
+}
+
 fn size(w: u32) -> usize {
     w as usize
 }
-
-// More than any number that a line may have there: what is no number stands for it.
-pub const TOO_MANY: usize = 4294967296;
 
 pub fn read_size(line: &[u8], place: usize) -> usize {
     match script::read_word(script::field(line, place)) {
@@ -120,44 +139,32 @@ pub fn read_number(line: &[u8], place: usize) -> Wide {
     }
 }
 
-// A word, or the last one that a box sent. `ok`: it was read.
-pub struct Small {
+// A number below 2^32. `ok`: it was read.
+pub struct Narrow {
     pub ok: bool,
     pub w: u32,
 }
 
-pub fn read_spoken(line: &[u8], place: usize, camera: u32, office: u32) -> Small {
-    let which = read_box(line, place);
-    if which == 0 {
-        return Small {
+pub fn read_word(line: &[u8], place: usize) -> Narrow {
+    match script::read_word(script::field(line, place)) {
+        Word::Value(w) => Narrow { ok: true, w },
+        Word::NotAWord => Narrow { ok: false, w: 0 },
+    }
+}
+
+// A word, or the last one of two boxes.
+pub fn read_sent(line: &[u8], place: usize, camera: u32, office: u32) -> Narrow {
+    match read_box(line, place) {
+        0 => Narrow {
             ok: true,
             w: camera,
-        };
-    }
-    if which == 1 {
-        return Small {
+        },
+        1 => Narrow {
             ok: true,
             w: office,
-        };
+        },
+        _ => read_word(line, place),
     }
-    match script::read_word(script::field(line, place)) {
-        Word::Value(w) => Small { ok: true, w },
-        Word::NotAWord => Small { ok: false, w: 0 },
-    }
-}
-
-// An answer, or the last one that a box sent.
-pub fn read_answer(door: Door, line: &[u8], place: usize) -> Small {
-    let camera = door.camera;
-    let office = door.office;
-    read_spoken(line, place, camera.answer, office.answer)
-}
-
-// A word, or the last one that a box sent.
-pub fn read_spoken_word(door: Door, line: &[u8], place: usize) -> Small {
-    let camera = door.camera;
-    let office = door.office;
-    read_spoken(line, place, camera.word, office.word)
 }
 
 // What a message carries beside its content: KIND NAME SENDER NUMBER, of which KIND is field
@@ -171,15 +178,15 @@ pub struct Heading {
 pub fn read_heading(line: &[u8], place: usize) -> Heading
     requires { ⌜ place ≤ 20 ⌝ }
 {
-    let mut w = [0u32; 2];
-    let ok = script::read_words(line, b' ', &[place, place + 2], &mut w);
+    let kind = read_word(line, place);
     let name = read_field(line, place + 1);
+    let sender = read_word(line, place + 2);
     let number = read_number(line, place + 3);
     Heading {
-        ok: ok & name.ok & number.ok,
+        ok: kind.ok & name.ok & sender.ok & number.ok,
         label: Label {
-            kind: w[0],
-            sender: w[1],
+            kind: kind.w,
+            sender: sender.w,
             number: number.n,
         },
         name,
