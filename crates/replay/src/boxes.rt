@@ -1,249 +1,195 @@
 // A box's start and its calls. What an accepted one sends is kept for later messages.
-use crate::commands::Call;
-use crate::fields;
-use crate::fields::Field;
-use crate::fields::Heading;
-use crate::fields::Vector;
-use crate::fields::WORDS;
+use crate::lines;
+use crate::memory;
+use crate::memory::ANSWERS;
+use crate::memory::BYTES;
+use crate::memory::MASKED;
+use crate::memory::NUMBERS;
+use crate::memory::SLOT;
+use crate::memory::WORDS;
 use crate::put;
-use crate::sent;
-use crate::sent::Sent;
+use messages::Label;
 use party::Party;
 use party::PartyAnswer;
 use script::ROOM;
 
-// The longest buffer that a masked vector is written to, in words.
-const MASKED: usize = 520;
+// The most words of a vector, and of call 2's buffer.
+const LONGEST: usize = 2176;
 
-// Whether the line could be read, the box and what was sent after it, and the next position in the
-// output.
-pub struct BoxStep {
-    pub ok: bool,
-    pub party: Party,
-    pub sent: Sent,
-    pub at: usize,
+const ROOMS: usize = 520;
+
+fn load_all(bytes: &[u8], w: &mut [u32]) {
+    let n = words::least(bytes.len() / 4, w.len());
+    let mut i: usize = 0;
+    while i < n {
+        w[i] = words::load(bytes, 4 * i);
+        i += 1;
+    }
 }
 
-pub fn no_party() -> Party {
-    Party {
-        name: [0; 16],
-        party: 0,
-        key: [0; 32],
-        last: 0,
-        phase: 0,
-        set: content::no_set(),
-        masked: [0; 512],
-        own: 0,
+// All words of a slot.
+fn vector(b: &[u8; BYTES], slot: usize) -> [u32; LONGEST] {
+    let mut w = [0u32; LONGEST];
+    load_all(memory::first(b, slot, 8704), &mut w);
+    w
+}
+
+fn first_part(w: &[u32], n: usize) -> &[u32] {
+    let end = words::least(n, w.len());
+    &w[0..end]
+}
+
+// The words of the first n bytes.
+fn first_words(w: &[u32; LONGEST], n: u64) -> &[u32] {
+    first_part(w, memory::size(n / 4))
+}
+
+// KIND NAME SENDER NUMBER, of which KIND is field 2.
+fn label(n: [u64; NUMBERS]) -> Label {
+    Label {
+        kind: memory::low(n[2]),
+        sender: memory::low(n[4]),
+        number: n[5],
+    }
+}
+
+// party BOX NAME PARTY KEY FLOOR. A refused start leaves the box as it was.
+fn start(p: Party, b: &[u8; BYTES], n: [u64; NUMBERS]) -> PartyAnswer {
+    let a = Party::start(
+        memory::field(b, n, 2),
+        memory::low(n[3]),
+        memory::field(b, n, 4),
+        n[5],
+    );
+    if a.why == 0 {
+        return a;
+    }
+    PartyAnswer {
+        why: a.why,
+        party: p,
         word: 0,
     }
 }
 
-fn bad_line(party: Party, sent: Sent, at: usize) -> BoxStep {
-    BoxStep {
-        ok: false,
-        party,
-        sent,
-        at,
+// load BOX FROM K BYTES AT, mixed BOX I K J, bytes BOX BYTES: the bytes of a load into slot 0.
+fn gather(command: usize, b: &mut [u8; BYTES], n: &mut [u64; NUMBERS]) {
+    if command == lines::LOAD {
+        memory::copy_slot(b, n, lines::half_slot(n[3], n[2]), 0);
+        n[0] = n[4];
+        if n[5] < n[4] {
+            memory::flip(b, memory::size(n[5]));
+        }
+        return;
     }
-}
-
-fn answered(party: Party, sent: Sent, at: usize) -> BoxStep {
-    BoxStep {
-        ok: true,
-        party,
-        sent,
-        at,
+    if command == lines::MIXED {
+        memory::copy_slot(b, n, lines::half_slot(0, n[1]), 0);
+        let from = lines::half_slot(n[3], n[1]);
+        memory::copy_block(b, from, memory::size(n[4]), 0, memory::size(n[2]));
+        return;
     }
+    memory::copy_slot(b, n, 2, 0);
 }
 
-// A call that sends nothing.
-fn answered_by(a: PartyAnswer, sent: Sent, out: &mut [u8; ROOM], at: usize) -> BoxStep {
-    let next = a.party;
-    answered(next, sent, put::why(out, at, a.why))
+fn load(command: usize, p: Party, b: &mut [u8; BYTES], n: &mut [u64; NUMBERS]) -> PartyAnswer {
+    gather(command, b, n);
+    p.load(memory::field(b, *n, 0))
 }
 
-fn run_start(name: Field, party: u32, key: Field, floor: u64) -> PartyAnswer {
-    let b = name.bytes;
-    let k = key.bytes;
-    Party::start(
-        fields::first(&b, name.n),
-        party,
-        fields::first(&k, key.n),
-        floor,
-    )
-}
-
-// party BOX NAME PARTY KEY FLOOR. A refused start leaves the box as it was.
-fn start(p: Party, sent: Sent, line: &[u8], out: &mut [u8; ROOM], at: usize) -> BoxStep {
-    let name = fields::read_field(line, 2);
-    let party = fields::read_word(line, 3);
-    let key = fields::read_field(line, 4);
-    let floor = fields::read_number(line, 5);
-    if !(name.ok & party.ok & key.ok & floor.ok) {
-        return bad_line(p, sent, at);
-    }
-    let a = run_start(name, party.w, key, floor.n);
-    if a.why != 0 {
-        return answered(p, sent, put::why(out, at, a.why));
-    }
-    answered_by(a, sent, out, at)
-}
-
-// A load of a line's bytes.
-pub fn load(p: Party, sent: Sent, f: Field, out: &mut [u8; ROOM], at: usize) -> BoxStep {
-    if !f.ok {
-        return bad_line(p, sent, at);
-    }
-    let b = f.bytes;
-    answered_by(p.load(fields::first(&b, f.n)), sent, out, at)
-}
-
-// Call 2, and its buffer after it.
-struct Masking {
-    answer: PartyAnswer,
-    masked: [u32; WORDS],
-}
-
-fn run_mask(p: Party, v: &[u32], room: usize) -> Masking {
-    let mut masked = [2863311530u32; WORDS];
-    let end = words::least(room, MASKED);
-    let answer = p.mask(v, &mut masked[0..end]);
-    Masking { answer, masked }
-}
-
-// The tag of the first n words.
-fn put_words_tag(w: [u32; WORDS], n: usize, out: &mut [u8; ROOM], at: usize) -> usize {
-    let mut bytes = [0u8; 8704];
-    words::store_all(&mut bytes, 0, &w);
-    put::next_tag(out, at, fields::first(&bytes, 4 * words::least(n, MASKED)))
-}
-
-// mask BOX VECTOR ROOM
-fn mask(
-    p: Party,
-    sent: Sent,
-    place: usize,
-    line: &[u8],
-    out: &mut [u8; ROOM],
-    at: usize,
-) -> BoxStep {
-    let v = fields::read_words(line, 2);
-    let room = fields::read_size(line, 3);
-    if (room > MASKED) | !v.ok {
-        return bad_line(p, sent, at);
-    }
-    let w = v.words;
-    let m = run_mask(p, fields::first_words(&w, v.n), room);
-    let a = m.answer;
-    if a.why != 0 {
-        return answered_by(a, sent, out, at);
-    }
-    let next = a.party;
-    let masked = m.masked;
-    let to = put::why(out, at, 0);
-    let to = put_words_tag(masked, room, out, to);
-    answered(next, sent::with_masked(sent, place, v.n, masked), to)
-}
-
-fn run_take(p: Party, h: Heading, v: Vector) -> PartyAnswer {
-    let name = h.name;
-    let b = name.bytes;
-    let label = h.label;
-    let w = v.words;
-    p.take(
-        label,
-        fields::first(&b, name.n),
-        fields::first_words(&w, v.n),
-    )
+// mask BOX VECTOR ROOM. The buffer goes to slot 0.
+fn mask(p: Party, b: &mut [u8; BYTES], n: [u64; NUMBERS]) -> PartyAnswer {
+    let w = vector(b, 2);
+    let mut masked = [2863311530u32; ROOMS];
+    let room = words::least(memory::size(n[3]), ROOMS);
+    let a = p.mask(first_words(&w, n[2]), &mut masked[0..room]);
+    words::store_all(b, 0, &masked);
+    a
 }
 
 // take BOX KIND NAME SENDER NUMBER VECTOR
-fn take(
-    p: Party,
-    sent: Sent,
-    place: usize,
-    line: &[u8],
-    out: &mut [u8; ROOM],
-    at: usize,
-) -> BoxStep {
-    let h = fields::read_heading(line, 2);
-    let v = fields::read_vector(sent, line, 6);
-    if !h.ok | !v.ok {
-        return bad_line(p, sent, at);
-    }
-    let a = run_take(p, h, v);
-    if a.why != 0 {
-        return answered_by(a, sent, out, at);
-    }
-    let next = a.party;
-    let to = put::accepted(out, at, a.word);
-    answered(next, sent::with_word(sent, place, a.word), to)
-}
-
-fn run_finish(p: Party, h: Heading, word: u32) -> PartyAnswer {
-    let name = h.name;
-    let b = name.bytes;
-    let label = h.label;
-    p.finish(label, fields::first(&b, name.n), word)
+fn take(p: Party, b: &[u8; BYTES], n: [u64; NUMBERS]) -> PartyAnswer {
+    let w = vector(b, 6);
+    p.take(label(n), memory::field(b, n, 3), first_words(&w, n[6]))
 }
 
 // finish BOX KIND NAME SENDER NUMBER WORD
-fn finish(
-    p: Party,
-    sent: Sent,
-    place: usize,
-    line: &[u8],
-    out: &mut [u8; ROOM],
-    at: usize,
-) -> BoxStep {
-    let h = fields::read_heading(line, 2);
-    let word = fields::read_sent(line, 6, sent.word0, sent.word1);
-    if !h.ok | !word.ok {
-        return bad_line(p, sent, at);
-    }
-    let a = run_finish(p, h, word.w);
-    if a.why != 0 {
-        return answered_by(a, sent, out, at);
-    }
-    let next = a.party;
-    let to = put::accepted(out, at, a.word);
-    answered(next, sent::with_answer(sent, place, a.word), to)
+fn finish(p: Party, b: &[u8; BYTES], n: [u64; NUMBERS]) -> PartyAnswer {
+    p.finish(label(n), memory::field(b, n, 3), memory::low(n[6]))
 }
 
 // put BOX PHASE PARTY CODE L
-fn put_numbers(p: Party, sent: Sent, line: &[u8], out: &mut [u8; ROOM], at: usize) -> BoxStep {
-    let phase = fields::read_word(line, 2);
-    let party = fields::read_word(line, 3);
-    let code = fields::read_word(line, 4);
-    let n = fields::read_size(line, 5);
-    if !(phase.ok & party.ok & code.ok & (n != fields::TOO_MANY)) {
-        return bad_line(p, sent, at);
-    }
+fn put_numbers(p: Party, n: [u64; NUMBERS]) -> PartyAnswer {
     let mut next = p;
-    next.phase = phase.w;
-    next.party = party.w;
-    next.set.code = code.w;
-    next.set.n = n;
-    answered(next, sent, script::put_text(out, at, b"put"))
+    next.phase = memory::low(n[2]);
+    next.party = memory::low(n[3]);
+    next.set.code = memory::low(n[4]);
+    next.set.n = memory::size(n[5]);
+    PartyAnswer {
+        why: 0,
+        party: next,
+        word: 0,
+    }
 }
 
-// What is asked of a box beside a load.
-pub fn call(
-    p: Party,
-    sent: Sent,
-    place: usize,
-    call: Call,
-    line: &[u8],
+fn call(command: usize, p: Party, b: &mut [u8; BYTES], n: &mut [u64; NUMBERS]) -> PartyAnswer {
+    match command {
+        lines::PARTY => start(p, b, *n),
+        lines::MASK => mask(p, b, *n),
+        lines::TAKE => take(p, b, *n),
+        lines::FINISH => finish(p, b, *n),
+        lines::DROP => p.drop(),
+        lines::PUT => put_numbers(p, *n),
+        _ => load(command, p, b, n),
+    }
+}
+
+// What an accepted call sends.
+fn keep(command: usize, word: u32, b: &mut [u8; BYTES], n: &mut [u64; NUMBERS]) {
+    let place = memory::size(n[1]) % 2;
+    match command {
+        lines::MASK => {
+            n[0] = n[2];
+            memory::copy_slot(b, n, 0, MASKED + place);
+        }
+        lines::TAKE => n[WORDS + place] = lines::wide_word(word),
+        lines::FINISH => n[ANSWERS + place] = lines::wide_word(word),
+        _ => {}
+    }
+}
+
+fn put_accepted(
+    command: usize,
+    word: u32,
+    b: &[u8; BYTES],
+    n: [u64; NUMBERS],
     out: &mut [u8; ROOM],
     at: usize,
-) -> BoxStep {
-    match call {
-        Call::Start => start(p, sent, line, out, at),
-        Call::Mask => mask(p, sent, place, line, out, at),
-        Call::Take => take(p, sent, place, line, out, at),
-        Call::Finish => finish(p, sent, place, line, out, at),
-        // drop BOX
-        Call::Drop => answered_by(p.drop(), sent, out, at),
-        Call::Put => put_numbers(p, sent, line, out, at),
+) -> usize {
+    match command {
+        lines::PUT => script::put_text(out, at, b"put"),
+        lines::TAKE | lines::FINISH => put::accepted(out, at, word),
+        lines::MASK => {
+            let next = put::one(out, at, 0);
+            put::next_tag(out, next, memory::first(b, 0, 4 * (n[3] % 1024)))
+        }
+        _ => put::one(out, at, 0),
     }
+}
+
+// What a box is asked.
+pub fn answer(
+    command: usize,
+    boxes: &mut [Party; 2],
+    b: &mut [u8; BYTES],
+    n: &mut [u64; NUMBERS],
+    out: &mut [u8; ROOM],
+    at: usize,
+) -> usize {
+    let place = memory::size(n[1]) % 2;
+    let a = call(command, boxes[place], b, n);
+    boxes[place] = a.party;
+    if a.why != 0 {
+        return put::one(out, at, a.why);
+    }
+    keep(command, a.word, b, n);
+    put_accepted(command, a.word, b, *n, out, at)
 }

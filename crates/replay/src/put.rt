@@ -23,9 +23,9 @@ pub fn next_tag(out: &mut [u8; ROOM], at: usize, bytes: &[u8]) -> usize {
     tag(out, next, bytes)
 }
 
-// A refusal's number, or 0.
-pub fn why(out: &mut [u8; ROOM], at: usize, why: u32) -> usize {
-    script::put_numbers(out, at, &[why])
+// A number.
+pub fn one(out: &mut [u8; ROOM], at: usize, n: u32) -> usize {
+    script::put_numbers(out, at, &[n])
 }
 
 // An accepted call's number.

@@ -10,29 +10,35 @@ use node::Key;
 use party::Party;
 use script::ROOM;
 
-pub enum Part {
-    Dealer,
-    Camera,
-    Office,
-    Lock,
-    Unknown,
+// The states before the first start.
+pub fn no_dealer() -> Dealer {
+    Dealer {
+        name: [0; 16],
+        key0: [0; 32],
+        key1: [0; 32],
+        last: 0,
+    }
 }
 
-pub fn read_name(line: &[u8], place: usize) -> Part {
-    let name = script::field(line, place);
-    if words::equal(name, b"dealer") {
-        return Part::Dealer;
+pub fn no_party() -> Party {
+    Party {
+        name: [0; 16],
+        party: 0,
+        key: [0; 32],
+        last: 0,
+        phase: 0,
+        set: content::no_set(),
+        masked: [0; 512],
+        own: 0,
+        word: 0,
     }
-    if words::equal(name, b"camera") {
-        return Part::Camera;
+}
+
+pub fn no_lock() -> Lock {
+    Lock {
+        name: [0; 16],
+        last: 0,
     }
-    if words::equal(name, b"office") {
-        return Part::Office;
-    }
-    if words::equal(name, b"lock") {
-        return Part::Lock;
-    }
-    Part::Unknown
 }
 
 // The bytes of a box's state, of those before its set, of the set before its comparison key, and of
