@@ -1,22 +1,16 @@
-// A box's start and its calls. What an accepted one sends is kept for later messages.
+// A box's start and its calls.
 use crate::lines;
+use crate::lines::Line;
 use crate::memory;
-use crate::memory::ANSWERS;
 use crate::memory::BYTES;
-use crate::memory::MASKED;
-use crate::memory::NUMBERS;
-use crate::memory::SLOT;
-use crate::memory::WORDS;
-use crate::put;
 use messages::Label;
 use party::Party;
 use party::PartyAnswer;
-use script::ROOM;
 
 // The most words of a vector, and of call 2's buffer.
-const LONGEST: usize = 2176;
+const LONGEST: usize = 2432;
 
-const ROOMS: usize = 520;
+const ROOM: usize = 520;
 
 fn load_all(bytes: &[u8], w: &mut [u32]) {
     let n = words::least(bytes.len() / 4, w.len());
@@ -30,7 +24,7 @@ fn load_all(bytes: &[u8], w: &mut [u32]) {
 // All words of a slot.
 fn vector(b: &[u8; BYTES], slot: usize) -> [u32; LONGEST] {
     let mut w = [0u32; LONGEST];
-    load_all(memory::first(b, slot, 8704), &mut w);
+    load_all(memory::first(b, slot, 9728), &mut w);
     w
 }
 
@@ -44,22 +38,21 @@ fn first_words(w: &[u32; LONGEST], n: u64) -> &[u32] {
     first_part(w, memory::size(n / 4))
 }
 
-// KIND NAME SENDER NUMBER, of which KIND is field 2.
-fn label(n: [u64; NUMBERS]) -> Label {
+pub fn label(kind: u64, sender: u64, number: u64) -> Label {
     Label {
-        kind: memory::low(n[2]),
-        sender: memory::low(n[4]),
-        number: n[5],
+        kind: memory::low(kind),
+        sender: memory::low(sender),
+        number,
     }
 }
 
 // party BOX NAME PARTY KEY FLOOR. A refused start leaves the box as it was.
-fn start(p: Party, b: &[u8; BYTES], n: [u64; NUMBERS]) -> PartyAnswer {
+fn start(p: Party, b: &[u8; BYTES], l: Line) -> PartyAnswer {
     let a = Party::start(
-        memory::field(b, n, 2),
-        memory::low(n[3]),
-        memory::field(b, n, 4),
-        n[5],
+        memory::first(b, 2, l.f2),
+        memory::low(l.f3),
+        memory::first(b, 4, l.f4),
+        l.f5,
     );
     if a.why == 0 {
         return a;
@@ -71,58 +64,42 @@ fn start(p: Party, b: &[u8; BYTES], n: [u64; NUMBERS]) -> PartyAnswer {
     }
 }
 
-// load BOX FROM K BYTES AT, mixed BOX I K J, bytes BOX BYTES: the bytes of a load into slot 0.
-fn gather(command: usize, b: &mut [u8; BYTES], n: &mut [u64; NUMBERS]) {
-    if command == lines::LOAD {
-        memory::copy_slot(b, n, lines::half_slot(n[3], n[2]), 0);
-        n[0] = n[4];
-        if n[5] < n[4] {
-            memory::flip(b, memory::size(n[5]));
-        }
-        return;
-    }
-    if command == lines::MIXED {
-        memory::copy_slot(b, n, lines::half_slot(0, n[1]), 0);
-        let from = lines::half_slot(n[3], n[1]);
-        memory::copy_block(b, from, memory::size(n[4]), 0, memory::size(n[2]));
-        return;
-    }
-    memory::copy_slot(b, n, 2, 0);
-}
-
-fn load(command: usize, p: Party, b: &mut [u8; BYTES], n: &mut [u64; NUMBERS]) -> PartyAnswer {
-    gather(command, b, n);
-    p.load(memory::field(b, *n, 0))
-}
-
 // mask BOX VECTOR ROOM. The buffer goes to slot 0.
-fn mask(p: Party, b: &mut [u8; BYTES], n: [u64; NUMBERS]) -> PartyAnswer {
+fn mask(p: Party, b: &mut [u8; BYTES], l: Line) -> PartyAnswer {
     let w = vector(b, 2);
-    let mut masked = [2863311530u32; ROOMS];
-    let room = words::least(memory::size(n[3]), ROOMS);
-    let a = p.mask(first_words(&w, n[2]), &mut masked[0..room]);
+    let mut masked = [2863311530u32; ROOM];
+    let room = words::least(memory::size(l.f3), ROOM);
+    let a = p.mask(first_words(&w, l.f2), &mut masked[0..room]);
     words::store_all(b, 0, &masked);
     a
 }
 
 // take BOX KIND NAME SENDER NUMBER VECTOR
-fn take(p: Party, b: &[u8; BYTES], n: [u64; NUMBERS]) -> PartyAnswer {
+fn take(p: Party, b: &[u8; BYTES], l: Line) -> PartyAnswer {
     let w = vector(b, 6);
-    p.take(label(n), memory::field(b, n, 3), first_words(&w, n[6]))
+    p.take(
+        label(l.f2, l.f4, l.f5),
+        memory::first(b, 3, l.f3),
+        first_words(&w, l.f6),
+    )
 }
 
 // finish BOX KIND NAME SENDER NUMBER WORD
-fn finish(p: Party, b: &[u8; BYTES], n: [u64; NUMBERS]) -> PartyAnswer {
-    p.finish(label(n), memory::field(b, n, 3), memory::low(n[6]))
+fn finish(p: Party, b: &[u8; BYTES], l: Line) -> PartyAnswer {
+    p.finish(
+        label(l.f2, l.f4, l.f5),
+        memory::first(b, 3, l.f3),
+        memory::low(l.f6),
+    )
 }
 
 // put BOX PHASE PARTY CODE L
-fn put_numbers(p: Party, n: [u64; NUMBERS]) -> PartyAnswer {
+fn put(p: Party, phase: u32, party: u32, code: u32, n: usize) -> PartyAnswer {
     let mut next = p;
-    next.phase = memory::low(n[2]);
-    next.party = memory::low(n[3]);
-    next.set.code = memory::low(n[4]);
-    next.set.n = memory::size(n[5]);
+    next.phase = phase;
+    next.party = party;
+    next.set.code = code;
+    next.set.n = n;
     PartyAnswer {
         why: 0,
         party: next,
@@ -130,66 +107,21 @@ fn put_numbers(p: Party, n: [u64; NUMBERS]) -> PartyAnswer {
     }
 }
 
-fn call(command: usize, p: Party, b: &mut [u8; BYTES], n: &mut [u64; NUMBERS]) -> PartyAnswer {
-    match command {
-        lines::PARTY => start(p, b, *n),
-        lines::MASK => mask(p, b, *n),
-        lines::TAKE => take(p, b, *n),
-        lines::FINISH => finish(p, b, *n),
+// What a box is asked. The bytes of a load stand in slot 0, and f4 counts them.
+pub fn call(p: Party, b: &mut [u8; BYTES], l: Line) -> PartyAnswer {
+    match l.command {
+        lines::PARTY => start(p, b, l),
+        lines::MASK => mask(p, b, l),
+        lines::TAKE => take(p, b, l),
+        lines::FINISH => finish(p, b, l),
         lines::DROP => p.drop(),
-        lines::PUT => put_numbers(p, *n),
-        _ => load(command, p, b, n),
+        lines::PUT => put(
+            p,
+            memory::low(l.f2),
+            memory::low(l.f3),
+            memory::low(l.f4),
+            memory::size(l.f5),
+        ),
+        _ => p.load(memory::first(b, 0, l.f4)),
     }
-}
-
-// What an accepted call sends.
-fn keep(command: usize, word: u32, b: &mut [u8; BYTES], n: &mut [u64; NUMBERS]) {
-    let place = memory::size(n[1]) % 2;
-    match command {
-        lines::MASK => {
-            n[0] = n[2];
-            memory::copy_slot(b, n, 0, MASKED + place);
-        }
-        lines::TAKE => n[WORDS + place] = lines::wide_word(word),
-        lines::FINISH => n[ANSWERS + place] = lines::wide_word(word),
-        _ => {}
-    }
-}
-
-fn put_accepted(
-    command: usize,
-    word: u32,
-    b: &[u8; BYTES],
-    n: [u64; NUMBERS],
-    out: &mut [u8; ROOM],
-    at: usize,
-) -> usize {
-    match command {
-        lines::PUT => script::put_text(out, at, b"put"),
-        lines::TAKE | lines::FINISH => put::accepted(out, at, word),
-        lines::MASK => {
-            let next = put::one(out, at, 0);
-            put::next_tag(out, next, memory::first(b, 0, 4 * (n[3] % 1024)))
-        }
-        _ => put::one(out, at, 0),
-    }
-}
-
-// What a box is asked.
-pub fn answer(
-    command: usize,
-    boxes: &mut [Party; 2],
-    b: &mut [u8; BYTES],
-    n: &mut [u64; NUMBERS],
-    out: &mut [u8; ROOM],
-    at: usize,
-) -> usize {
-    let place = memory::size(n[1]) % 2;
-    let a = call(command, boxes[place], b, n);
-    boxes[place] = a.party;
-    if a.why != 0 {
-        return put::one(out, at, a.why);
-    }
-    keep(command, a.word, b, n);
-    put_accepted(command, a.word, b, *n, out, at)
 }

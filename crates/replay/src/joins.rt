@@ -1,107 +1,72 @@
 // The lock's start, the join, and the C host's.
-ghost use Prim.Native.Nat.{_≤_};
+use crate::boxes::label;
 use crate::lines;
+use crate::lines::Line;
 use crate::memory;
 use crate::memory::BYTES;
-use crate::memory::NUMBERS;
-use crate::put;
 use lock::Lock;
 use lock::LockAnswer;
-use messages::Label;
-use script::ROOM;
 
-// lock NAME FLOOR
-fn start(b: &[u8; BYTES], n: [u64; NUMBERS]) -> LockAnswer {
-    Lock::start(memory::field(b, n, 1), n[2])
-}
-
-// KIND NAME SENDER NUMBER, of which KIND is field `at`.
-fn label(n: [u64; NUMBERS], at: usize) -> Label
-    requires { ⌜ at ≤ 8 ⌝ }
-{
-    Label {
-        kind: memory::low(n[at]),
-        sender: memory::low(n[at + 2]),
-        number: n[at + 3],
+// lock NAME FLOOR. A refused start leaves the lock as it was.
+fn start(lock: Lock, b: &[u8; BYTES], l: Line) -> LockAnswer {
+    let a = Lock::start(memory::first(b, 1, l.f1), l.f2);
+    if a.why == 0 {
+        return a;
+    }
+    LockAnswer {
+        why: a.why,
+        lock,
+        bit: 0,
     }
 }
 
 // join KIND0 NAME0 SENDER0 NUMBER0 ANSWER0 KIND1 NAME1 SENDER1 NUMBER1 ANSWER1
-fn join(lock: Lock, b: &[u8; BYTES], n: [u64; NUMBERS]) -> LockAnswer {
+pub fn call(lock: Lock, b: &[u8; BYTES], l: Line) -> LockAnswer {
+    if l.command == lines::LOCK {
+        return start(lock, b, l);
+    }
     lock.join(
-        label(n, 1),
-        memory::field(b, n, 2),
-        memory::low(n[5]),
-        label(n, 6),
-        memory::field(b, n, 7),
-        memory::low(n[10]),
+        label(l.f1, l.f3, l.f4),
+        memory::first(b, 2, l.f2),
+        memory::low(l.f5),
+        label(l.f6, l.f8, l.f9),
+        memory::first(b, 7, l.f7),
+        memory::low(l.f10),
     )
 }
 
-// host NAME LAST and the ten fields of join: what the two C functions give.
-fn host_join(b: &[u8; BYTES], n: [u64; NUMBERS]) -> u32 {
+// host NAME LAST and the ten fields of join: the first C function.
+pub fn host_join(b: &[u8; BYTES], l: Line) -> u32 {
     lock_c::lock_join(
-        memory::field(b, n, 1),
-        n[2],
-        memory::low(n[3]),
-        memory::field(b, n, 4),
-        memory::low(n[5]),
-        n[6],
-        memory::low(n[7]),
-        memory::low(n[8]),
-        memory::field(b, n, 9),
-        memory::low(n[10]),
-        n[11],
-        memory::low(n[12]),
+        memory::first(b, 1, l.f1),
+        l.f2,
+        memory::low(l.f3),
+        memory::first(b, 4, l.f4),
+        memory::low(l.f5),
+        l.f6,
+        memory::low(l.f7),
+        memory::low(l.f8),
+        memory::first(b, 9, l.f9),
+        memory::low(l.f10),
+        l.f11,
+        memory::low(l.f12),
     )
 }
 
-fn host_last(b: &[u8; BYTES], n: [u64; NUMBERS]) -> u64 {
+// The second one.
+pub fn host_last(b: &[u8; BYTES], l: Line) -> u64 {
     lock_c::lock_last(
-        memory::field(b, n, 1),
-        n[2],
-        memory::low(n[3]),
-        memory::field(b, n, 4),
-        memory::low(n[5]),
-        n[6],
-        memory::low(n[7]),
-        memory::low(n[8]),
-        memory::field(b, n, 9),
-        memory::low(n[10]),
-        n[11],
-        memory::low(n[12]),
+        memory::first(b, 1, l.f1),
+        l.f2,
+        memory::low(l.f3),
+        memory::first(b, 4, l.f4),
+        memory::low(l.f5),
+        l.f6,
+        memory::low(l.f7),
+        memory::low(l.f8),
+        memory::first(b, 9, l.f9),
+        memory::low(l.f10),
+        l.f11,
+        memory::low(l.f12),
     )
-}
-
-fn put_host(b: &[u8; BYTES], n: [u64; NUMBERS], out: &mut [u8; ROOM], at: usize) -> usize {
-    let next = put::one(out, at, host_join(b, n));
-    let next = script::put_byte(out, next, b' ');
-    script::put_number(out, next, host_last(b, n))
-}
-
-// What the lock or its host is asked. A refused start leaves the lock as it was.
-pub fn answer(
-    command: usize,
-    lock: &mut [Lock; 1],
-    b: &[u8; BYTES],
-    n: [u64; NUMBERS],
-    out: &mut [u8; ROOM],
-    at: usize,
-) -> usize {
-    if command == lines::HOST {
-        return put_host(b, n, out, at);
-    }
-    if command == lines::LOCK {
-        let a = start(b, n);
-        if a.why == 0 {
-            lock[0] = a.lock;
-        }
-        return put::one(out, at, a.why);
-    }
-    let a = join(lock[0], b, n);
-    lock[0] = a.lock;
-    if a.why != 0 {
-        return put::one(out, at, a.why);
-    }
-    put::accepted(out, at, a.bit)
 }

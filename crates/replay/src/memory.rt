@@ -1,34 +1,41 @@
-// What the lines of a script share: slots of bytes, all in one array, and a number for each slot.
-// Arrays can be lent, while a reference to a struct is not covered by the borrow checker.
+// What the lines of a script share: slots of bytes, all in one array, and numbers. Arrays can be
+// lent, while a reference to a struct is not covered by the borrow checker.
 ghost use Prim.Native.Nat.{_+_, _≤_};
 ghost use lib.ListN.{length};
 
-// The size of a slot: one block more than a half may have.
-pub const SLOT: usize = 8704;
+// The size of a slot, 19 blocks: a box's state fits.
+pub const SLOT: usize = 9728;
 
-// Slots 0 to 13 hold what the fields of a line say, with the count of their bytes or their number.
-// Field 0 is the command's name, so its slot holds what a call is handed or hands back.
-pub const FIELDS: usize = 14;
+// Slots 1 to 12 hold what the fields of a line say. Slot 0 holds what a call is handed, or the bytes
+// whose tag answers it, and OTHER the second such bytes.
+pub const FIELDS: usize = 13;
 
-// Slots 14 to 21 hold the halves of the last four deals, newest first, the camera box's before the
-// office box's, with their sizes. Each is followed by its first block again.
-pub const HALVES: usize = 14;
+pub const OTHER: usize = 12;
 
-// Slots 22 and 23 hold the last masked vectors that the boxes sent, with the counts of their bytes.
-pub const MASKED: usize = 22;
+// Slots 13 to 20 hold the halves of the last four deals, newest first, the camera box's before the
+// office box's. Each is followed by its first block again.
+pub const HALVES: usize = 13;
 
-// The bytes of all slots.
-pub const BYTES: usize = 208896;
+// Slots 21 and 22 hold the last masked vectors that the boxes sent.
+pub const MASKED: usize = 21;
 
-// Behind the slots' numbers stand the boxes' last words, and their last answers.
-pub const WORDS: usize = 24;
+// The bytes of 23 slots.
+pub const BYTES: usize = 223744;
 
-pub const ANSWERS: usize = 26;
+// The numbers at HALVES and MASKED are the counts of those slots' bytes, 0 before the first. Behind
+// them stand the last words and the last answers that the boxes sent.
+pub const WORDS: usize = 23;
 
-pub const NUMBERS: usize = 28;
+pub const ANSWERS: usize = 25;
+
+pub const NUMBERS: usize = 27;
 
 pub fn size(n: u64) -> usize {
     n as usize
+}
+
+pub fn wide(n: usize) -> u64 {
+    n as u64
 }
 
 // The lowest 32 bits of a number: all of one that was read as a word.
@@ -45,17 +52,19 @@ fn part(b: &[u8], at: usize, n: usize) -> &[u8] {
 
 // The first n bytes of a slot.
 pub fn first(b: &[u8; BYTES], slot: usize, n: u64) -> &[u8] {
-    part(b, SLOT * (slot % 24), size(n))
+    part(b, SLOT * (slot % 23), size(n))
 }
 
-// What a field says.
-pub fn field<'a>(b: &'a [u8; BYTES], n: [u64; NUMBERS], slot: usize) -> &'a [u8] {
-    first(b, slot, n[slot % 24])
-}
-
-// Bytes into a slot.
-pub fn fill(b: &mut [u8; BYTES], slot: usize, src: &[u8; SLOT]) {
-    words::copy(b, SLOT * (slot % 24), src);
+// As many bytes as fit over those of a slot, from `at` on. It answers where the next go.
+pub fn lay(b: &mut [u8], slot: usize, at: usize, src: &[u8]) -> usize {
+    let from = words::least(SLOT * (slot % 23) + at % SLOT, b.len());
+    let n = words::least(src.len(), b.len() - from);
+    let mut i: usize = 0;
+    while i < n {
+        b[from + i] = src[i];
+        i += 1;
+    }
+    at % SLOT + n
 }
 
 fn copy_within(b: &mut [u8], from: usize, to: usize, n: usize)
@@ -68,25 +77,17 @@ fn copy_within(b: &mut [u8], from: usize, to: usize, n: usize)
     }
 }
 
-// A slot's bytes and number into another.
-pub fn copy_slot(b: &mut [u8; BYTES], n: &mut [u64; NUMBERS], from: usize, to: usize) {
-    copy_within(b, SLOT * (from % 24), SLOT * (to % 24), SLOT);
-    n[to % 24] = n[from % 24];
+// All of a slot over another.
+pub fn copy_slot(b: &mut [u8; BYTES], from: usize, to: usize) {
+    copy_within(b, SLOT * (from % 23), SLOT * (to % 23), SLOT);
 }
 
 // A slot's block j over block i of another.
 pub fn copy_block(b: &mut [u8; BYTES], from: usize, j: usize, to: usize, i: usize) {
     copy_within(
         b,
-        SLOT * (from % 24) + 512 * (j % 17),
-        SLOT * (to % 24) + 512 * (i % 17),
+        SLOT * (from % 23) + 512 * (j % 19),
+        SLOT * (to % 23) + 512 * (i % 19),
         512,
     );
-}
-
-// 1 is xored into a byte of slot 0.
-pub fn flip(b: &mut [u8; BYTES], i: usize) {
-    if i < BYTES {
-        b[i] = b[i] ^ 1;
-    }
 }
