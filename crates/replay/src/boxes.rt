@@ -109,7 +109,8 @@ fn put(p: Party, phase: u32, party: u32, code: u32, n: usize) -> PartyAnswer {
 
 // What a box is asked. The bytes of a load stand in slot 0, and f4 counts them.
 pub fn call(p: Party, b: &mut [u8; BYTES], l: Line) -> PartyAnswer {
-    match l.command {
+    let command = l.command;
+    match command {
         lines::PARTY => start(p, b, l),
         lines::MASK => mask(p, b, l),
         lines::TAKE => take(p, b, l),

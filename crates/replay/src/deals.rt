@@ -139,7 +139,8 @@ fn mixed(l: Line, b: &mut [u8; BYTES], n: [u64; NUMBERS]) -> Line {
 
 // The bytes of a load into slot 0.
 pub fn gather(l: Line, b: &mut [u8; BYTES], n: [u64; NUMBERS]) -> Line {
-    match l.command {
+    let command = l.command;
+    match command {
         lines::LOAD => load(l, b, n),
         lines::MIXED => mixed(l, b, n),
         // bytes BOX BYTES

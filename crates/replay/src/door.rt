@@ -99,7 +99,8 @@ pub fn show(door: Door, b: &mut [u8; BYTES], part: u64) -> usize {
 
 // A line's call, if it asks for one.
 pub fn call(door: Door, b: &mut [u8; BYTES], l: Line) -> Step {
-    match l.command {
+    let command = l.command;
+    match command {
         lines::DEALER | lines::DEAL => of_dealer(door, b, l),
         lines::LOCK | lines::JOIN => of_lock(door, b, l),
         lines::HOST | lines::SHOW | lines::BAD_LINE | lines::COMMENT => Step {
@@ -124,7 +125,8 @@ fn wide(w: u32) -> u64 {
 // What an accepted call wrote or sent is kept for later lines.
 pub fn keep(l: Line, word: u32, b: &mut [u8; BYTES], n: &mut [u64; NUMBERS]) {
     let place = memory::size(l.f1) % 2;
-    match l.command {
+    let command = l.command;
+    match command {
         lines::DEAL => deals::keep(l.f4, b, n),
         lines::MASK => {
             memory::copy_slot(b, 0, MASKED + place);

@@ -61,7 +61,8 @@ pub fn answer(
     out: &mut [u8; ROOM],
     at: usize,
 ) -> usize {
-    match l.command {
+    let command = l.command;
+    match command {
         lines::COMMENT => at,
         lines::BAD_LINE => bad_line(place, out, at),
         lines::PUT => script::put_text(out, at, b"put"),
