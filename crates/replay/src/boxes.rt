@@ -64,13 +64,17 @@ fn start(p: Party, b: &[u8; BYTES], l: Line) -> PartyAnswer {
     }
 }
 
+fn lay_masked(b: &mut [u8; BYTES], masked: [u32; ROOM]) {
+    words::store_all(b, 0, &masked);
+}
+
 // mask BOX VECTOR ROOM. The buffer goes to slot 0.
 fn mask(p: Party, b: &mut [u8; BYTES], l: Line) -> PartyAnswer {
     let w = vector(b, 2);
     let mut masked = [2863311530u32; ROOM];
     let room = words::least(memory::size(l.f3), ROOM);
     let a = p.mask(first_words(&w, l.f2), &mut masked[0..room]);
-    words::store_all(b, 0, &masked);
+    lay_masked(b, masked);
     a
 }
 

@@ -30,6 +30,11 @@ fn start(d: Dealer, b: &[u8; BYTES], l: Line) -> DealerAnswer {
     }
 }
 
+fn lay_halves(b: &mut [u8; BYTES], out0: [u8; ROOM], out1: [u8; ROOM]) {
+    memory::lay(b, 0, 0, &out0);
+    memory::lay(b, OTHER, 0, &out1);
+}
+
 // deal NUMBER SEED CODE L T ROOM0 ROOM1. The buffers go to slots 0 and OTHER.
 fn deal(d: Dealer, b: &mut [u8; BYTES], l: Line) -> DealerAnswer {
     let mut out0 = [170u8; ROOM];
@@ -45,8 +50,7 @@ fn deal(d: Dealer, b: &mut [u8; BYTES], l: Line) -> DealerAnswer {
         &mut out0[0..room0],
         &mut out1[0..room1],
     );
-    memory::lay(b, 0, 0, &out0);
-    memory::lay(b, OTHER, 0, &out1);
+    lay_halves(b, out0, out1);
     a
 }
 
@@ -77,8 +81,9 @@ pub fn keep(length: u64, b: &mut [u8; BYTES], n: &mut [u64; NUMBERS]) {
     memory::copy_slot(b, OTHER, HALVES + 1);
     memory::copy_block(b, 0, 0, HALVES, blocks);
     memory::copy_block(b, OTHER, 0, HALVES + 1, blocks);
-    n[HALVES] = 512 * memory::wide(blocks % 17);
-    n[HALVES + 1] = n[HALVES];
+    let size = memory::wide(512 * (blocks % 17));
+    n[HALVES] = size;
+    n[HALVES + 1] = size;
 }
 
 // The slot of the half that the K-th deal before the newest wrote for a box.
