@@ -59,12 +59,12 @@ fn answers(text: &[u8]) {
     let mut from: usize = 0;
     let mut place: u64 = 0;
     while from < text.len() {
+        place += 1;
         let line = script::next_line(text, from);
         let start = line.start;
         let end = line.end;
         let l = read(door, &text[start..end], &mut b, n);
         let step = door::call(door, &mut b, l);
-        place += 1;
         at = finish(l, step.why, step.word, place, &mut b, &mut n, &mut out, at);
         at = script::put_byte(&mut out, at, b'\n');
         door = step.door;
