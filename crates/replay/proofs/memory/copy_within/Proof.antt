@@ -1,0 +1,59 @@
+use borrow.Author.Needs.{needs}
+use mathlib.Core.Path.{_≡_}
+use Prim.Native.Nat.{_-_}
+use lib.ListN.{length}
+use Rattle.replay.proofs.memory.copy_within.Statement.{statement}
+use Rattle.replay.proofs.memory.copy_within.Tie as tie
+
+abbrev Inv-loop : tie.InvT-loop
+Inv-loop b₀ from to n i₀ b i = length b ≡ length b₀
+
+abbrev μ-loop : tie.MeasureT-loop
+μ-loop b₀ from to n i₀ b i = n - i
+
+loop-holds : tie.Need-loop-holds Inv-loop μ-loop
+loop-holds c = search needs
+
+add-b : tie.Need-add-b Inv-loop μ-loop
+add-b c = search needs
+
+slice-read-b : tie.Need-slice-read-b Inv-loop μ-loop
+slice-read-b c = search needs
+
+add-b-2 : tie.Need-add-b-2 Inv-loop μ-loop
+add-b-2 c = search needs
+
+slice-write-b : tie.Need-slice-write-b Inv-loop μ-loop
+slice-write-b c = search needs
+
+add-i : tie.Need-add-i Inv-loop μ-loop
+add-i c = search needs
+
+loop-less : tie.Need-loop-less Inv-loop μ-loop
+loop-less c = search needs
+
+loop-again : tie.Need-loop-again Inv-loop μ-loop
+loop-again c = search needs
+
+same-length : tie.Need-same-length Inv-loop μ-loop
+same-length c = search needs
+
+returns : tie.Need-returns Inv-loop μ-loop
+returns c = search needs
+
+pub copy-within-spec : {M : Type 1} → statement M
+copy-within-spec =
+    tie.close
+    (tie.spec
+    Inv-loop
+    μ-loop
+    loop-holds
+    add-b
+    slice-read-b
+    add-b-2
+    slice-write-b
+    add-i
+    loop-less
+    loop-again
+    same-length
+    returns)
