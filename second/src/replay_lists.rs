@@ -37,10 +37,10 @@ impl Script {
             ("Back", short, 180, Hazards::Network),
             ("Hut 4", long, 180, Hazards::Network),
             ("Hut 4, east door", long, 180, Hazards::Network),
-            ("Gate", short, 110, Hazards::Forgers),
+            ("Gate", short, 130, Hazards::Forgers),
             ("Shed", short, 110, Hazards::Host),
         ] {
-            let floors = [0, 1, 2, 3].map(|_| self.below(30) as u64);
+            let floors = [0, 1, 2, 3].map(|_| self.below(6) as u64);
             self.start(name, floors);
             self.claim.off = hazards == Hazards::Host;
             let before = self.list.len();
@@ -51,23 +51,28 @@ impl Script {
             let forged = !self.claim.forged.is_empty();
             match hazards {
                 Hazards::Network => assert!(!forged, "{name}"),
-                Hazards::Forgers => assert!(forged, "{name}"),
+                Hazards::Forgers => assert!(forged && self.joins_refused(before), "{name}"),
                 Hazards::Host => {}
             }
         }
+    }
+
+    /// Whether the sum of two answers was neither 0 nor 1 in a list.
+    fn joins_refused(&self, from: usize) -> bool {
+        let mut cases = self.list[from..].iter();
+        cases.any(|case| case.line.starts_with("join ") && case.expected == "12")
     }
 
     /// A call that brings a check on, or some other one.
     fn any_call(&mut self, lengths: &[usize], hazards: Hazards) {
         let at = self.below(2);
         match self.below(100) {
-            0..62 => self.right_call(at, lengths),
-            62..70 => self.odd_load(at),
-            70..82 => self.odd_message(at, hazards),
-            82..85 => self.odd_deal(lengths),
-            85..89 => self.odd_mask(at),
-            89..95 => self.odd_join(),
-            95..97 => {
+            0..58 => self.right_call(at, lengths),
+            58..64 => self.any_box_call(at, hazards),
+            64..86 => self.odd_call(at, hazards),
+            86..89 => self.odd_deal(lengths),
+            89..94 => self.odd_join(),
+            94..96 => {
                 self.say(format!("drop {}", BOXES[at]));
             }
             _ if hazards == Hazards::Host => self.any_state(at),
@@ -77,6 +82,27 @@ impl Script {
         }
         if self.below(4) == 0 {
             self.show(BOXES[at]);
+        }
+    }
+
+    /// A call on a box that has its turn, with something that may be wrong.
+    fn odd_call(&mut self, at: usize, hazards: Hazards) {
+        match self.replay.boxes[at].phase {
+            IDLE => self.odd_load(at),
+            LOADED => self.odd_mask(at),
+            _ => self.odd_message(at, hazards),
+        }
+    }
+
+    /// A call on a box in whatever phase it is.
+    fn any_box_call(&mut self, at: usize, hazards: Hazards) {
+        match self.below(4) {
+            0 => self.odd_load(at),
+            1 => self.odd_mask(at),
+            2 => self.odd_message(at, hazards),
+            _ => {
+                self.say(format!("drop {}", BOXES[at]));
+            }
         }
     }
 
@@ -251,12 +277,12 @@ impl Script {
         let near = sent.len().min(8);
         let from = sent.len() - near + self.below(near);
         let mut sent = sent[from].clone();
-        let phase = match self.below(4) {
-            0 => MASKED,
-            1 => SPOKEN,
-            _ => self.replay.boxes[at].phase.max(MASKED),
+        let own = self.replay.boxes[at].phase;
+        let phase = match (own, self.below(4)) {
+            (MASKED | SPOKEN, 1..) => own,
+            _ => self.pick(&[MASKED, SPOKEN]),
         };
-        if hazards == Hazards::Forgers && self.below(2) == 0 {
+        if hazards == Hazards::Forgers && self.below(4) > 0 {
             self.forge(at, phase, &mut sent);
         } else if self.below(2) == 0 {
             self.misdirect(at, phase, &mut sent.message);
@@ -340,24 +366,31 @@ impl Script {
         self.join(&join);
     }
 
-    /// Some numbers in a box's state, and at times its own ones again. What calls 1 and 2
-    /// leave of a check that is in the state before its turn, 01 does not say: no such
-    /// state is made.
+    /// Some numbers put into a box's state, a few calls on it, and at times its own
+    /// numbers again. What calls 1 and 2 make of a word or vector that is in the state
+    /// before its turn, 01 does not say: no such state is made.
     fn any_state(&mut self, at: usize) {
         let state = &self.replay.boxes[at];
         let own = [state.phase, at as u32, state.set.code, state.set.length];
-        let checked = state.check.own != 0 || state.check.word != 0 || state.phase > LOADED;
         let mut put = own;
-        match self.below(6) {
-            0 if checked => put[0] = self.pick(&[MASKED, SPOKEN, 4]),
-            0 => put[0] = self.pick(&[IDLE, LOADED, MASKED, SPOKEN, 4, u32::MAX]),
-            1 => put[1] = self.pick(&[0, 1, 2]),
-            2 => put[2] = self.pick(&[0, 1, 2, 3]),
-            3 => put[3] = self.pick(&[0, 1, 2, 512, 513]),
-            4 if !checked => put = [IDLE, at as u32, 0, 0],
-            _ => {}
+        match (self.below(6), own[0]) {
+            (0 | 1, MASKED | SPOKEN) => put[0] = self.pick(&[MASKED, SPOKEN, 4]),
+            (0, _) => put[0] = self.pick(&[IDLE, LOADED, MASKED, SPOKEN, 4, u32::MAX]),
+            (1, _) => put = [IDLE, at as u32, 0, 0],
+            (2, _) => put[1] = self.pick(&[0, 1, 2]),
+            (3, _) => put[2] = self.pick(&[0, 1, 2, 3]),
+            _ => put[3] = self.pick(&[0, 1, 2, 512, 513]),
         }
-        let [phase, party, code, length] = put;
-        self.say(format!("put {} {phase} {party} {code} {length}", BOXES[at]));
+        self.put(at, put);
+        self.show(BOXES[at]);
+        for _ in 0..3 {
+            self.any_box_call(at, Hazards::Forgers);
+        }
+        self.odd_call(at, Hazards::Forgers);
+        let state = &self.replay.boxes[at];
+        let left = [state.phase, state.party, state.set.code, state.set.length];
+        if left == put {
+            self.put(at, own);
+        }
     }
 }

@@ -3,7 +3,7 @@
 
 use crate::cases::Seeds;
 use crate::checks;
-use crate::content;
+use crate::content::{self, Name};
 use crate::field::{self, decimal};
 use crate::measure::Measure;
 use crate::message::{ANSWER, MASKED_VECTOR, WORD};
@@ -97,6 +97,33 @@ pub fn half_bytes(length: usize) -> usize {
 pub fn hex_words(words: &[u32]) -> String {
     let bytes: Vec<u8> = words.iter().flat_map(|word| word.to_le_bytes()).collect();
     field::format(&bytes)
+}
+
+/// Every choice of some of these numbers but none, each from the lowest up.
+pub fn choices(numbers: &[u32]) -> Vec<Vec<u32>> {
+    let chosen = |mask: u32| {
+        let places = numbers.iter().enumerate();
+        let chosen = places.filter(|(place, _)| mask >> place & 1 == 1);
+        chosen.map(|(_, number)| *number).collect()
+    };
+    (1..1 << numbers.len()).map(chosen).collect()
+}
+
+/// The name with one byte changed.
+fn other_name(padded: &str, place: usize, change: u8) -> String {
+    let mut name: Name = field::parse_array(padded).expect("a padded name");
+    name[place] ^= change;
+    field::format(&name)
+}
+
+/// Names that are not the padded one, of 16 bytes.
+pub fn other_names(padded: &str) -> [String; 4] {
+    [
+        other_name(padded, 15, 1),
+        other_name(padded, 0, 32),
+        other_name(padded, 14, 32),
+        "00".repeat(16),
+    ]
 }
 
 impl Script {
@@ -329,6 +356,29 @@ impl Script {
             messages: [0, 1].map(|sender| self.message(ANSWER, sender, number)),
             answers: BOXES.map(str::to_string),
         }
+    }
+
+    /// The number that the next deal may have.
+    pub fn next_number(&self) -> u64 {
+        self.replay.dealer.last + 1
+    }
+
+    /// A deal that must be accepted.
+    pub fn dealt(&mut self, measure: Measure, length: usize, threshold: i32) -> u64 {
+        let deal = self.new_deal(self.next_number(), measure, length, threshold);
+        assert_eq!(self.deal(&deal), 0);
+        deal.number
+    }
+
+    /// The newest half loaded at its box.
+    pub fn loaded(&mut self, at: usize) {
+        let line = self.load_line(at, 0);
+        assert_eq!(self.load(at, &line), 0, "{line}");
+    }
+
+    pub fn put(&mut self, at: usize, [phase, party, code, length]: [u32; 4]) {
+        let line = format!("put {} {phase} {party} {code} {length}", BOXES[at]);
+        self.answered(line, "put");
     }
 }
 
