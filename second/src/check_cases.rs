@@ -232,17 +232,12 @@ pub fn cases() -> Vec<Case> {
 #[cfg(test)]
 mod tests {
     use super::*;
-    use crate::script::MAX_LINE;
+    use crate::script::assert_right_short_and_not_repeated;
     use std::collections::HashSet;
 
     #[test]
     fn cases_are_right_short_and_not_repeated() {
-        let mut lines = HashSet::new();
-        for case in &cases() {
-            case.check(run).unwrap();
-            assert!(case.line.len() <= MAX_LINE);
-            assert!(lines.insert(case.line.clone()), "repeated: {}", case.line);
-        }
+        assert_right_short_and_not_repeated(&cases(), run);
     }
 
     /// Every code meets every edge of r, every length both answers, and every

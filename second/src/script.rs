@@ -99,3 +99,13 @@ fn key_and_nonce(key: &str, nonce: &str) -> Result<([u8; 32], [u8; 12]), String>
 pub fn number(text: &str) -> Result<u32, String> {
     text.parse().map_err(|_| format!("bad number: {text}"))
 }
+/// What the tests of every list of cases ask.
+#[cfg(test)]
+pub fn assert_right_short_and_not_repeated(cases: &[Case], run: Runner) {
+    let mut lines = std::collections::HashSet::new();
+    for case in cases {
+        case.check(run).unwrap();
+        assert!(case.line.len() <= MAX_LINE);
+        assert!(lines.insert(case.line.clone()), "repeated: {}", case.line);
+    }
+}
