@@ -22,7 +22,7 @@ pub fn poly_key(key: &[u8; 32], nonce: &[u8; 12]) -> [u8; 32]
     let s = chacha20::block(chacha20::key_words(key), 0, chacha20::nonce_words(nonce));
     let w = [s.x0, s.x1, s.x2, s.x3, s.x4, s.x5, s.x6, s.x7];
     let mut out = [0u8; 32];
-    words::store_all(&mut out, 0, &w);
+    slices::store_all(&mut out, 0, &w);
     out
 }
 
@@ -37,7 +37,7 @@ fn lengths(a: usize, b: usize) -> [u8; 16]
         (b / 4294967296) as u32,
     ];
     let mut out = [0u8; 16];
-    words::store_all(&mut out, 0, &w);
+    slices::store_all(&mut out, 0, &w);
     out
 }
 
@@ -86,7 +86,7 @@ pub fn open(key: &[u8; 32], nonce: &[u8; 12], aad: &[u8], text: &mut [u8], tag: 
         return false;
     }
     let expected = tag_for(key, nonce, aad, text);
-    if words::equal(&expected, tag) {
+    if slices::equal(&expected, tag) {
         keystream::xor(
             chacha20::key_words(key),
             1,

@@ -53,14 +53,14 @@ pub fn key_words(key: &[u8; 32]) -> [u32; 8]
     ensures { λ r. ⌜ r ≡ wordsAt 8 (now (key .entry)) ⌝ }
 {
     [
-        words::load(key, 0),
-        words::load(key, 4),
-        words::load(key, 8),
-        words::load(key, 12),
-        words::load(key, 16),
-        words::load(key, 20),
-        words::load(key, 24),
-        words::load(key, 28),
+        slices::load(key, 0),
+        slices::load(key, 4),
+        slices::load(key, 8),
+        slices::load(key, 12),
+        slices::load(key, 16),
+        slices::load(key, 20),
+        slices::load(key, 24),
+        slices::load(key, 28),
     ]
 }
 
@@ -68,8 +68,8 @@ pub fn nonce_words(nonce: &[u8; 12]) -> [u32; 3]
     ensures { λ r. ⌜ r ≡ wordsAt 3 (now (nonce .entry)) ⌝ }
 {
     [
-        words::load(nonce, 0),
-        words::load(nonce, 4),
-        words::load(nonce, 8),
+        slices::load(nonce, 0),
+        slices::load(nonce, 4),
+        slices::load(nonce, 8),
     ]
 }

@@ -28,7 +28,7 @@ pub extern "C" fn check_value(key: Key, seed: &[u32; 8], party: u32, u: u32) -> 
 pub extern "C" fn check_answer(key: Key, seed: &[u32; 8], party: u32, z: u32) -> u32
     ensures { λ r. ⌜ r ≡ answerOf party key (now (seed .entry)) z ⌝ }
 {
-    share::answer(party, key, *seed, z)
+    answers::answer(party, key, *seed, z)
 }
 
 // The vector v under the mask m, from the start of out. Where m or out is shorter than v it answers
@@ -79,5 +79,5 @@ pub extern "C" fn check_word(
         return 0;
     }
     let s = share::share_of(party, n, c, mx, my, sx, sy);
-    share::word(code, s, measure::own(code, v), r)
+    answers::word(code, s, own_term::own(code, v), r)
 }

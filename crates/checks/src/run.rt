@@ -20,7 +20,7 @@ fn load_all(bytes: &[u8], w: &mut [u32]) -> usize {
     }
     let mut i: usize = 0;
     while i < n {
-        w[i] = words::load(bytes, 4 * i);
+        w[i] = slices::load(bytes, 4 * i);
         i += 1;
     }
     n
@@ -80,7 +80,7 @@ fn mask(
 fn own(code: u32, n: usize, v: &[u32]) -> u32
     requires { ⌜ n ≤ length (now v) ⌝ }
 {
-    measure::own(code, &v[..n])
+    own_term::own(code, &v[..n])
 }
 
 // Words 0 and 1.
@@ -101,8 +101,8 @@ fn words_of(
     let share1 = share::share_of(1, n, c1, mx, my, &masks[n..], &masks[y1..]);
     let r1 = share::other_r(d.r, d.t, d.r0);
     Two(
-        share::word(d.code, share0, own.0, d.r0),
-        share::word(d.code, share1, own.1, r1),
+        answers::word(d.code, share0, own.0, d.r0),
+        answers::word(d.code, share1, own.1, r1),
     )
 }
 
@@ -134,8 +134,8 @@ fn answers(d: Dealt, z: u32) -> [u32; 4] {
     let key = d.key;
     let seed0 = d.seed0;
     let seed1 = d.seed1;
-    let a0 = share::answer(0, key, seed0, z);
-    let a1 = share::answer(1, key, seed1, z);
+    let a0 = answers::answer(0, key, seed0, z);
+    let a1 = answers::answer(1, key, seed1, z);
     [z, a0, a1, words::add(a0, a1)]
 }
 

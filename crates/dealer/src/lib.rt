@@ -44,8 +44,8 @@ impl Dealer {
             why,
             dealer: Dealer {
                 name: messages::padded(name),
-                key0: bytes_32(key0),
-                key1: bytes_32(key1),
+                key0: slices::bytes_32(key0),
+                key1: slices::bytes_32(key1),
                 last: floor,
             },
         }
@@ -104,7 +104,7 @@ fn why_not_start(name: &[u8], key0: &[u8], key1: &[u8]) -> u32
     if !((key0.len() == 32) & (key1.len() == 32)) {
         return 4;
     }
-    if words::equal(key0, key1) {
+    if slices::equal(key0, key1) {
         return 9;
     }
     0
@@ -143,15 +143,6 @@ fn why_not_deal(
 }
 
 // A key or a seed.
-fn bytes_32(b: &[u8]) -> [u8; 32]
-    requires { ⌜ length (now b) ≡ 32 ⌝ }
-    ensures { λ r. ⌜ r ≡ now (b .entry) ⌝ }
-{
-    let mut out = [0u8; 32];
-    words::copy(&mut out, 0, b);
-    out
-}
-
 // Both halves of an accepted deal, from the starts of the two buffers.
 fn write_halves(
     dealer: Dealer,
@@ -167,7 +158,7 @@ fn write_halves(
     ensures { λ _. ⌜ now (out0 .exit) ≡ over 0 (halfFor dealer (dealFrom number (now (seed .entry)) code n t) 0) (now (out0 .entry)) ⌝ }
     ensures { λ _. ⌜ now (out1 .exit) ≡ over 0 (halfFor dealer (dealFrom number (now (seed .entry)) code n t) 1) (now (out1 .entry)) ⌝ }
 {
-    let seed = bytes_32(seed);
+    let seed = slices::bytes_32(seed);
     let dealt = dealing::sets(&seed, number, code, n, t);
     let name = dealer.name;
     let key0 = dealer.key0;

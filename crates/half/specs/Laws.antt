@@ -154,3 +154,9 @@ module _ (key : List ℕ) (set : ℕ) (p : List ℕ) where
         let more : 484 * suc k ≡ 484 * k + 484 = omega arith in
         rw (are-opened k (omega arith) (λ i g. f i (omega arith)), f k (omega arith), block-text key set k (part (484 * k) 484 p) (length-part p (484 * k) 484 (omega arith)), more)
         (sym (take-add (484 * k) 484 p))
+
+-- a part put back is written over what was there
+pub put-over : (a k : ℕ) (xs ys : List ℕ) → length ys ≡ k → a + k ≤ length xs → putMid a k xs ys ≡ over a ys xs
+put-over a k xs ys e h =
+    ap (λ (l : List ℕ). take a xs ++ (ys ++ l)) (drop-drop k a xs ∙ ap (λ (n : ℕ). drop (a + n) xs) (sym e))
+    ∙ sym (over-eq ys xs a (omega arith) ∙ append-assoc (take a xs) ys (drop (a + length ys) xs))

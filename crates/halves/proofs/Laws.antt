@@ -16,9 +16,9 @@ use Rattle.content.specs.declared.Set.{Set}
 use Rattle.content.specs.Content.{size, blocks, field, setIn, noSet, lengthFits, flagsFit, zeros, contentFits, FlagBytes, Proper}
 use Rattle.dealing.specs.Dealing.{dealtSet}
 use Rattle.dealing.specs.Laws.{proper}
-use Rattle.half.specs.declared.Examined.{Examined}
+use Rattle.opening.specs.declared.Examined.{Examined}
 use Rattle.half.specs.Half.{whyNot, whyNotOpened, openedSet}
-use Rattle.half.specs.Examined.{answerFor, examined}
+use Rattle.opening.specs.Examined.{answerFor, examined}
 
 pub dealt-proper : (seed : List ℕ) (number code n t party : ℕ) (s : Set) → s ≡ dealtSet seed number code n t party → number < 2 ^ 64 → code < 3 → 1 ≤ n → n ≤ 512 → party ≤ 1 → Proper s
 unfolding isCode

@@ -26,7 +26,7 @@ fn flipped(half: [u8; HALF], i: usize) -> [u8; HALF]
 // All bytes from one place to before another set.
 fn spread(plain: [u8; PLAIN], from: usize, to: usize, byte: u8) -> [u8; PLAIN] {
     let mut p = plain;
-    let end = words::least(to, PLAIN);
+    let end = slices::least(to, PLAIN);
     let mut i = from;
     while i < end {
         p[i] = byte;
@@ -79,7 +79,7 @@ fn with_block(half: [u8; HALF], i: usize, other: [u8; HALF], j: usize) -> [u8; H
     let mut h = half;
     let from = 512 * j;
     let end = from + 512;
-    words::copy(&mut h, 512 * i, &other[from..end]);
+    slices::copy(&mut h, 512 * i, &other[from..end]);
     h
 }
 

@@ -58,7 +58,7 @@ fn put_each(
 ) -> usize
     requires { ⌜ d .blocks ≤ 16 ⌝ }
 {
-    let end = words::least(to, HALF);
+    let end = slices::least(to, HALF);
     let mut next = at;
     let mut i = from;
     while i < end {

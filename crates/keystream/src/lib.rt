@@ -90,7 +90,7 @@ fn store_lane(b: &mut [u8], at: usize, x: &[u32; 64], l: usize)
 {
     let mut w: usize = 0;
     while w < 16 {
-        words::store(b, at + 4 * w, x[4 * w + l]);
+        slices::store(b, at + 4 * w, x[4 * w + l]);
         w += 1;
     }
 }
@@ -110,7 +110,7 @@ fn xor_part(bytes: &mut [u8], at: usize, b: &[u8; 256])
     requires { ⌜ at ≤ length (now bytes) ⌝ }
     ensures { λ _. ⌜ now (bytes .exit) ≡ over at (tab (λ i. bitXor (getD (now (bytes .entry)) (at + i) 0) (getD (now (b .entry)) i 0)) (min 256 (length (now (bytes .entry)) - at))) (now (bytes .entry)) ⌝ }
 {
-    let n = words::least(256, bytes.len() - at);
+    let n = slices::least(256, bytes.len() - at);
     let mut i: usize = 0;
     while i < n {
         bytes[at + i] = bytes[at + i] ^ b[i];

@@ -17,7 +17,7 @@ fn head(name: [u8; 16], party: u32, code: u32, n: usize) -> [u8; 20]
     ensures { λ r. ⌜ r ≡ name ++ (party ∷ code ∷ bytes 2 n) ⌝ }
 {
     let mut h = [0u8; 20];
-    words::copy(&mut h, 0, &name);
+    slices::copy(&mut h, 0, &name);
     h[16] = party as u8;
     h[17] = code as u8;
     h[18] = (n % 256) as u8;
@@ -31,8 +31,8 @@ fn correction_bytes(seed: [u32; 8], word: u32, flags: u32) -> [u8; 37]
     ensures { λ r. ⌜ r ≡ bytesOf seed ++ (le32 word ++ (flags ∷ [])) ⌝ }
 {
     let mut b = [0u8; 37];
-    words::store_all(&mut b, 0, &seed);
-    words::store(&mut b, 32, word);
+    slices::store_all(&mut b, 0, &seed);
+    slices::store(&mut b, 32, word);
     b[36] = flags as u8;
     b
 }
@@ -49,7 +49,7 @@ fn store_corrections(out: &mut [u8], at: usize, cs: [Correction; 32])
         let c = cs[i];
         let seed = c.seed;
         let b = correction_bytes(seed, c.word, c.flags);
-        words::copy(out, at + 37 * i, &b);
+        slices::copy(out, at + 37 * i, &b);
         i += 1;
     }
 }
@@ -60,11 +60,11 @@ fn tail(c: u32, r: u32, seed: [u32; 8], cs: [Correction; 32], last: u32) -> [u8;
     ensures { λ t. ⌜ t ≡ le32 c ++ (le32 r ++ (bytesOf seed ++ (flat (map correctionBytes cs) ++ le32 last))) ⌝ }
 {
     let mut t = [0u8; 1228];
-    words::store(&mut t, 0, c);
-    words::store(&mut t, 4, r);
-    words::store_all(&mut t, 8, &seed);
+    slices::store(&mut t, 0, c);
+    slices::store(&mut t, 4, r);
+    slices::store_all(&mut t, 8, &seed);
     store_corrections(&mut t, 40, cs);
-    words::store(&mut t, 1224, last);
+    slices::store(&mut t, 1224, last);
     t
 }
 
@@ -73,7 +73,7 @@ fn store_first(out: &mut [u8], at: usize, n: usize, w: [u32; 512])
     requires { ⌜ (n ≤ 512) × (at + 4 * n ≤ length (now out)) ⌝ }
     ensures { λ _. ⌜ now (out .exit) ≡ over at (bytesOf (take n w)) (now (out .entry)) ⌝ }
 {
-    words::store_all(out, at, &w[..n]);
+    slices::store_all(out, at, &w[..n]);
 }
 
 // A head, the first n words of three vectors and a tail, and zeros up to 16 blocks.
@@ -89,11 +89,11 @@ fn joined(
     ensures { λ r. ⌜ r ≡ h ++ (bytesOf (take n mask) ++ (bytesOf (take n x) ++ (bytesOf (take n y) ++ t))) ++ replicate (7744 - size n) 0 ⌝ }
 {
     let mut out = [0u8; 7744];
-    words::copy(&mut out, 0, &h);
+    slices::copy(&mut out, 0, &h);
     store_first(&mut out, 20, n, mask);
     store_first(&mut out, 20 + 4 * n, n, x);
     store_first(&mut out, 20 + 8 * n, n, y);
-    words::copy(&mut out, 20 + 12 * n, &t);
+    slices::copy(&mut out, 20 + 12 * n, &t);
     out
 }
 

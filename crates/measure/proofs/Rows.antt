@@ -56,13 +56,3 @@ all-more code v i h = rw (add-one i) (go v i h)
 
 pub all-whole : (code : ℕ) (v : List ℕ) (i : ℕ) → i ≡ length v → allInRange code (take i v) ≡ allInRange code v
 all-whole code v i h = ap (allInRange code) (take-all i v (omega arith))
-
--- ---- the own term
-
-pub own-squares : (code : ℕ) (v : List ℕ) (b : Bool) (r : ℕ) → b ≡ true → b ≡ row code .squares → r ≡ sum (λ i. mul (getD v i 0) (getD v i 0)) (length v) → r ≡ ownWord code (length v) v
-unfolding ownWord
-own-squares code v b r t e h = h ∙ ap (λ (c : Bool). cond c (sum (λ i. mul (getD v i 0) (getD v i 0)) (length v)) 0) (sym t ∙ e)
-
-pub own-none : (code : ℕ) (v : List ℕ) (b : Bool) → b ≡ false → b ≡ row code .squares → 0 ≡ ownWord code (length v) v
-unfolding ownWord
-own-none code v b f e = ap (λ (c : Bool). cond c (sum (λ i. mul (getD v i 0) (getD v i 0)) (length v)) 0) (sym f ∙ e)

@@ -1,15 +1,9 @@
-// The three measures (01, "Measures"): what the table says of each code, as words, and what a box
-// computes of its own vector. Elements and thresholds are words; a negative number stands for
-// itself plus 2^32. No public function asks anything of its caller. (1073741824 is 2^30, and
-// 2147483648 is 2^31.)
+// The three measures (01, "Measures"): what the table says of each code, as words. Elements and
+// thresholds are words; a negative number stands for itself plus 2^32. No public function asks
+// anything of its caller. (1073741824 is 2^30, and 2147483648 is 2^31.) `own_term` has the own term.
 ghost use mathlib.Core.Path.{_≡_};
-ghost use lib.ListN.{length, getD};
-ghost use lib.IntN.{natAbs};
-ghost use Rattle.algebra.specs.Word.{mul as mulOf, signed};
-ghost use Rattle.algebra.specs.Sum.{sum};
-ghost use Rattle.measure.specs.Measure.{row, isCode, inRange, allInRange, thresholdFits, kWord, ownWord, within, squaresFrom};
-
-mod squares;
+ghost use Rattle.algebra.specs.Word.{signed};
+ghost use Rattle.measure.specs.Measure.{row, isCode, inRange, allInRange, thresholdFits, kWord, within};
 
 // -2, -1024 and -2^30
 const MINUS_2: u32 = 4294967294;
@@ -106,51 +100,4 @@ pub fn k(code: u32) -> u32
 {
     let row = row_of(code);
     row.k
-}
-
-// Without its sign, the number that a word stands for.
-fn magnitude(x: u32) -> u32
-    ensures { λ r. ⌜ r ≡ natAbs (signed x) ⌝ }
-{
-    if x < 2147483648 {
-        x
-    } else {
-        4294967295 - x + 1
-    }
-}
-
-// A word times itself. The square of what any measure takes is looked up in the table t; a word
-// outside every range is multiplied, so that no word is turned down.
-fn square(t: &[u32; 1025], x: u32) -> u32
-    requires { ⌜ now t ≡ squaresFrom 0 1025 ⌝ }
-    ensures { λ r. ⌜ r ≡ mulOf x x ⌝ }
-{
-    let m = magnitude(x);
-    if m <= 1024 {
-        t[m as usize]
-    } else {
-        words::mul(x, x)
-    }
-}
-
-// The table is set up once, before the loop: each use of a constant array copies it.
-fn sum_of_squares(v: &[u32]) -> u32
-    ensures { λ r. ⌜ r ≡ sum (λ i. mulOf (getD (now (v .entry)) i 0) (getD (now (v .entry)) i 0)) (length (now (v .entry))) ⌝ }
-{
-    let table = squares::SQUARES;
-    let mut total: u32 = 0;
-    let mut i: usize = 0;
-    while i < v.len() {
-        total = words::add(total, square(&table, v[i]));
-        i += 1;
-    }
-    total
-}
-
-// The own term of a vector.
-pub fn own(code: u32, v: &[u32]) -> u32
-    ensures { λ r. ⌜ r ≡ ownWord code (length (now (v .entry))) (now (v .entry)) ⌝ }
-{
-    let row = row_of(code);
-    if row.squares { sum_of_squares(v) } else { 0 }
 }

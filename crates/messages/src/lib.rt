@@ -38,7 +38,7 @@ pub fn padded(name: &[u8]) -> [u8; 16]
     ensures { λ r. ⌜ r ≡ paddedOf (now (name .entry)) ⌝ }
 {
     let mut out = [0u8; 16];
-    words::copy(&mut out, 0, name);
+    slices::copy(&mut out, 0, name);
     out
 }
 
@@ -47,5 +47,5 @@ pub fn padded(name: &[u8]) -> [u8; 16]
 pub fn expected(kind: u32, door: [u8; 16], sender: u32, label: Label, name: &[u8]) -> bool
     ensures { λ r. ⌜ r ≡ expectedOf kind door sender label (now (name .entry)) ⌝ }
 {
-    (label.kind == kind) & (words::equal(name, &door) & (label.sender == sender))
+    (label.kind == kind) & (slices::equal(name, &door) & (label.sender == sender))
 }

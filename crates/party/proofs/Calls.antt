@@ -19,9 +19,9 @@ use Rattle.messages.specs.Laws as Refusals
 use Rattle.messages.specs.Laws.{turned-down, goes-on, passed, fits-short}
 use Rattle.content.specs.Content.{fill, lengthFits}
 use Rattle.content.specs.Laws.{length-fits, fill-over}
-use Rattle.half.specs.declared.Examined.{Examined}
+use Rattle.opening.specs.declared.Examined.{Examined}
 use Rattle.half.specs.Half.{openedSet}
-use Rattle.half.specs.Examined.{answerFor, examined}
+use Rattle.opening.specs.Examined.{answerFor, examined}
 use Rattle.party.specs.declared.Party.{Party}
 use Rattle.party.specs.declared.PartyAnswer.{PartyAnswer}
 use Rattle.party.specs.Party as P

@@ -2,14 +2,13 @@
 // "One check at a box"). A call takes the state by value and hands the next one back; a refused one
 // hands it back as it was, with the refusal's number, and leaves every lent buffer as it was.
 ghost use mathlib.Core.Path.{_≡_};
-ghost use mathlib.Core.Bool.{Bool, not, _&&_};
 ghost use Prim.Native.Nat.{_-_, _≤_};
 ghost use lib.Dec.{eqb, leb};
 ghost use lib.ListN.{length};
 ghost use Rattle.words.specs.List.{over};
 ghost use Rattle.measure.specs.Measure.{allInRange};
 ghost use Rattle.share.specs.Share.{plus};
-ghost use Rattle.messages.specs.Messages.{unless, isName, expected};
+ghost use Rattle.messages.specs.Messages.{unless};
 ghost use Rattle.content.specs.Content.{fill, lengthFits};
 ghost use Rattle.party.specs.Party.{idle as idleOf, whyNotParty, startParty, stateFits, load as loadOf, mask as maskOf, maskOut, take as takeOf, boxShare, finish as finishOf, drop as dropOf};
 use content::Set;
@@ -156,15 +155,6 @@ fn box_share(
     share::share_of(party, n, c, other, &masked, &x, &y)
 }
 
-fn key_from(key: &[u8]) -> [u8; 32]
-    requires { ⌜ length (now key) ≡ 32 ⌝ }
-    ensures { λ r. ⌜ r ≡ now (key .entry) ⌝ }
-{
-    let mut out = [0u8; 32];
-    words::copy(&mut out, 0, key);
-    out
-}
-
 // An array of 512 words: v and the mask, added over the first n places.
 fn masked_array(n: usize, v: &[u32], mask: [u32; 512]) -> [u32; 512]
     requires { ⌜ (n ≤ 512) × (n ≤ length (now v)) ⌝ }
@@ -198,7 +188,7 @@ impl Party {
         }
         PartyAnswer {
             why,
-            party: idle(messages::padded(name), party, key_from(key), floor),
+            party: idle(messages::padded(name), party, slices::bytes_32(key), floor),
             word: 0,
         }
     }
@@ -218,7 +208,7 @@ impl Party {
         }
         let name = self.name;
         let key = self.key;
-        let examined = half::examine(&key, name, self.party, self.last, h);
+        let examined = opening::examine(&key, name, self.party, self.last, h);
         if examined.why != 0 {
             return PartyAnswer {
                 why: examined.why,
@@ -256,7 +246,7 @@ impl Party {
         let mask = self.set.mask;
         write_masked(n, v, mask, out);
         let kept = masked_array(n, v, mask);
-        let own = measure::own(code, v);
+        let own = own_term::own(code, v);
         let mut next = self;
         next.phase = 2;
         next.masked = kept;
@@ -290,7 +280,7 @@ impl Party {
         let x = self.set.x;
         let y = self.set.y;
         let share = box_share(self.party, n, self.set.c, masked, v, x, y);
-        let word = share::word(self.set.code, share, self.own, self.set.r);
+        let word = answers::word(self.set.code, share, self.own, self.set.r);
         let mut next = self;
         next.phase = 3;
         next.word = word;
@@ -319,7 +309,7 @@ impl Party {
         }
         let comparison = self.set.key;
         let seed = self.set.seed;
-        let answer = share::answer(self.party, comparison, seed, words::add(self.word, word));
+        let answer = answers::answer(self.party, comparison, seed, words::add(self.word, word));
         let key = self.key;
         PartyAnswer {
             why,

@@ -23,10 +23,10 @@ fn block(m: &[u8], at: usize, top: u64) -> [u64; 5]
     ensures { λ r. ⌜ Below (2 ^ 26) r ⌝ }
     ensures { λ r. ⌜ value r ≡ number (take 16 (drop at (now (m .entry)))) + top * 2 ^ 104 ⌝ }
 {
-    let w0 = limbs::wide(words::load(m, at));
-    let w1 = limbs::wide(words::load(m, at + 4));
-    let w2 = limbs::wide(words::load(m, at + 8));
-    let w3 = limbs::wide(words::load(m, at + 12));
+    let w0 = limbs::wide(slices::load(m, at));
+    let w1 = limbs::wide(slices::load(m, at + 4));
+    let w2 = limbs::wide(slices::load(m, at + 8));
+    let w3 = limbs::wide(slices::load(m, at + 12));
     limbs::split(w0, w1, w2, w3, top)
 }
 
@@ -70,7 +70,7 @@ fn rest(m: &[u8]) -> [u8; 16]
 {
     let at = m.len() - m.len() % 16;
     let mut b = [0u8; 16];
-    words::copy(&mut b, 0, &m[at..]);
+    slices::copy(&mut b, 0, &m[at..]);
     b
 }
 
@@ -120,10 +120,10 @@ fn clamped_r(k: &[u8]) -> [u64; 5]
     ensures { λ r. ⌜ Limbs r ⌝ }
     ensures { λ r. ⌜ value r ≡ rOf (now (k .entry)) ⌝ }
 {
-    let w0 = limbs::wide(words::load(k, 0) % 268435456);
-    let w1 = limbs::wide(clamped(words::load(k, 4)));
-    let w2 = limbs::wide(clamped(words::load(k, 8)));
-    let w3 = limbs::wide(clamped(words::load(k, 12)));
+    let w0 = limbs::wide(slices::load(k, 0) % 268435456);
+    let w1 = limbs::wide(clamped(slices::load(k, 4)));
+    let w2 = limbs::wide(clamped(slices::load(k, 8)));
+    let w3 = limbs::wide(clamped(slices::load(k, 12)));
     limbs::split(w0, w1, w2, w3, 0)
 }
 
@@ -134,10 +134,10 @@ pub fn key(k: &[u8; 32]) -> OneTimeKey
     ensures { λ r. ⌜ words4 (r .s) ≡ sOf (now (k .entry)) ⌝ }
 {
     let r = clamped_r(k);
-    let s0 = words::load(k, 16);
-    let s1 = words::load(k, 20);
-    let s2 = words::load(k, 24);
-    let s3 = words::load(k, 28);
+    let s0 = slices::load(k, 16);
+    let s1 = slices::load(k, 20);
+    let s2 = slices::load(k, 24);
+    let s3 = slices::load(k, 28);
     OneTimeKey {
         r: r,
         s: [s0, s1, s2, s3],
@@ -152,10 +152,10 @@ pub fn tag(h: [u64; 5], s: [u32; 4]) -> [u8; 16]
     let a = limbs::remainder(h);
     let t = limbs::add_s(a, s);
     let mut out = [0u8; 16];
-    words::store(&mut out, 0, t[0]);
-    words::store(&mut out, 4, t[1]);
-    words::store(&mut out, 8, t[2]);
-    words::store(&mut out, 12, t[3]);
+    slices::store(&mut out, 0, t[0]);
+    slices::store(&mut out, 4, t[1]);
+    slices::store(&mut out, 8, t[2]);
+    slices::store(&mut out, 12, t[3]);
     out
 }
 

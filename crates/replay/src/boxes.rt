@@ -13,10 +13,10 @@ const LONGEST: usize = 2432;
 const ROOM: usize = 520;
 
 fn load_all(bytes: &[u8], w: &mut [u32]) {
-    let n = words::least(bytes.len() / 4, w.len());
+    let n = slices::least(bytes.len() / 4, w.len());
     let mut i: usize = 0;
     while i < n {
-        w[i] = words::load(bytes, 4 * i);
+        w[i] = slices::load(bytes, 4 * i);
         i += 1;
     }
 }
@@ -29,7 +29,7 @@ fn vector(b: &[u8; BYTES], slot: usize) -> [u32; LONGEST] {
 }
 
 fn first_part(w: &[u32], n: usize) -> &[u32] {
-    let end = words::least(n, w.len());
+    let end = slices::least(n, w.len());
     &w[0..end]
 }
 
@@ -65,14 +65,14 @@ fn start(p: Party, b: &[u8; BYTES], l: Line) -> PartyAnswer {
 }
 
 fn lay_masked(b: &mut [u8; BYTES], masked: [u32; ROOM]) {
-    words::store_all(b, 0, &masked);
+    slices::store_all(b, 0, &masked);
 }
 
 // mask BOX VECTOR ROOM. The buffer goes to slot 0.
 fn mask(p: Party, b: &mut [u8; BYTES], l: Line) -> PartyAnswer {
     let w = vector(b, 2);
     let mut masked = [2863311530u32; ROOM];
-    let room = words::least(memory::size(l.f3), ROOM);
+    let room = slices::least(memory::size(l.f3), ROOM);
     let a = p.mask(first_words(&w, l.f2), &mut masked[0..room]);
     lay_masked(b, masked);
     a

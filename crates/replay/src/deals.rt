@@ -39,8 +39,8 @@ fn lay_halves(b: &mut [u8; BYTES], out0: [u8; ROOM], out1: [u8; ROOM]) {
 fn deal(d: Dealer, b: &mut [u8; BYTES], l: Line) -> DealerAnswer {
     let mut out0 = [170u8; ROOM];
     let mut out1 = [170u8; ROOM];
-    let room0 = words::least(memory::size(l.f6), ROOM);
-    let room1 = words::least(memory::size(l.f7), ROOM);
+    let room0 = slices::least(memory::size(l.f6), ROOM);
+    let room1 = slices::least(memory::size(l.f7), ROOM);
     let a = d.deal(
         l.f1,
         memory::first(b, 2, l.f2),
@@ -75,7 +75,7 @@ fn move_on(b: &mut [u8; BYTES], n: &mut [u64; NUMBERS]) {
 
 // Both halves of an accepted deal of length `length` are kept.
 pub fn keep(length: u64, b: &mut [u8; BYTES], n: &mut [u64; NUMBERS]) {
-    let blocks = content::blocks_of(words::least(memory::size(length), 512));
+    let blocks = content::blocks_of(slices::least(memory::size(length), 512));
     move_on(b, n);
     memory::copy_slot(b, 0, HALVES);
     memory::copy_slot(b, OTHER, HALVES + 1);

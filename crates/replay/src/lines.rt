@@ -74,7 +74,7 @@ fn place_of(name: &[u8], table: &[u8]) -> usize {
     let count = script::part_count(table, b' ');
     let mut i: usize = 0;
     while i < count {
-        if words::equal(name, script::part(table, b' ', i)) {
+        if slices::equal(name, script::part(table, b' ', i)) {
             return i;
         }
         i += 1;
@@ -191,7 +191,7 @@ fn read_fields(
 ) -> Line {
     let mut f = [0u64; FIELDS];
     let mut ok = kinds.len() + 1 == script::part_count(line, b' ');
-    let count = words::least(kinds.len() + 1, FIELDS);
+    let count = slices::least(kinds.len() + 1, FIELDS);
     let mut i: usize = 1;
     while i < count {
         let v = read_field(kinds[i - 1], script::field(line, i), b, n, i);

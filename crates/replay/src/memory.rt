@@ -45,8 +45,8 @@ pub fn low(n: u64) -> u32 {
 
 // The n bytes from a place on, or as many as there are.
 fn part(b: &[u8], at: usize, n: usize) -> &[u8] {
-    let start = words::least(at, b.len());
-    let end = start + words::least(n, b.len() - start);
+    let start = slices::least(at, b.len());
+    let end = start + slices::least(n, b.len() - start);
     &b[start..end]
 }
 
@@ -57,8 +57,8 @@ pub fn first(b: &[u8; BYTES], slot: usize, n: u64) -> &[u8] {
 
 // As many bytes as fit over those of a slot, from `at` on. It answers where the next go.
 pub fn lay(b: &mut [u8], slot: usize, at: usize, src: &[u8]) -> usize {
-    let from = words::least(SLOT * (slot % 23) + at % SLOT, b.len());
-    let n = words::least(src.len(), b.len() - from);
+    let from = slices::least(SLOT * (slot % 23) + at % SLOT, b.len());
+    let n = slices::least(src.len(), b.len() - from);
     let mut i: usize = 0;
     while i < n {
         b[from + i] = src[i];

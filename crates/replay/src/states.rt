@@ -51,7 +51,7 @@ fn lay_words(b: &mut [u8; BYTES], at: usize, w: &[u32]) -> usize {
 
 fn lay_word(b: &mut [u8; BYTES], at: usize, w: u32) -> usize {
     let mut bytes = [0u8; 4];
-    words::store(&mut bytes, 0, w);
+    slices::store(&mut bytes, 0, w);
     memory::lay(b, 0, at, &bytes)
 }
 

@@ -38,7 +38,7 @@ pub struct Span {
 pub fn next_part(text: &[u8], from: usize, mark: u8) -> Span
     ensures { λ r. ⌜ NextPart (now (text .entry)) from mark r ⌝ }
 {
-    let start = words::least(from, text.len());
+    let start = slices::least(from, text.len());
     let mut end = start;
     while end < text.len() {
         if text[end] == mark {
@@ -93,5 +93,5 @@ pub fn is_command(line: &[u8], name: &[u8], fields: usize) -> bool {
     if part_count(line, b' ') != fields {
         return false;
     }
-    words::equal(field(line, 0), name)
+    slices::equal(field(line, 0), name)
 }

@@ -187,7 +187,7 @@ fn generate_words(n: usize, seed: u32, low: u32, mask: u32, out: &mut [u8]) -> B
     let mut i: usize = 0;
     while i < n {
         s = next_state(s);
-        words::store(out, 4 * i, words::add(low, (s / 65536) & mask));
+        slices::store(out, 4 * i, words::add(low, (s / 65536) & mask));
         i += 1;
     }
     Bytes {
@@ -214,7 +214,7 @@ fn read_generated_words(text: &[u8], out: &mut [u8]) -> Bytes
 pub fn read_bytes(field: &[u8], out: &mut [u8]) -> Bytes
     ensures { λ r. ⌜ Counts (r .count) (now (out .exit)) ⌝ }
 {
-    if words::equal(field, b"-") {
+    if slices::equal(field, b"-") {
         return Bytes {
             count: 0,
             refusal: Refusal::Nothing,

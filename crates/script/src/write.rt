@@ -7,7 +7,7 @@ ghost use Prim.Native.Nat.{_<_};
 pub const ROOM: usize = 4096;
 
 fn write_first(bytes: &[u8], n: usize) {
-    let k = words::least(n, bytes.len());
+    let k = slices::least(n, bytes.len());
     io::write_all(1, &bytes[..k]);
 }
 
@@ -83,7 +83,7 @@ pub fn put_numbers(out: &mut [u8; ROOM], at: usize, w: &[u32]) -> usize {
 
 fn put_word(out: &mut [u8; ROOM], at: usize, w: u32) -> usize {
     let mut bytes = [0u8; 4];
-    words::store(&mut bytes, 0, w);
+    slices::store(&mut bytes, 0, w);
     put_hex(out, at, &bytes)
 }
 

@@ -14,13 +14,6 @@ use Rattle.algebra.specs.Sum.{sum, sum-more}
 use Rattle.words.specs.List.{over, tab, over-tab}
 use Rattle.share.specs.Share.{inner, share}
 
-pub below-half : (z : ℕ) → z < 2 ^ 32 → 1 - z / 2 ^ 31 ≡ less z (2 ^ 31)
-below-half z h = go (ltb z (2 ^ 31)) refl
-  where
-    go : (b : Bool) → ltb z (2 ^ 31) ≡ b → 1 - z / 2 ^ 31 ≡ less z (2 ^ 31)
-    go true e = let l = ltb-true z (2 ^ 31) e in (let q : 1 - z / 2 ^ 31 ≡ 1 = omega arith in q) ∙ sym (less-lt z (2 ^ 31) l)
-    go false e = let l = ltb-false z (2 ^ 31) e in (let q : 1 - z / 2 ^ 31 ≡ 0 = omega arith in q) ∙ sym (less-ge z (2 ^ 31) l)
-
 -- a share of no places, and one place more
 pub share-none : (party c : ℕ) (mx my sx sy : List ℕ) → c < 2 ^ 32 → c ≡ share party 0 c mx my sx sy
 unfolding share inner sum only

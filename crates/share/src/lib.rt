@@ -1,11 +1,10 @@
-// What a box computes in one check (01, "One check at a box"), and what the dealer computes for it,
-// over words: the masked vector, the share of the product, the word, and the answer.
+// What a box computes of vectors in one check (01, "One check at a box"), and what the dealer computes
+// for it: the masked vector and the share of the product. `answers` has the word and the answer.
 ghost use mathlib.Core.Path.{_≡_};
 ghost use lib.ListN.{length};
-ghost use Prim.Native.Nat.{_≤_, _^_};
-ghost use Rattle.algebra.specs.Bit.{less};
+ghost use Prim.Native.Nat.{_≤_};
 ghost use Rattle.words.specs.List.{over};
-ghost use Rattle.share.specs.Share.{plus, inner as innerOf, otherC, otherR, share as shareOf, word as wordOf, answer as answerOf};
+ghost use Rattle.share.specs.Share.{plus, inner as innerOf, otherC, otherR, share as shareOf};
 use node::Key;
 
 // The first n words of a and of b, added element by element, from the start of out: an element and
@@ -66,28 +65,4 @@ pub fn share_of(party: u32, n: usize, c: u32, mx: &[u32], my: &[u32], sx: &[u32]
         i += 1;
     }
     total
-}
-
-// A box's word, from its share, its own term and its r word.
-pub fn word(code: u32, share: u32, own: u32, r: u32) -> u32
-    ensures { λ w. ⌜ w ≡ wordOf code share own r ⌝ }
-{
-    words::add(words::add(words::mul(measure::k(code), share), own), r)
-}
-
-// A box's answer, from the sum of both words: whether it lies less than 2^31 above the point, as a
-// share.
-pub fn answer(party: u32, key: Key, seed: [u32; 8], z: u32) -> u32
-    ensures { λ r. ⌜ r ≡ answerOf party key seed z ⌝ }
-{
-    let at = walk::values(key, seed, party, words::add(z, 2147483648), z);
-    let difference = words::sub(at.first, at.second);
-    words::add(difference, node::only(party, below_half(z)))
-}
-
-// 1 if z is below 2^31, else 0.
-fn below_half(z: u32) -> u32
-    ensures { λ r. ⌜ r ≡ less z (2 ^ 31) ⌝ }
-{
-    1 - (z >> 31)
 }

@@ -15,14 +15,14 @@ returns c = start-refused (c .before .before .before .before .before .args .name
 padded-requires : tie.Need-padded-requires
 padded-requires c κs = start-fits (c .before .before .before .before .args .name .now) (c .before .before .before .before .args .party) (c .before .before .before .before .args .key .now) (c .before .before .before .before .args .floor) (c .before .why-not-start .result) (c .before .why-not-start .ensures) (c .if1 .left) .0
 
-key-from-requires : tie.Need-key-from-requires
-key-from-requires c κs = start-fits (c .before .before .before .before .before .args .name .now) (c .before .before .before .before .before .args .party) (c .before .before .before .before .before .args .key .now) (c .before .before .before .before .before .args .floor) (c .before .before .why-not-start .result) (c .before .before .why-not-start .ensures) (c .before .if1 .left) .1
+bytes-32-requires : tie.Need-bytes-32-requires
+bytes-32-requires c κs = start-fits (c .before .before .before .before .before .args .name .now) (c .before .before .before .before .before .args .party) (c .before .before .before .before .before .args .key .now) (c .before .before .before .before .before .args .floor) (c .before .before .why-not-start .result) (c .before .before .why-not-start .ensures) (c .before .if1 .left) .1
 
 idle-requires-2 : tie.Need-idle-requires-2
 idle-requires-2 c κs = search needs
 
 returns-2 : tie.Need-returns-2
-returns-2 c = started (c .before .before .before .before .before .before .before .args .name .now) (c .before .before .before .before .before .before .before .args .party) (c .before .before .before .before .before .before .before .args .key .now) (c .before .before .before .before .before .before .before .args .floor) (c .before .before .before .before .why-not-start .result) (c .before .before .before .before .why-not-start .ensures) _ _ _ (c .before .before .before .if1 .left) (c .before .before .padded .ensures) (c .before .key-from .ensures) (c .idle2 .ensures)
+returns-2 c = started (c .before .before .before .before .before .before .before .args .name .now) (c .before .before .before .before .before .before .before .args .party) (c .before .before .before .before .before .before .before .args .key .now) (c .before .before .before .before .before .before .before .args .floor) (c .before .before .before .before .why-not-start .result) (c .before .before .before .before .why-not-start .ensures) _ _ _ (c .before .before .before .if1 .left) (c .before .before .padded .ensures) (c .before .bytes-32 .ensures) (c .idle2 .ensures)
 
 pub start-spec : {M : Type 1} → statement M
 start-spec =
@@ -32,6 +32,6 @@ start-spec =
     idle-requires
     returns
     padded-requires
-    key-from-requires
+    bytes-32-requires
     idle-requires-2
     returns-2)

@@ -1,0 +1,88 @@
+-- What the code that opens blocks comes to, over lists. Assumes nothing.
+use mathlib.Core.Path.{_≡_, refl, sym, ap, ap₂, _∙_}
+use mathlib.Core.Bool.{Bool, true, _&&_}
+use mathlib.Core.List.{List, [], _∷_, _++_, append-assoc, append-nil}
+use Prim.Native.Nat.{ℕ, zero, suc, _+_, _*_, _-_, _/_, _%_, _^_, _≤_}
+use native.Mathlib.Omega.{arith}
+use native.Mathlib.Numerals.{add-one}
+use borrow.Author.Tests.{le-leb}
+use borrow.Rule.Slice.PartMut.{putMid}
+use lib.Dec.{eqb}
+use lib.ListN.{length, take-append-drop, take, drop, replicate, length-append, length-drop, drop-of-length-le}
+use lib.Seq.{length-take-le, take-at, drop-at, drop-append-add, drop-drop}
+use Rattle.words.specs.List.{over, over-eq, over-all, over-next}
+use Rattle.words.specs.Bytes.{le32, bytesOf, wordAt}
+use Rattle.poly1305.specs.Numbers.{eight, four, number-word, number-words}
+use Rattle.aead.specs.declared.Sealed.{Sealed}
+use Rattle.aead.specs.Aead.{cipher, tagFor, within, sealed, sealedText, opens, openedText as openedTextOf}
+use Rattle.aead.specs.Claims.{length-cipher}
+use Rattle.lanes.specs.Lanes.{flat}
+use Rattle.measure.specs.Order.{both}
+use Rattle.content.specs.declared.Set.{Set}
+use Rattle.content.specs.Content.{part, fields, size, blocks, Proper}
+use Rattle.content.specs.Laws.{blocks-bounds, take-laid}
+use Rattle.content.specs.Pieces.{part-is, length-part}
+use Rattle.half.specs.Half.{header, block, firstBlocks, half, setNumber, blockFits, firstFit, blockAt, openedText}
+use Rattle.half.specs.Laws.{part-front, length-tag, length-block, length-blocks}
+
+pub load-law : (b : List ℕ) (x y : ℕ) → 8 ≤ length b → x ≡ wordAt b 0 → y ≡ wordAt b 4 → x + y * 2 ^ 32 ≡ setNumber b
+unfolding setNumber part
+load-law b x y h e f = (λ i. e i + f i * 2 ^ 32) ∙ sym (number-words b 0 h)
+
+module _ (key b out0 n t o z : List ℕ) (set i x s : ℕ) (r : Bool) (lb : length b ≡ 512) (lo : length out0 ≡ 484) where
+  module _ (en : n ≡ over 0 (take 12 (drop 0 b)) (replicate 12 0)) (et : t ≡ over 0 (take 16 (drop 496 b)) (replicate 16 0)) (eo : o ≡ over 0 (take 484 (drop 12 b)) out0) where
+    nonce-is : n ≡ part 0 12 b
+    unfolding part
+    nonce-is = en ∙ over-all (take 12 b) (replicate 12 0) (length-take-le 12 b (omega arith))
+
+    tag-part : t ≡ part 496 16 b
+    unfolding part
+    tag-part = et ∙ over-all (take 16 (drop 496 b)) (replicate 16 0) (length-take-le 16 (drop 496 b) (omega (arith, length-drop 496 b)))
+
+    text-part : o ≡ part 12 484 b
+    unfolding part
+    text-part = eo ∙ over-all (take 484 (drop 12 b)) out0 (length-take-le 484 (drop 12 b) (omega (arith, length-drop 12 b)) ∙ sym lo)
+
+    pub open-fits : r ≡ opens key n n o t → x ≡ wordAt b 8 → s ≡ setNumber b → eqb x i && (eqb s set && r) ≡ blockFits key set i b
+    unfolding blockFits setNumber part
+    open-fits er ex es = rw (ex, es, er, nonce-is, tag-part, text-part, number-word b 8 (omega arith)) refl
+
+    pub open-text : r ≡ opens key n n o t → z ≡ openedTextOf key n n o t → eqb x i && (eqb s set && r) ≡ true → z ≡ cipher key (part 0 12 b) (part 12 484 b)
+    unfolding openedTextOf
+    open-text er ez ok =
+        let opens-so : opens key n n o t ≡ true = sym er ∙ both (eqb s set) r (both (eqb x i) _ ok .1) .1 in
+        ez ∙ rw opens-so (ap₂ (cipher key) nonce-is text-part)
+
+length-opened : (key h : List ℕ) (i : ℕ) → 512 * i ≤ length h → length (openedText key h i) ≡ 484 * i
+unfolding openedText blockAt
+length-opened key h zero l = refl
+length-opened key h (suc i) l =
+    let b : List ℕ = part (512 * i) 512 h in
+    let size : length (cipher key (part 0 12 b) (part 12 484 b)) ≡ 484 = length-cipher key (part 0 12 b) (part 12 484 b) ∙ length-part b 12 484 (omega (arith, length-part h (512 * i) 512 (omega arith))) in
+    omega (arith, length-append (openedText key h i) (cipher key (part 0 12 b) (part 12 484 b)), length-opened key h i (omega arith), size)
+
+-- one block more
+module _ (key h out0 out b : List ℕ) (set i k m : ℕ) (fit this : Bool) (es : set ≡ setNumber h) (ek : k ≡ 512) where
+  pub fit-more : fit ≡ firstFit key h i → this ≡ blockFits key set i (take k (drop (512 * i) h)) → fit && this ≡ firstFit key h (i + 1)
+  unfolding firstFit blockAt part
+  fit-more e f = rw (add-one i, e, f, es, ek) refl
+
+  pub opened-more : m ≡ 484 → 512 * (i + 1) ≤ length h → 484 * (i + 1) ≤ length out → length b ≡ 484 → (fit ≡ true → out ≡ over 0 (openedText key h i) out0)
+      → (this ≡ true → b ≡ cipher key (part 0 12 (take k (drop (512 * i) h))) (part 12 484 (take k (drop (512 * i) h)))) → fit && this ≡ true
+      → putMid (484 * i) m out b ≡ over 0 (openedText key h (i + 1)) out0
+  unfolding openedText blockAt
+  opened-more em lh lo lb f g ok =
+      let block : List ℕ = part (512 * i) 512 h in
+      let fits = both fit this ok in
+      let e = f (fits .0) in
+      let is : b ≡ cipher key (part 0 12 block) (part 12 484 block) =
+      g (fits .1) ∙ ap (λ (n : ℕ). cipher key (part 0 12 (take n (drop (512 * i) h))) (part 12 484 (take n (drop (512 * i) h)))) ek ∙ unfolded in
+      rw (add-one i)
+      (over-next (openedText key h i) (cipher key (part 0 12 block) (part 12 484 block)) out0 out (putMid (484 * i) m out b) 0 (484 * i) (length-opened key h i (omega arith)) e
+      (put-over (484 * i) m out b (lb ∙ sym em) (omega arith) ∙ ap₂ (λ (n : ℕ) (l : List ℕ). over n l out) (omega arith) is))
+    where
+      unfolded : cipher key (part 0 12 (take 512 (drop (512 * i) h))) (part 12 484 (take 512 (drop (512 * i) h))) ≡ cipher key (part 0 12 (part (512 * i) 512 h)) (part 12 484 (part (512 * i) 512 h))
+      unfolded = ap (λ (l : List ℕ). cipher key (part 0 12 l) (part 12 484 l)) (part-is (512 * i) 512 h)
+
+pub opened-all : (key h out0 out : List ℕ) (count : ℕ) → 512 * count ≤ length h → length out0 ≡ 484 * count → out ≡ over 0 (openedText key h count) out0 → out ≡ openedText key h count
+opened-all key h out0 out count l lo e = e ∙ over-all (openedText key h count) out0 (length-opened key h count l ∙ sym lo)

@@ -1,0 +1,112 @@
+use Rattle.half.specs.Half.{firstFit, openedText}
+use Rattle.words.specs.List.{over}
+use lib.ListN.{length}
+use native.Mathlib.Omega.{arith}
+use Prim.Native.Nat.{_+_, _*_, _-_, _≤_}
+use mathlib.Core.Bool.{true}
+use mathlib.Core.Path.{_≡_, refl}
+use Rattle.opening.proofs.Laws.{fit-more, opened-more, opened-all}
+use borrow.Author.Needs.{needs}
+use Rattle.opening.proofs.open_blocks.Statement.{statement}
+use Rattle.opening.proofs.open_blocks.Tie as tie
+
+abbrev Inv-loop : tie.InvT-loop
+Inv-loop key number count h out₀ fit₀ i₀ out fit i = (i ≤ count) × (length out ≡ length out₀) × (fit ≡ firstFit key h i) × (fit ≡ true → out ≡ over 0 (openedText key h i) out₀)
+
+abbrev μ-loop : tie.MeasureT-loop
+μ-loop key number count h out₀ fit₀ i₀ out fit i = count - i
+
+loop-holds : tie.Need-loop-holds Inv-loop μ-loop
+unfolding over firstFit openedText
+loop-holds c = (search needs, refl, refl, λ _. refl)
+
+cast-open-block : tie.Need-cast-open-block Inv-loop μ-loop
+cast-open-block c = search needs
+
+mul-open-block : tie.Need-mul-open-block Inv-loop μ-loop
+mul-open-block c = search needs
+
+mul-open-block-2 : tie.Need-mul-open-block-2 Inv-loop μ-loop
+mul-open-block-2 c = search needs
+
+add-open-block : tie.Need-add-open-block Inv-loop μ-loop
+add-open-block c = search needs
+
+sub-open-block : tie.Need-sub-open-block Inv-loop μ-loop
+sub-open-block c = search needs
+
+part-open-block-start : tie.Need-part-open-block-start Inv-loop μ-loop
+part-open-block-start c = search needs
+
+part-open-block-end : tie.Need-part-open-block-end Inv-loop μ-loop
+part-open-block-end c = search needs
+
+mul-open-block-3 : tie.Need-mul-open-block-3 Inv-loop μ-loop
+mul-open-block-3 c = search needs
+
+mul-open-block-4 : tie.Need-mul-open-block-4 Inv-loop μ-loop
+mul-open-block-4 c = search needs
+
+add-open-block-2 : tie.Need-add-open-block-2 Inv-loop μ-loop
+add-open-block-2 c = search needs
+
+sub-open-block-2 : tie.Need-sub-open-block-2 Inv-loop μ-loop
+sub-open-block-2 c = search needs
+
+part-open-block-start-2 : tie.Need-part-open-block-start-2 Inv-loop μ-loop
+part-open-block-start-2 c = search needs
+
+part-open-block-end-2 : tie.Need-part-open-block-end-2 Inv-loop μ-loop
+part-open-block-end-2 c = search needs
+
+open-block-requires : tie.Need-open-block-requires Inv-loop μ-loop
+open-block-requires c κs = search needs
+
+add-i : tie.Need-add-i Inv-loop μ-loop
+add-i c = search needs
+
+loop-less : tie.Need-loop-less Inv-loop μ-loop
+loop-less c = search needs
+
+loop-again : tie.Need-loop-again Inv-loop μ-loop
+loop-again c = (
+  search needs,
+  search needs,
+  fit-more (c .before .before .before .before .before .before .before .before .before .args .key .now) (c .before .before .before .before .before .before .before .before .before .args .h .now) (c .before .before .before .before .before .before .before .before .before .args .out .now) (c .before .before .before .before .before .before .loop .out) (c .before .before .open-block .last .1 .1 .1 .1 .0) (c .before .before .before .before .before .before .before .before .before .args .number) (c .before .before .before .before .before .before .loop .i) (512 * c .before .before .before .before .before .before .loop .i + 512 - 512 * c .before .before .before .before .before .before .loop .i) (484 * c .before .before .before .before .before .before .loop .i + 484 - 484 * c .before .before .before .before .before .before .loop .i) (c .before .before .before .before .before .before .loop .fit) (c .before .before .open-block .result) (c .before .before .before .before .before .before .before .before .before .pre .3) (omega arith) (c .before .before .before .before .before .before .loop .inv .2) (c .before .before .open-block .ensures .0),
+  opened-more (c .before .before .before .before .before .before .before .before .before .args .key .now) (c .before .before .before .before .before .before .before .before .before .args .h .now) (c .before .before .before .before .before .before .before .before .before .args .out .now) (c .before .before .before .before .before .before .loop .out) (c .before .before .open-block .last .1 .1 .1 .1 .0) (c .before .before .before .before .before .before .before .before .before .args .number) (c .before .before .before .before .before .before .loop .i) (512 * c .before .before .before .before .before .before .loop .i + 512 - 512 * c .before .before .before .before .before .before .loop .i) (484 * c .before .before .before .before .before .before .loop .i + 484 - 484 * c .before .before .before .before .before .before .loop .i) (c .before .before .before .before .before .before .loop .fit) (c .before .before .open-block .result) (c .before .before .before .before .before .before .before .before .before .pre .3) (omega arith) (omega arith) (omega arith) (omega arith) (search needs) (c .before .before .before .before .before .before .loop .inv .3) (c .before .before .open-block .ensures .1),
+)
+
+same-length : tie.Need-same-length Inv-loop μ-loop
+same-length c = search needs
+
+returns : tie.Need-returns Inv-loop μ-loop
+returns c =
+    let done : c .before .loop .i ≡ c .before .before .before .before .args .count = omega arith in
+    (rw done at (c .before .loop .inv .2), λ t. opened-all _ _ _ _ _ (c .before .before .before .before .pre .1) (c .before .before .before .before .pre .2) (rw done at (c .before .loop .inv .3 t)))
+
+pub open-blocks-spec : {M : Type 1} → statement M
+open-blocks-spec =
+    tie.close
+    (tie.spec
+    Inv-loop
+    μ-loop
+    loop-holds
+    cast-open-block
+    mul-open-block
+    mul-open-block-2
+    add-open-block
+    sub-open-block
+    part-open-block-start
+    part-open-block-end
+    mul-open-block-3
+    mul-open-block-4
+    add-open-block-2
+    sub-open-block-2
+    part-open-block-start-2
+    part-open-block-end-2
+    open-block-requires
+    add-i
+    loop-less
+    loop-again
+    same-length
+    returns)

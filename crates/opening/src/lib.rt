@@ -1,0 +1,139 @@
+// Examines a half: opens its blocks and reads the set (01, "The sealed half" and "When a call is turned
+// down").
+ghost use mathlib.Core.Path.{_≡_};
+ghost use mathlib.Core.Bool.{true, _&&_};
+ghost use Prim.Native.Nat.{_*_, _/_, _%_, _≤_};
+ghost use lib.Dec.{eqb, leb};
+ghost use lib.ListN.{length};
+ghost use Rattle.aead.specs.Aead.{cipher};
+ghost use Rattle.content.specs.Content.{part};
+ghost use Rattle.half.specs.Half.{blockFits, firstFit, openedText, setNumber, whyNotOpened};
+ghost use Rattle.opening.specs.Examined.{refused as refusedFor, answerFor, examined};
+use content::Set;
+
+// The set number in a block's first eight bytes.
+fn load_number(b: &[u8]) -> u64
+    requires { ⌜ 8 ≤ length (now b) ⌝ }
+    ensures { λ r. ⌜ r ≡ setNumber (now (b .entry)) ⌝ }
+{
+    slices::load(b, 0) as u64 + slices::load(b, 4) as u64 * 4294967296
+}
+
+// Whether b is block i of the set; where it is, its text is opened into out.
+fn open_block(key: &[u8; 32], number: u64, i: u32, b: &[u8], out: &mut [u8]) -> bool
+    requires { ⌜ (length (now b) ≡ 512) × (length (now out) ≡ 484) ⌝ }
+    ensures { λ r. ⌜ r ≡ blockFits (now (key .entry)) number i (now (b .entry)) ⌝ }
+    ensures { λ r. ⌜ (r ≡ true → now (out .exit) ≡ cipher (now (key .entry)) (part 0 12 (now (b .entry))) (part 12 484 (now (b .entry)))) ⌝ }
+{
+    let mut nonce = [0u8; 12];
+    slices::copy(&mut nonce, 0, &b[0..12]);
+    let aad = nonce;
+    let mut tag = [0u8; 16];
+    slices::copy(&mut tag, 0, &b[496..512]);
+    slices::copy(out, 0, &b[12..496]);
+    let opens = aead::open(key, &nonce, &aad, out, &tag);
+    let index = slices::load(b, 8);
+    let set = load_number(b);
+    (index == i) & ((set == number) & opens)
+}
+
+// Whether the first `count` blocks of h are those of the set; where they are, their text is opened
+// into out.
+fn open_blocks(key: &[u8; 32], number: u64, count: usize, h: &[u8], out: &mut [u8]) -> bool
+    requires { ⌜ (count ≤ 16) × (512 * count ≤ length (now h)) × (length (now out) ≡ 484 * count) × (number ≡ setNumber (now h)) ⌝ }
+    ensures { λ r. ⌜ r ≡ firstFit (now (key .entry)) (now (h .entry)) count ⌝ }
+    ensures { λ r. ⌜ (r ≡ true → now (out .exit) ≡ openedText (now (key .entry)) (now (h .entry)) count) ⌝ }
+{
+    let mut fit = true;
+    let mut i: usize = 0;
+    while i < count {
+        let this = open_block(
+            key,
+            number,
+            i as u32,
+            &h[512 * i..512 * i + 512],
+            &mut out[484 * i..484 * i + 484],
+        );
+        fit = fit & this;
+        i += 1;
+    }
+    fit
+}
+
+fn is_whole(bytes: usize) -> bool
+    ensures { λ r. ⌜ r ≡ eqb (bytes % 512) 0 && (leb 3 (bytes / 512) && leb (bytes / 512) 16) ⌝ }
+{
+    (bytes % 512 == 0) & ((3 <= bytes / 512) & (bytes / 512 <= 16))
+}
+
+// What examining a half finds: why it is turned down (0 if it is not), and the set, or no set.
+pub struct Examined {
+    pub why: u32,
+    pub set: Set,
+}
+
+fn refused(why: u32) -> Examined
+    ensures { λ r. ⌜ r ≡ refusedFor why ⌝ }
+{
+    Examined {
+        why,
+        set: content::no_set(),
+    }
+}
+
+// Opens whole blocks into `text`.
+fn open_whole(
+    key: &[u8; 32],
+    name: [u8; 16],
+    party: u32,
+    number: u64,
+    h: &[u8],
+    text: &mut [u8],
+) -> Examined
+    requires { ⌜ (3 ≤ length (now h) / 512) × (length (now h) / 512 ≤ 16) × (number ≡ setNumber (now h)) × (length (now text) ≡ 484 * (length (now h) / 512)) ⌝ }
+    ensures { λ r. ⌜ r ≡ answerFor (whyNotOpened (now (key .entry)) name party (now (h .entry))) (now (key .entry)) (now (h .entry)) ⌝ }
+{
+    let count = h.len() / 512;
+    if !open_blocks(key, number, count, h, text) {
+        return refused(10);
+    }
+    if !reading::content_fits(name, party, count, text) {
+        return refused(11);
+    }
+    Examined {
+        why: 0,
+        set: reading::read_set(number, text),
+    }
+}
+
+// The same, with room for any half.
+fn open_within(
+    key: &[u8; 32],
+    name: [u8; 16],
+    party: u32,
+    number: u64,
+    h: &[u8],
+    room: [u8; 7744],
+) -> Examined
+    requires { ⌜ (3 ≤ length (now h) / 512) × (length (now h) / 512 ≤ 16) × (number ≡ setNumber (now h)) ⌝ }
+    ensures { λ r. ⌜ r ≡ answerFor (whyNotOpened (now (key .entry)) name party (now (h .entry))) (now (key .entry)) (now (h .entry)) ⌝ }
+{
+    let mut text = room;
+    let size = 484 * (h.len() / 512);
+    open_whole(key, name, party, number, h, &mut text[..size])
+}
+
+// Examines a half for a box of this key, padded name and party whose last number is `last`. Any
+// bytes may be handed in, and nothing is committed.
+pub fn examine(key: &[u8; 32], name: [u8; 16], party: u32, last: u64, h: &[u8]) -> Examined
+    ensures { λ r. ⌜ r ≡ examined (now (key .entry)) name party last (now (h .entry)) ⌝ }
+{
+    if !is_whole(h.len()) {
+        return refused(4);
+    }
+    let number = load_number(h);
+    if !(last < number) {
+        return refused(7);
+    }
+    open_within(key, name, party, number, h, [0; 7744])
+}

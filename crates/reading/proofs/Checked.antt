@@ -1,0 +1,88 @@
+-- What opened content is tested for. Assumes nothing.
+use mathlib.Core.Path.{_≡_, refl, sym, ap, ap₂, _∙_}
+use mathlib.Core.Bool.{Bool, true, false, _&&_, and-true, and-false, and-assoc}
+use mathlib.Core.List.{List, [], _∷_, _++_}
+use Prim.Native.Nat.{ℕ, _+_, _*_, _-_, _<_, _≤_}
+use native.Mathlib.Numerals.{add-one}
+use native.Mathlib.Omega.{arith}
+use borrow.Author.Tests.{le-leb, lt-leb, eq-eqb, ne-eqb}
+use lib.Dec.{eqb, leb, ltb}
+use lib.ListN.{length, getD, take, drop, length-drop}
+use lib.Seq.{take-suc, take-all}
+use Rattle.words.specs.List.{same}
+use Rattle.node.specs.declared.Correction.{Correction}
+use Rattle.measure.specs.Measure.{isCode}
+use Rattle.content.specs.Content.{widths, size, blocks, lengthIn, field, correctionIn, correctionsIn, setIn, lengthFits, flagsFit, zeros, contentFits}
+use Rattle.content.specs.Pieces.{offset, getD-part}
+use Rattle.reading.proofs.Read.{between, byte-at}
+
+flagsFit-snoc : (l : List Correction) (c : Correction) → flagsFit (l ++ (c ∷ [])) ≡ flagsFit l && ltb (c .flags) 4
+unfolding flagsFit
+flagsFit-snoc [] c = and-true (ltb (c .flags) 4)
+flagsFit-snoc (d ∷ l) c = ap (λ (b : Bool). ltb (d .flags) 4 && b) (flagsFit-snoc l c) ∙ sym (and-assoc (ltb (d .flags) 4) (flagsFit l) (ltb (c .flags) 4))
+
+-- one flag byte more
+pub flags-more : (f : List ℕ) (i : ℕ) → flagsFit (correctionsIn f (i + 1)) ≡ flagsFit (correctionsIn f i) && ltb (getD f (37 * i + 36) 0) 4
+unfolding correctionsIn correctionIn
+flags-more f i =
+    rw (add-one i)
+    (flagsFit-snoc (correctionsIn f i) (correctionIn f i) ∙ ap (λ (x : ℕ). flagsFit (correctionsIn f i) && ltb x 4) (getD-part (37 * i) 37 f 36 (omega arith)))
+
+zeros-snoc : (l : List ℕ) (x : ℕ) → zeros (l ++ (x ∷ [])) ≡ zeros l && eqb x 0
+unfolding zeros
+zeros-snoc [] x = and-true (eqb x 0)
+zeros-snoc (y ∷ l) x = ap (λ (b : Bool). eqb y 0 && b) (zeros-snoc l x) ∙ sym (and-assoc (eqb y 0) (zeros l) (eqb x 0))
+
+-- one byte more
+pub zeros-more : (b : List ℕ) (i : ℕ) → i < length b → zeros (take (i + 1) b) ≡ zeros (take i b) && eqb (getD b i 0) 0
+zeros-more b i h = rw (add-one i, take-suc b i 0 h) (zeros-snoc (take i b) (getD b i 0))
+
+-- ---- the whole test
+
+-- what is refused for its length or count
+refused : (x y z : Bool) {w : Bool} → w ≡ false → false ≡ x && (y && (z && w))
+refused x y z e = sym (ap (λ (b : Bool). x && (y && (z && b))) e ∙ ap (λ (b : Bool). x && (y && b)) (and-false z) ∙ ap (λ (b : Bool). x && b) (and-false y) ∙ and-false x)
+
+regroup : (x y z f w : Bool) → (((x && y) && z) && f) && w ≡ x && (y && (z && (f && w)))
+regroup x y z f w = and-assoc (x && y && z) f w ∙ and-assoc (x && y) z (f && w) ∙ and-assoc x y (z && (f && w))
+
+module _ (name : List ℕ) (party count : ℕ) (b : List ℕ) (n : ℕ) (is : n ≡ lengthIn b) where
+  out-of-range : lengthFits n ≡ false → false ≡ contentFits name party count b
+  unfolding contentFits setIn
+  out-of-range e =
+      refused (same (field b 0) name) (eqb (getD (field b 1) 0 0) party) (isCode (getD (field b 2) 0 0))
+      (ap (λ (l : Bool). l && (eqb (blocks (lengthIn b)) count && (flagsFit (correctionsIn (field b 10) 32) && zeros (drop (size (lengthIn b)) b)))) (ap lengthFits (sym is) ∙ e))
+
+  pub too-short : n < 1 → false ≡ contentFits name party count b
+  unfolding lengthFits
+  too-short h = out-of-range (ap (λ (l : Bool). l && leb n 512) (lt-leb 1 n h))
+
+  pub too-long : 512 < n → false ≡ contentFits name party count b
+  unfolding lengthFits
+  too-long h = out-of-range (ap (λ (l : Bool). leb 1 n && l) (lt-leb n 512 h) ∙ and-false (leb 1 n))
+
+  -- L asks for another number of blocks
+  pub other-count : (k : ℕ) → k ≡ blocks n → (k ≡ count → ⊥) → false ≡ contentFits name party count b
+  unfolding contentFits setIn
+  other-count k e h =
+      refused (same (field b 0) name) (eqb (getD (field b 1) 0 0) party) (isCode (getD (field b 2) 0 0))
+      (ap (λ (l : Bool). lengthFits (lengthIn b) && (l && (flagsFit (correctionsIn (field b 10) 32) && zeros (drop (size (lengthIn b)) b))))
+      (ap (λ (m : ℕ). eqb m count) (ap blocks (sym is) ∙ sym e) ∙ ne-eqb k count h)
+      ∙ and-false (lengthFits (lengthIn b)))
+
+  pub fits-law : (k owner code : ℕ) (named coded flags filled : Bool) → 1 ≤ n → n ≤ 512 → k ≡ blocks n → k ≡ count
+      → named ≡ same (take 16 b) name → owner ≡ getD b 16 0 → code ≡ getD b 17 0 → coded ≡ isCode code
+      → flags ≡ flagsFit (correctionsIn (take (1244 + 12 * n - (60 + 12 * n)) (drop (60 + 12 * n) b)) 32) → filled ≡ zeros (take (length b - (1248 + 12 * n)) (drop (1248 + 12 * n) b))
+      → (((named && eqb owner party) && coded) && flags) && filled ≡ contentFits name party count b
+  unfolding contentFits setIn lengthFits size widths offset
+  fits-law k owner code named coded flags filled h l ek e e₀ e₁ e₂ e₃ e₄ e₅ =
+      let long : leb 1 (lengthIn b) && leb (lengthIn b) 512 ≡ true = ap₂ _&&_ (le-leb 1 (lengthIn b) (omega arith)) (le-leb (lengthIn b) 512 (omega arith)) in
+      let many : eqb (blocks (lengthIn b)) count ≡ true = eq-eqb (blocks (lengthIn b)) count (ap blocks (sym is) ∙ sym ek ∙ e) in
+      let p₀ = e₀ ∙ ap (λ (f : List ℕ). same f name) (between b 0 0 16 refl refl) in
+      let p₁ = ap (λ (x : ℕ). eqb x party) (e₁ ∙ byte-at b 1 16 refl refl) in
+      let p₂ = e₃ ∙ ap isCode (e₂ ∙ byte-at b 2 17 refl refl) in
+      let p₄ = e₄ ∙ ap (λ (f : List ℕ). flagsFit (correctionsIn f 32)) (between b 10 (60 + 12 * n) (1244 + 12 * n) (omega arith) (omega arith)) in
+      let all = take-all (length b - (1248 + 12 * n)) (drop (1248 + 12 * n) b) (omega (arith, length-drop (1248 + 12 * n) b)) in
+      let p₅ = e₅ ∙ ap zeros all ∙ ap (λ (m : ℕ). zeros (drop (1248 + 12 * m) b)) is in
+      regroup named (eqb owner party) coded flags filled
+      ∙ ap₂ _&&_ p₀ (ap₂ _&&_ p₁ (ap₂ _&&_ p₂ (ap₂ _&&_ (sym long) (ap₂ _&&_ (sym many) (ap₂ _&&_ p₄ p₅)))))

@@ -1,0 +1,28 @@
+use mathlib.Core.Path.{sym, ap₂, _∙_}
+use Prim.Native.Nat.{_+_, _*_}
+use Rattle.content.specs.Laws.{lengthIn-bytes}
+use borrow.Author.Needs.{needs}
+use Rattle.reading.proofs.length_in.Statement.{statement}
+use Rattle.reading.proofs.length_in.Tie as tie
+
+byte-requires : tie.Need-byte-requires
+byte-requires c κs = search needs
+
+byte-requires-2 : tie.Need-byte-requires-2
+byte-requires-2 c κs = search needs
+
+mul-result : tie.Need-mul-result
+mul-result c = search needs
+
+add-result : tie.Need-add-result
+add-result c = search needs
+
+cast-result : tie.Need-cast-result
+cast-result c = search needs
+
+returns : tie.Need-returns
+returns c = (ap₂ (λ x y. x + 256 * y) (c .before .byte .ensures .0) (c .byte2 .ensures .0) ∙ sym (lengthIn-bytes (c .before .before .before .args .b .now)), search needs)
+
+pub length-in-spec : {M : Type 1} → statement M
+length-in-spec =
+    tie.close (tie.spec byte-requires byte-requires-2 mul-result add-result cast-result returns)

@@ -1,0 +1,157 @@
+// A set read from its plain bytes, and whether these are what a deal writes (01, "Dealing a set").
+ghost use mathlib.Core.Path.{_≡_};
+ghost use Prim.Native.Nat.{_*_, _<_, _≤_};
+ghost use lib.ListN.{length, getD};
+ghost use Rattle.words.specs.Bytes.{wordsAt};
+ghost use Rattle.content.specs.Content.{size, fill, lengthIn, correctionIn, correctionsIn, setIn, flagsFit, zeros, contentFits};
+use content::Set;
+use node::Correction;
+use node::Key;
+
+fn byte(b: &[u8], at: usize) -> u32
+    requires { ⌜ at < length (now b) ⌝ }
+    ensures { λ r. ⌜ (r ≡ getD (now (b .entry)) at 0) × (r < 256) ⌝ }
+{
+    b[at] as u32
+}
+
+// L, from bytes 18 and 19.
+fn length_in(b: &[u8]) -> usize
+    requires { ⌜ 20 ≤ length (now b) ⌝ }
+    ensures { λ r. ⌜ (r ≡ lengthIn (now (b .entry))) × (r < 65536) ⌝ }
+{
+    (byte(b, 18) + 256 * byte(b, 19)) as usize
+}
+
+// The first n words of f, and zeros past them.
+fn vector(f: &[u8], n: usize) -> [u32; 512]
+    requires { ⌜ (n ≤ 512) × (4 * n ≤ length (now f)) ⌝ }
+    ensures { λ r. ⌜ r ≡ fill (wordsAt n (now (f .entry))) ⌝ }
+{
+    let mut w = [0u32; 512];
+    let mut i: usize = 0;
+    while i < n {
+        w[i] = slices::load(f, 4 * i);
+        i += 1;
+    }
+    w
+}
+
+fn seed_in(f: &[u8]) -> [u32; 8]
+    requires { ⌜ length (now f) ≡ 32 ⌝ }
+    ensures { λ r. ⌜ r ≡ wordsAt 8 (now (f .entry)) ⌝ }
+{
+    let mut b = [0u8; 32];
+    slices::copy(&mut b, 0, f);
+    chacha20::key_words(&b)
+}
+
+// Correction i of those that f holds.
+fn correction_in(f: &[u8], i: usize) -> Correction
+    requires { ⌜ (i < 32) × (length (now f) ≡ 32 * 37) ⌝ }
+    ensures { λ r. ⌜ r ≡ correctionIn (now (f .entry)) i ⌝ }
+{
+    let at = 37 * i;
+    let end = at + 32;
+    Correction {
+        seed: seed_in(&f[at..end]),
+        word: slices::load(f, end),
+        flags: byte(f, at + 36),
+    }
+}
+
+fn corrections_in(f: &[u8]) -> [Correction; 32]
+    requires { ⌜ length (now f) ≡ 32 * 37 ⌝ }
+    ensures { λ r. ⌜ r ≡ correctionsIn (now (f .entry)) 32 ⌝ }
+{
+    let none = content::no_correction();
+    let mut cs = [none; 32];
+    let mut i: usize = 0;
+    while i < 32 {
+        cs[i] = correction_in(f, i);
+        i += 1;
+    }
+    cs
+}
+
+// The set of this number that plain content holds.
+pub fn read_set(number: u64, b: &[u8]) -> Set
+    requires { ⌜ (lengthIn (now b) ≤ 512) × (size (lengthIn (now b)) ≤ length (now b)) ⌝ }
+    ensures { λ r. ⌜ r ≡ setIn number (now (b .entry)) ⌝ }
+{
+    let n = length_in(b);
+    let x_at = 20 + 4 * n;
+    let y_at = 20 + 8 * n;
+    let c_at = 20 + 12 * n;
+    let seed_at = c_at + 8;
+    let key_at = c_at + 40;
+    let last_at = c_at + 1224;
+    let key = Key {
+        corrections: corrections_in(&b[key_at..last_at]),
+        last: slices::load(b, last_at),
+    };
+    Set {
+        number,
+        code: byte(b, 17),
+        n,
+        mask: vector(&b[20..x_at], n),
+        x: vector(&b[x_at..y_at], n),
+        y: vector(&b[y_at..c_at], n),
+        c: slices::load(b, c_at),
+        r: slices::load(b, c_at + 4),
+        seed: seed_in(&b[seed_at..key_at]),
+        key,
+    }
+}
+
+// Whether every flag byte of the 32 corrections that f holds is in range.
+fn flags_fit(f: &[u8]) -> bool
+    requires { ⌜ length (now f) ≡ 32 * 37 ⌝ }
+    ensures { λ r. ⌜ r ≡ flagsFit (correctionsIn (now (f .entry)) 32) ⌝ }
+{
+    let mut all = true;
+    let mut i: usize = 0;
+    while i < 32 {
+        all = all & (f[37 * i + 36] < 4);
+        i += 1;
+    }
+    all
+}
+
+fn all_zero(b: &[u8]) -> bool
+    ensures { λ r. ⌜ r ≡ zeros (now (b .entry)) ⌝ }
+{
+    let mut all = true;
+    let mut i: usize = 0;
+    while i < b.len() {
+        all = all & (b[i] == 0);
+        i += 1;
+    }
+    all
+}
+
+// Whether a half of `count` blocks was opened to content of this name and party, all of it in
+// range. Only where L is in range and asks for as many blocks is anything past it looked at.
+pub fn content_fits(name: [u8; 16], party: u32, count: usize, b: &[u8]) -> bool
+    requires { ⌜ (length (now b) ≡ 484 * count) × (3 ≤ count) × (count ≤ 16) ⌝ }
+    ensures { λ r. ⌜ r ≡ contentFits name party count (now (b .entry)) ⌝ }
+{
+    let n = length_in(b);
+    if n < 1 {
+        return false;
+    }
+    if 512 < n {
+        return false;
+    }
+    if content::blocks_of(n) != count {
+        return false;
+    }
+    let key_at = 60 + 12 * n;
+    let last_at = 1244 + 12 * n;
+    let end = 1248 + 12 * n;
+    let named = slices::equal(&b[..16], &name);
+    let owned = byte(b, 16) == party;
+    let code = measure::is_code(byte(b, 17));
+    let flags = flags_fit(&b[key_at..last_at]);
+    named & owned & code & flags & all_zero(&b[end..])
+}
