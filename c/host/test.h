@@ -1,0 +1,61 @@
+/*
+ * The test of the host: it is the network between the parts and the operator, it kills parts, and
+ * it takes down all that it sees.
+ */
+#ifndef HOST_TEST_H
+#define HOST_TEST_H
+
+#include "files.h"
+#include "wire.h"
+
+#include <stdbool.h>
+#include <stdint.h>
+
+/* Ends the test as failed, with the place and the words. */
+void expect_at(const char *file, int line, bool holds, const char *format, ...)
+    __attribute__((format(printf, 4, 5)));
+#define EXPECT(holds, ...) expect_at(__FILE__, __LINE__, (holds), __VA_ARGS__)
+
+/* Numbers by chance, the same for the same seed. */
+void seed_chance(uint64_t seed);
+uint64_t chance(uint64_t below);
+
+/* children.c: the four processes, and the power. */
+
+void name_program(const char *path);
+void start_child(enum part part);
+void kill_child(enum part part); /* SIGKILL, and waits until it is dead */
+bool child_runs(enum part part);
+void stop_children(void);
+
+/* Runs the program to its end and answers its exit status. */
+int run_to_end(char *const arguments[]);
+int start_program(char *const arguments[]); /* answers the process */
+int end_of(int process);
+
+/* What of the dead part's last changes was not forced to disk is undone, by chance. */
+void cut_power(enum part part);
+
+/* The part's last number, as a power cut at this moment would leave it at the least. */
+uint64_t durable_last(enum part part);
+
+/* observe.c: what was seen, and whether it may be. */
+
+struct tally {
+    unsigned long messages, dealt, answered, open, shut, failed;
+};
+
+extern struct tally tally;
+
+/* The vectors that the boxes would mask if they began now: the camera's, the office's. */
+extern int32_t current[2][DOOR_LENGTH_MOST];
+
+void observe(enum part from, const struct message *message);
+
+/* For a part that was just killed, with all that it had sent observed, and again when it has
+   lost its power: its files must know of all that has left it. */
+void inspect_dead(enum part part);
+
+int64_t measure(uint32_t code, size_t length, const int32_t *x, const int32_t *y);
+
+#endif
