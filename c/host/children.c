@@ -13,6 +13,8 @@
 #include <sys/wait.h>
 #include <unistd.h>
 
+#define PATIENCE 5000 /* milliseconds for a process to end */
+
 static const char *program;
 static pid_t children[PARTS];
 
@@ -43,9 +45,14 @@ int start_program(char *const arguments[])
 /* The exit status, or 128 and the signal. */
 int end_of(int process)
 {
+    const int64_t deadline = milliseconds_now() + PATIENCE;
     int status;
-    while (waitpid(process, &status, 0) < 0)
-        EXPECT(errno == EINTR, "waitpid: %s", strerror(errno));
+    for (pid_t ended; (ended = waitpid(process, &status, WNOHANG)) != process;) {
+        EXPECT(ended == 0, "waitpid: %s", strerror(errno));
+        if (milliseconds_now() > deadline)
+            kill(process, SIGKILL);
+        usleep(200);
+    }
     return WIFEXITED(status) ? WEXITSTATUS(status) : 128 + WTERMSIG(status);
 }
 
@@ -161,7 +168,8 @@ uint64_t durable_last(enum part part)
     snprintf(path, sizeof path, "%s/last", PART[part].command);
     snprintf(torn, sizeof torn, "%s%s", path, MARK_TORN);
     snprintf(old, sizeof old, "%s%s", path, MARK_OLD);
-    EXPECT(access(torn, F_OK) != 0, "%s was put in place before its bytes were forced to disk", path);
+    EXPECT(access(torn, F_OK) != 0, "%s was put in place before its bytes were forced to disk",
+        path);
     FILE *file = fopen(old, "r");
     if (file == NULL)
         file = fopen(path, "r");

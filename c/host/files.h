@@ -18,7 +18,7 @@
 #define PATH_ROOM 128
 #define NAME_ROOM 64 /* more than any name has, so that one that is too long is seen as such */
 
-/* Makes a folder of its owner alone; that it is there is forced to disk by the caller's force_folder. */
+/* Makes a folder of its owner alone. It is there for good when the folder above was forced. */
 bool make_folder(const char *folder);
 bool force_folder(const char *folder);
 

@@ -6,7 +6,7 @@
 #include <stdlib.h>
 #include <string.h>
 
-#define NUMBERS 16384 /* more than one run deals */
+#define NUMBERS 4096 /* more than one run deals */
 
 struct tally tally;
 int32_t current[2][DOOR_LENGTH_MOST];
@@ -21,6 +21,7 @@ struct seen {
     int32_t used[2][DOOR_LENGTH_MOST];  /* the vector that each box had when it sent it masked */
     bool reported;                      /* by the lock */
     uint64_t half[2];                   /* a hash of each box's half */
+    uint64_t mask[2];                   /* a hash of the mask that each box has used */
 };
 
 static struct seen seen[NUMBERS];
@@ -53,33 +54,58 @@ static void left(enum part from, uint64_t number)
         most_sent[from] = number;
 }
 
-/* FNV-1a, of a whole file; 0 if its box has just removed it. */
-static uint64_t hash_of(const char *path)
+/* FNV-1a. */
+static uint64_t hash_of(const void *at, size_t size)
 {
+    const uint8_t *bytes = at;
     uint64_t hash = 14695981039346656037u;
+    for (size_t i = 0; i < size; i++)
+        hash = (hash ^ bytes[i]) * 1099511628211u;
+    return hash;
+}
+
+/* A half as it lies on a stick. */
+struct copy {
+    uint64_t number;
+    uint8_t bytes[DOOR_HALF_MOST];
+    size_t size;
+};
+
+static struct copy newest[2]; /* of each box, to be put back on the stick when it is spent */
+
+void put_half_back(enum part box, uint64_t number)
+{
+    const struct copy *c = &newest[box];
+    EXPECT(c->number == number && write_half(box, number, c->bytes, c->size),
+        "cannot put the half of set %" PRIu64 " back", number);
+}
+
+static bool read_copy(struct copy *c, const char *path)
+{
     FILE *file = fopen(path, "r");
     if (file == NULL)
-        return 0;
-    for (int byte; (byte = fgetc(file)) != EOF;)
-        hash = (hash ^ (uint64_t)byte) * 1099511628211u;
+        return false; /* its box has just removed it */
+    c->size = fread(c->bytes, 1, DOOR_HALF_MOST, file);
     fclose(file);
-    return hash;
+    return true;
 }
 
 /* A number under which two different halves were sealed is a nonce that was used twice. */
 static void take_down_half(enum part box, const char *file)
 {
     char path[3 * PATH_ROOM], end[PATH_ROOM] = "";
-    uint64_t number;
-    if (sscanf(file, "%" SCNu64 "%100s", &number, end) != 2 || strcmp(end, ".half") != 0)
+    static struct copy c;
+    if (sscanf(file, "%" SCNu64 "%100s", &c.number, end) != 2 || strcmp(end, ".half") != 0)
         return;
     snprintf(path, sizeof path, "stick/%s/%s", PART[box].command, file);
-    uint64_t hash = hash_of(path), *known = &set_of(number)->half[box];
-    if (hash == 0)
+    if (!read_copy(&c, path))
         return;
+    uint64_t hash = hash_of(c.bytes, c.size), *known = &set_of(c.number)->half[box];
     EXPECT(*known == 0 || *known == hash, "%s was dealt twice", path);
     *known = hash;
-    left(DEALER, number);
+    left(DEALER, c.number);
+    if (c.number > newest[box].number)
+        newest[box] = c;
 }
 
 static void take_down_halves(void)
@@ -110,6 +136,23 @@ static void observe_dealt(enum part from, const struct message *m)
     tally.dealt++;
 }
 
+/* The test knows the vector and sees it masked: no other set of this box may have had this mask.
+   Short masks may be alike by chance. */
+static void take_down_mask(enum part box, const struct message *m)
+{
+    uint32_t mask[16];
+    if (m->count < 16)
+        return;
+    for (size_t i = 0; i < 16; i++)
+        mask[i] = m->words[i] - (uint32_t)current[box][i];
+    uint64_t hash = hash_of(mask, sizeof mask);
+    for (uint64_t number = 1; number < NUMBERS; number++)
+        EXPECT(seen[number].mask[box] != hash,
+            "sets %" PRIu64 " and %" PRIu64 ": the %s used one mask twice", number, m->number,
+            PART[box].title);
+    seen[m->number].mask[box] = hash;
+}
+
 static void observe_box(enum part from, const struct message *m)
 {
     struct seen *s = set_of(m->number);
@@ -118,8 +161,10 @@ static void observe_box(enum part from, const struct message *m)
     EXPECT(!s->sent[from][m->kind], "set %" PRIu64 ": the %s sent a second %s", m->number,
         PART[from].title, kind_words(m->kind));
     s->sent[from][m->kind] = true;
-    if (m->kind == DOOR_MASKED_VECTOR)
+    if (m->kind == DOOR_MASKED_VECTOR) {
         memcpy(s->used[from], current[from], sizeof s->used[from]);
+        take_down_mask(from, m);
+    }
 }
 
 static void observe_verdict(enum part from, const struct message *m)

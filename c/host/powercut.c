@@ -62,8 +62,8 @@ static bool is_of_type(int file, mode_t type)
 /* Logs are no state: only files that the host has opened itself count. */
 ssize_t __wrap_write(int file, const void *bytes, size_t size)
 {
-    char path[ROOM];
     if (file > STDERR_FILENO && is_of_type(file, S_IFREG)) {
+        char path[ROOM];
         path_of(file, path);
         put_mark(path, MARK_TORN);
     }
@@ -91,7 +91,7 @@ static void settle_folder(const char *folder)
 
 int __wrap_fsync(int file)
 {
-    char path[ROOM], mark[ROOM];
+    char path[ROOM];
     int result = __real_fsync(file);
     if (result != 0)
         return result;
@@ -99,6 +99,7 @@ int __wrap_fsync(int file)
     if (is_of_type(file, S_IFDIR)) {
         settle_folder(path);
     } else {
+        char mark[ROOM];
         marked(path, MARK_TORN, mark);
         __real_unlink(mark);
     }

@@ -2,6 +2,7 @@
 
 #include <inttypes.h>
 #include <stdio.h>
+#include <string.h>
 
 bool start_part(enum part self, struct door_name *name, uint64_t *last)
 {
@@ -38,6 +39,7 @@ int serve(enum part self, const char *via, const struct served *served)
             answer_here(&link, *served->last);
         else
             served->handle(served->state, &link, &message);
+        explicit_bzero(&message, sizeof message);
     }
     close_link(&link);
     say("stopped; the last number is %" PRIu64, *served->last);

@@ -23,8 +23,8 @@
 #include <time.h>
 #include <unistd.h>
 
-#define KILLS 400    /* at the least */
-#define PATIENCE_NS 10000000000 /* then something that must come has not come */
+#define KILLS 400              /* at the least */
+#define PATIENCE_NS 5000000000 /* then something that must come has not come */
 
 void expect_at(const char *file, int line, bool holds, const char *format, ...)
 {
@@ -320,10 +320,15 @@ static void carry_out(struct plan *p)
         }
 }
 
-/* A box that had opened the set before it was killed must not put this vector under its mask. */
+/* A box that had opened the set before it was killed must not put this vector under its mask, not
+   even if its half is on the stick again. */
 static void begin_again(enum part box)
 {
     draw_vector(box);
+    if (chance(2) == 0) {
+        hear_from(box); /* it has looked through the stick by now */
+        put_half_back(box, check.number);
+    }
     if (box == OFFICE)
         write_vector("office/vector", current[OFFICE]);
     send_begin(box);
@@ -430,7 +435,8 @@ static void operators_check(void)
     int process = start_program(arguments);
     expect_answer();
     operator_runs = false;
-    EXPECT(end_of(process) == (open ? EXIT_OPEN : EXIT_SHUT), "the operator's exit status is wrong");
+    EXPECT(end_of(process) == (open ? EXIT_OPEN : EXIT_SHUT),
+        "the operator's exit status is wrong");
     settle();
 }
 

@@ -28,7 +28,7 @@ void kill_child(enum part part); /* SIGKILL, and waits until it is dead */
 bool child_runs(enum part part);
 void stop_children(void);
 
-/* Runs the program to its end and answers its exit status. */
+/* Runs the program to its end and answers its exit status; one that does not end is killed. */
 int run_to_end(char *const arguments[]);
 int start_program(char *const arguments[]); /* answers the process */
 int end_of(int process);
@@ -55,6 +55,10 @@ void observe(enum part from, const struct message *message);
 /* For a part that was just killed, with all that it had sent observed, and again when it has
    lost its power: its files must know of all that has left it. */
 void inspect_dead(enum part part);
+
+/* Puts the box's half of the set that was dealt last back on the stick, as someone may who has
+   kept a copy. */
+void put_half_back(enum part box, uint64_t number);
 
 int64_t measure(uint32_t code, size_t length, const int32_t *x, const int32_t *y);
 

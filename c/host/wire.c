@@ -148,9 +148,10 @@ void close_link(struct link *link)
 bool send_bytes(const struct link *link, const char *socket, const uint8_t *bytes, size_t size)
 {
     const struct sockaddr_un address = address_of(socket);
+    const struct sockaddr *to = (const struct sockaddr *)&address;
     ssize_t sent;
     do
-        sent = sendto(link->file, bytes, size, 0, (const struct sockaddr *)&address, sizeof address);
+        sent = sendto(link->file, bytes, size, 0, to, sizeof address);
     while (sent < 0 && errno == EINTR);
     return sent == (ssize_t)size;
 }
@@ -252,6 +253,7 @@ static bool read_message(const struct link *link, struct message *message, enum 
         return false;
     }
     const char *why = decode(bytes, (size_t)size, message);
+    explicit_bzero(bytes, sizeof bytes); /* a begin has the camera's vector */
     if (why != NULL)
         say("a datagram of %zd bytes is %s: dropped", size, why);
     else if (from != NULL)
