@@ -93,9 +93,10 @@ void stop_children(void)
             waitpid(children[part], NULL, 0);
 }
 
+/* A living dealer may force the same stick at this moment: then there is nothing to undo. */
 static void undo_rename(const char *path, const char *marked)
 {
-    EXPECT(rename(marked, path) == 0, "undo of %s: %s", path, strerror(errno));
+    EXPECT(rename(marked, path) == 0 || errno == ENOENT, "undo of %s: %s", path, strerror(errno));
 }
 
 /* Cuts the file at a place by chance, as where only a part of it had come to the disk. */

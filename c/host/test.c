@@ -540,7 +540,7 @@ static void summary(void)
         begun, tally.answered, tally.open, tally.shut, killed(), kills[DEALER], kills[CAMERA],
         kills[OFFICE], kills[LOCK], killed() - kills_at[REPORTED]);
     for (enum stage stage = ASKED; stage < REPORTED; stage++)
-        printf("%s %lu %s", stage == ASKED ? " (" : ",", kills_at[stage], STAGE[stage]);
+        printf("%s%lu %s", stage == ASKED ? " (" : ", ", kills_at[stage], STAGE[stage]);
     printf("); asked again %lu times; %lu sets dealt, %lu messages seen, no number used twice\n",
         asked_again, tally.dealt, tally.messages);
 }
