@@ -85,11 +85,18 @@ bool child_runs(enum part part)
     return children[part] > 0;
 }
 
-/* At the test's end, also a failed one: nothing is expected here any more. */
-void stop_children(void)
+void stop_child(enum part part)
+{
+    pid_t process = children[part];
+    EXPECT(child_runs(part) && kill(process, SIGTERM) == 0, "no %s to stop", PART[part].title);
+    children[part] = 0;
+    EXPECT(end_of(process) == 0, "the %s does not stop well", PART[part].title);
+}
+
+void kill_what_is_left(void)
 {
     for (enum part part = CAMERA; part < PARTS; part++)
-        if (child_runs(part) && kill(children[part], SIGTERM) == 0)
+        if (child_runs(part) && kill(children[part], SIGKILL) == 0)
             waitpid(children[part], NULL, 0);
 }
 

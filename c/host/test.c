@@ -76,6 +76,10 @@ static struct {
     enum stage stage;
     unsigned messages;
     bool failed;
+    bool told[2];          /* to begin */
+    enum part told_later;  /* the box that is told when the other's masked vector has come */
+    enum part word_first;  /* the box that gets the other's word before the masked vector */
+    struct message vector; /* which is held back until then */
 } check;
 
 static bool here[PARTS];
@@ -96,6 +100,10 @@ static bool forward(enum part to, const struct message *m)
 static void carry(enum part to, const struct message *m)
 {
     busy = true;
+    if (to == check.word_first && m->kind == DOOR_MASKED_VECTOR) {
+        check.vector = *m;
+        return;
+    }
     if (disorder && chance(32) == 0 && late_to == PARTS) {
         late = *m;
         late_to = to;
@@ -104,6 +112,8 @@ static void carry(enum part to, const struct message *m)
     forward(to, m);
     if (disorder && chance(16) == 0)
         forward(to, m);
+    if (to == check.word_first && m->kind == DOOR_WORD)
+        forward(to, &check.vector);
 }
 
 static void carry_late(void)
@@ -335,13 +345,13 @@ static void begin_again(enum part box)
 }
 
 /* Someone impatient asks again for what the killed part had to do. */
-static void ask_again(const struct plan *p, bool told)
+static void ask_again(const struct plan *p)
 {
     asked_again++;
     if (is_victim(p, DEALER) && check.number == 0)
         send_deal();
-    for (enum part box = CAMERA; box <= OFFICE && told; box++)
-        if (is_victim(p, box))
+    for (enum part box = CAMERA; box <= OFFICE; box++)
+        if (is_victim(p, box) && check.told[box])
             begin_again(box);
     if (is_victim(p, LOCK) && check.stage == ANSWERS) {
         send_surely(LOCK, &answers[CAMERA]);
@@ -354,15 +364,16 @@ static bool is_due(const struct plan *p)
     return p->due && (now_ns() >= p->at_ns || check.messages >= p->at_message);
 }
 
-/* Both boxes are told to begin as soon as the set is dealt. */
-static void begin_when_dealt(bool *told)
+/* The boxes are told to begin as soon as the set is dealt, or one of them somewhat later. */
+static void begin_when_due(void)
 {
-    if (*told || check.number == 0)
-        return;
-    *told = true;
-    send_begin(CAMERA);
-    send_begin(OFFICE);
-    carry_late();
+    for (enum part box = CAMERA; box <= OFFICE; box++)
+        if (!check.told[box] && check.number != 0
+            && (box != check.told_later || check.stage >= MASKED)) {
+            check.told[box] = true;
+            send_begin(box);
+            carry_late();
+        }
 }
 
 static bool is_over(void)
@@ -370,9 +381,17 @@ static bool is_over(void)
     return check.stage == REPORTED || check.failed;
 }
 
+static enum part some_box_or_none(void)
+{
+    uint64_t drawn_box = chance(3);
+    return drawn_box == 2 ? PARTS : (enum part)drawn_box;
+}
+
 static void start_check(void)
 {
     memset(&check, 0, sizeof check);
+    check.told_later = some_box_or_none();
+    check.word_first = PARTS;
     draw_check();
     begun++;
 }
@@ -380,7 +399,6 @@ static void start_check(void)
 /* One check in which a part is killed. It may be answered or not; the next must find all well. */
 static void disturbed_check(void)
 {
-    bool told = false;
     start_check();
     struct plan p = draw_plan();
     disorder = true;
@@ -390,25 +408,26 @@ static void disturbed_check(void)
         pump_until(p.at_ns < give_up ? p.at_ns : give_up);
         if (is_due(&p))
             break;
-        begin_when_dealt(&told);
+        begin_when_due();
     }
     carry_out(&p);
+    check.told_later = PARTS;
     if (chance(2) == 0)
-        ask_again(&p, told);
+        ask_again(&p);
     settle();
-    begin_when_dealt(&told);
+    begin_when_due();
     settle();
     disorder = false;
 }
 
 static void expect_answer(void)
 {
-    bool told = operator_runs;
     const int64_t deadline = now_ns() + PATIENCE_NS;
     while (!is_over()) {
         EXPECT(pump_until(deadline) || now_ns() < deadline, "a check stopped %s",
             STAGE[check.stage]);
-        begin_when_dealt(&told);
+        if (!operator_runs)
+            begin_when_due();
     }
     EXPECT(!check.failed, "set %" PRIu64 ": an undisturbed check came to nothing", check.number);
 }
@@ -416,6 +435,7 @@ static void expect_answer(void)
 static void undisturbed_check(void)
 {
     start_check();
+    check.word_first = some_box_or_none();
     const int64_t start = now_ns();
     send_deal();
     expect_answer();
@@ -571,7 +591,7 @@ int main(int count, char **arguments)
     umask(077);
     speak_as(WATCH);
     name_program(arguments[1]);
-    atexit(stop_children);
+    atexit(kill_what_is_left);
     set_up_door(arguments[2]);
     for (int i = 0; i < 10; i++)
         undisturbed_check();
@@ -585,6 +605,8 @@ int main(int count, char **arguments)
         undisturbed_check();
     for (int i = 0; i < 4; i++)
         operators_check();
+    for (enum part part = CAMERA; part <= LOCK; part++)
+        stop_child(part);
     expect_enough();
     summary();
 }

@@ -25,8 +25,9 @@ uint64_t chance(uint64_t below);
 void name_program(const char *path);
 void start_child(enum part part);
 void kill_child(enum part part); /* SIGKILL, and waits until it is dead */
+void stop_child(enum part part); /* SIGTERM, upon which it must end with status 0 */
 bool child_runs(enum part part);
-void stop_children(void);
+void kill_what_is_left(void); /* at the end of a failed test */
 
 /* Runs the program to its end and answers its exit status; one that does not end is killed. */
 int run_to_end(char *const arguments[]);
