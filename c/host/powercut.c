@@ -8,13 +8,13 @@
 #include <stdlib.h>
 #include <string.h>
 #include <sys/stat.h>
+#include <time.h>
 #include <unistd.h>
 
 #define ROOM 4096
 
 /* The linker's names (--wrap) for the functions of the C library and for those in their place. */
 ssize_t __real_write(int file, const void *bytes, size_t size);
-int __real_fsync(int file);
 int __real_rename(const char *from, const char *to);
 int __real_unlink(const char *path);
 ssize_t __wrap_write(int file, const void *bytes, size_t size);
@@ -89,12 +89,20 @@ static void settle_folder(const char *folder)
     closedir(entries);
 }
 
+/* Up to a millisecond, by chance, in which nothing is forced yet. */
+static void wait_as_for_a_disk(void)
+{
+    struct timespec now;
+    clock_gettime(CLOCK_MONOTONIC, &now);
+    usleep((useconds_t)(now.tv_nsec % 1000));
+}
+
+/* Nothing more is forced than the marks say: what the test sees does not depend on it, and its
+   time and the machine's disk do. */
 int __wrap_fsync(int file)
 {
     char path[ROOM];
-    int result = __real_fsync(file);
-    if (result != 0)
-        return result;
+    wait_as_for_a_disk();
     path_of(file, path);
     if (is_of_type(file, S_IFDIR)) {
         settle_folder(path);

@@ -1,8 +1,8 @@
 /*
  * A disk on which nothing stays that was not forced there. The host under test is linked with
- * powercut.c in place of write, fsync, rename and unlink; these do what they always do, and leave
- * a mark beside each file whose last change a power cut could still undo. The test kills a part
- * and then undoes what the marks allow, by chance, as a power cut would.
+ * powercut.c in place of write, fsync, rename and unlink, which then leave a mark beside each file
+ * whose last change a power cut could still undo. The test kills a part and then undoes what the
+ * marks allow, by chance, as a power cut would.
  *
  * A process that is only killed loses nothing that it has written: without this, a host that
  * never calls fsync would pass.

@@ -28,10 +28,8 @@
 #define KILLS_MOST 1500        /* if these do not bring it about, the test fails */
 #define PATIENCE_NS 5000000000 /* then something that must come has not come */
 
-void expect_at(const char *file, int line, bool holds, const char *format, ...)
+_Noreturn void fail_at(const char *file, int line, const char *format, ...)
 {
-    if (holds)
-        return;
     va_list arguments;
     va_start(arguments, format);
     fprintf(stderr, "%s:%d: ", file, line);
@@ -589,6 +587,7 @@ static void set_up_door(const char *folder)
     EXPECT(open_link(&relay, WATCH, NULL), "no relay");
     for (enum part part = CAMERA; part <= LOCK; part++)
         start_child(part);
+    settle();
 }
 
 int main(int count, char **arguments)

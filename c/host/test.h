@@ -12,9 +12,13 @@
 #include <stdint.h>
 
 /* Ends the test as failed, with the place and the words. */
-void expect_at(const char *file, int line, bool holds, const char *format, ...)
-    __attribute__((format(printf, 4, 5)));
-#define EXPECT(holds, ...) expect_at(__FILE__, __LINE__, (holds), __VA_ARGS__)
+_Noreturn void fail_at(const char *file, int line, const char *format, ...)
+    __attribute__((format(printf, 3, 4)));
+#define EXPECT(holds, ...) \
+    do { \
+        if (!(holds)) \
+            fail_at(__FILE__, __LINE__, __VA_ARGS__); \
+    } while (0)
 
 /* Numbers by chance, the same for the same seed. */
 void seed_chance(uint64_t seed);
