@@ -117,7 +117,7 @@ static bool mask(
         door_mask(box->party, vector->words, vector->length, masked, DOOR_LENGTH_MOST);
     *why = adopt(box, &a);
     if (*why != DOOR_ACCEPTED) {
-        say_refused("the mask call", number, *why, "the set is dropped");
+        say_refused("the mask call", number, *why, "nothing has left the box");
         drop_open_set(box, "since it cannot be used for this vector");
         return false;
     }

@@ -76,6 +76,7 @@ static struct {
     enum stage stage;
     unsigned messages;
     bool failed;
+    uint32_t why;          /* it failed */
     bool told[2];          /* to begin */
     enum part told_later;  /* the box that is told when the other's masked vector has come */
     enum part word_first;  /* the box that gets the other's word before the masked vector */
@@ -130,8 +131,10 @@ static void follow(const struct message *m)
         [HOST_DEALT] = DEALT, [HOST_VERDICT] = REPORTED, [HOST_FAILED] = ASKED};
     if (m->kind == HOST_DEALT)
         check.number = m->number;
-    if (m->kind == HOST_FAILED)
+    if (m->kind == HOST_FAILED) {
         check.failed = true;
+        check.why = m->words[0];
+    }
     if (m->number == check.number && stages[m->kind] > check.stage)
         check.stage = stages[m->kind];
     check.messages++;
@@ -420,12 +423,16 @@ static void disturbed_check(void)
     disorder = false;
 }
 
+static void pump_before(int64_t deadline)
+{
+    EXPECT(pump_until(deadline) || now_ns() < deadline, "a check stopped %s", STAGE[check.stage]);
+}
+
 static void expect_answer(void)
 {
     const int64_t deadline = now_ns() + PATIENCE_NS;
     while (!is_over()) {
-        EXPECT(pump_until(deadline) || now_ns() < deadline, "a check stopped %s",
-            STAGE[check.stage]);
+        pump_before(deadline);
         if (!operator_runs)
             begin_when_due();
     }
@@ -500,6 +507,35 @@ static void damaged_numbers(enum part part)
     hear_from(part);
 }
 
+/* A half that was cut to so many bytes, or has one bit changed at that place. */
+static void refuses_half(enum part box, size_t cut_to, size_t changed, uint32_t why)
+{
+    const int64_t deadline = now_ns() + PATIENCE_NS;
+    uint8_t half[DOOR_HALF_MOST + 1];
+    size_t size;
+    start_check();
+    send_deal();
+    while (check.number == 0)
+        pump_before(deadline);
+    EXPECT(read_half(box, check.number, half, &size) && changed < size, "no half");
+    half[changed] ^= 1;
+    EXPECT(write_half(box, check.number, half, cut_to < size ? cut_to : size), "no half");
+    send_begin(box);
+    while (!check.failed)
+        pump_before(deadline);
+    EXPECT(check.why == why, "a damaged half is refused by %" PRIu32, check.why);
+    put_half_back(box, check.number); /* else it would look like one that was dealt twice */
+    settle();
+}
+
+static void damaged_halves(enum part box)
+{
+    refuses_half(box, DOOR_HALF_MOST, 12 + chance(500), DOOR_BAD_BLOCK);
+    refuses_half(box, DOOR_HALF_MOST, 8, DOOR_BAD_BLOCK); /* the block's place */
+    refuses_half(box, 3 * DOOR_BLOCK - 1, 0, DOOR_WRONG_LENGTH);
+    refuses_half(box, 0, 0, DOOR_WRONG_LENGTH);
+}
+
 static void second_process(enum part part)
 {
     char *const arguments[] = {"door-host", (char *)PART[part].command, ".", NULL};
@@ -529,6 +565,8 @@ static void refusals(void)
         second_process(part);
         rubbish(part);
     }
+    damaged_halves(CAMERA);
+    damaged_halves(OFFICE);
     for (uint32_t why = DOOR_BAD_NAME; why <= DOOR_BAD_SUM; why++)
         EXPECT(strcmp(refusal_words(why), refusal_words(why - 1)) != 0, "no words for %" PRIu32,
             why);
