@@ -12,7 +12,6 @@
 #include <errno.h>
 #include <fcntl.h>
 #include <inttypes.h>
-#include <poll.h>
 #include <stdarg.h>
 #include <stdio.h>
 #include <stdlib.h>
@@ -20,13 +19,11 @@
 #include <sys/prctl.h>
 #include <sys/random.h>
 #include <sys/stat.h>
-#include <time.h>
 #include <unistd.h>
 
 #define KILLS 350              /* at the least, in the middle of a check */
 #define KILLS_AT_STAGE 20      /* at the least, at each stage of a check */
 #define KILLS_MOST 1500        /* if these do not bring it about, the test fails */
-#define PATIENCE_NS 5000000000 /* then something that must come has not come */
 
 _Noreturn void fail_at(const char *file, int line, const char *format, ...)
 {
@@ -52,168 +49,6 @@ uint64_t chance(uint64_t below)
     drawn = drawn * 6364136223846793005u + 1442695040888963407u;
     return (drawn >> 33) % below;
 }
-
-static int64_t now_ns(void)
-{
-    struct timespec now;
-    clock_gettime(CLOCK_MONOTONIC, &now);
-    return (int64_t)now.tv_sec * 1000000000 + now.tv_nsec;
-}
-
-/* The network. */
-
-static struct link relay;
-
-/* How far the check that is under way has come. */
-enum stage { ASKED, DEALT, MASKED, WORDS, ANSWERS, REPORTED, STAGES };
-
-static const char *const STAGE[STAGES] = {
-    "before the deal", "after the deal", "after a masked vector", "after a word",
-    "after an answer", "after the report"};
-
-static struct {
-    uint64_t number; /* 0 before the deal */
-    enum stage stage;
-    unsigned messages;
-    bool failed;
-    uint32_t why;          /* it failed */
-    bool told[2];          /* to begin */
-    enum part told_later;  /* the box that is told when the other's masked vector has come */
-    enum part word_first;  /* the box that gets the other's word before the masked vector */
-    struct message vector; /* which is held back until then */
-} check;
-
-static bool here[PARTS];
-static bool busy;          /* a message between parts was seen in this round */
-static bool disorder;      /* the network doubles messages and delays them */
-static bool operator_runs; /* the program's own operator, and not this test, asks for the check */
-static struct message late;
-static enum part late_to = PARTS; /* to whom the delayed message goes, if there is one */
-static struct message answers[2]; /* the last of each box, to be sent to the lock again */
-
-static bool forward(enum part to, const struct message *m)
-{
-    uint8_t bytes[DATAGRAM_MOST];
-    return send_bytes(&relay, PART[to].socket, bytes, encode(m, bytes));
-}
-
-/* A message to a dead part is lost; that a part may be killed is what the test is about. */
-static void carry(enum part to, const struct message *m)
-{
-    busy = true;
-    if (to == check.word_first && m->kind == DOOR_MASKED_VECTOR) {
-        check.vector = *m;
-        return;
-    }
-    if (disorder && chance(32) == 0 && late_to == PARTS) {
-        late = *m;
-        late_to = to;
-        return;
-    }
-    forward(to, m);
-    if (disorder && chance(16) == 0)
-        forward(to, m);
-    if (to == check.word_first && m->kind == DOOR_WORD)
-        forward(to, &check.vector);
-}
-
-static void carry_late(void)
-{
-    if (late_to != PARTS)
-        forward(late_to, &late);
-    late_to = PARTS;
-}
-
-static void follow(const struct message *m)
-{
-    static const enum stage stages[] = {
-        [DOOR_MASKED_VECTOR] = MASKED, [DOOR_WORD] = WORDS, [DOOR_ANSWER] = ANSWERS,
-        [HOST_DEALT] = DEALT, [HOST_VERDICT] = REPORTED, [HOST_FAILED] = ASKED};
-    if (m->kind == HOST_DEALT)
-        check.number = m->number;
-    if (m->kind == HOST_FAILED) {
-        check.failed = true;
-        check.why = m->words[0];
-    }
-    if (m->number == check.number && stages[m->kind] > check.stage)
-        check.stage = stages[m->kind];
-    check.messages++;
-}
-
-static void handle(enum part from, const struct message *m)
-{
-    EXPECT(from <= LOCK, "a message came from no part's socket");
-    if (m->kind == HOST_HERE) {
-        here[from] = true;
-        EXPECT(m->number <= durable_last(from), "the %s has last number %" PRIu64 " in mind alone",
-            PART[from].title, m->number);
-    }
-    observe(from, m);
-    if (m->kind == HOST_HERE)
-        return;
-    follow(m);
-    if (m->kind == DOOR_ANSWER)
-        answers[from] = *m;
-    enum part to = destination(from, m->kind);
-    if (to != OPERATOR)
-        carry(to, m);
-    else if (operator_runs)
-        forward(OPERATOR, m);
-}
-
-/* Handles one message, if one comes before that time. */
-static bool pump_until(int64_t time)
-{
-    struct pollfd readable = {.fd = relay.file, .events = POLLIN};
-    int64_t left = time - now_ns();
-    const struct timespec span = {
-        .tv_sec = left > 0 ? left / 1000000000 : 0, .tv_nsec = left > 0 ? left % 1000000000 : 0};
-    struct message message;
-    enum part from;
-    if (ppoll(&readable, 1, &span, NULL) <= 0 || receive(&relay, 0, &message, &from) != RECEIVED)
-        return false;
-    handle(from, &message);
-    return true;
-}
-
-static void pump_what_is_there(void)
-{
-    while (pump_until(0))
-        ;
-}
-
-/* A part that has just been started may not have its socket yet. */
-static void send_surely(enum part to, const struct message *m)
-{
-    const int64_t deadline = now_ns() + PATIENCE_NS;
-    while (!forward(to, m)) {
-        EXPECT(now_ns() < deadline && child_runs(to), "the %s does not come up", PART[to].title);
-        pump_until(now_ns() + 1000000);
-    }
-}
-
-static void hear_from(enum part part)
-{
-    const struct message ask = {.kind = HOST_ASK, .sender = OPERATOR};
-    const int64_t deadline = now_ns() + PATIENCE_NS;
-    here[part] = false;
-    send_surely(part, &ask);
-    while (!here[part])
-        EXPECT(pump_until(deadline) || now_ns() < deadline, "the %s is silent", PART[part].title);
-}
-
-/* Until nothing is under way: each part has handled all that was sent to it before it was asked,
-   and a round in which nothing else was seen is the last. */
-static void settle(void)
-{
-    do {
-        busy = false;
-        for (enum part part = CAMERA; part <= LOCK; part++)
-            hear_from(part);
-    } while (busy);
-}
-
-/* Checks. */
 
 static struct settings settings;
 
@@ -423,11 +258,6 @@ static void disturbed_check(void)
     disorder = false;
 }
 
-static void pump_before(int64_t deadline)
-{
-    EXPECT(pump_until(deadline) || now_ns() < deadline, "a check stopped %s", STAGE[check.stage]);
-}
-
 static void expect_answer(void)
 {
     const int64_t deadline = now_ns() + PATIENCE_NS;
@@ -552,8 +382,7 @@ static void rubbish(enum part part)
             bytes[k] = (uint8_t)chance(256);
         if (size > 0 && bytes[0] >= HOST_DEAL)
             bytes[0] = (uint8_t)chance(3); /* nothing that starts a deal or a set */
-        EXPECT(send_bytes(&relay, PART[part].socket, bytes, size), "cannot send to the %s",
-            PART[part].title);
+        throw_at(part, bytes, size);
         hear_from(part);
     }
 }
@@ -622,7 +451,7 @@ static void set_up_door(const char *folder)
     EXPECT(run_to_end(arguments) == 0, "setup failed");
     EXPECT(run_to_end(arguments) == EXIT_TROUBLE, "a second setup in one folder is taken");
     EXPECT(chdir("door") == 0, "cannot go to %s/door", folder);
-    EXPECT(open_link(&relay, WATCH, NULL), "no relay");
+    open_network();
     for (enum part part = CAMERA; part <= LOCK; part++)
         start_child(part);
     settle();

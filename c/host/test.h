@@ -44,6 +44,49 @@ void cut_power(enum part part);
 /* The part's last number, as a power cut at this moment would leave it at the least. */
 uint64_t durable_last(enum part part);
 
+/* network.c: between the parts, and in the operator's place. */
+
+#define PATIENCE_NS 5000000000 /* then something that must come has not come */
+
+/* How far a check has come. */
+enum stage { ASKED, DEALT, MASKED, WORDS, ANSWERS, REPORTED, STAGES };
+
+extern const char *const STAGE[STAGES];
+
+/* The check that is under way. */
+struct check {
+    uint64_t number; /* 0 before the deal */
+    enum stage stage;
+    unsigned messages;
+    bool failed;
+    uint32_t why;          /* it failed */
+    bool told[2];          /* to begin */
+    enum part told_later;  /* the box that is told when the other's masked vector has come */
+    enum part word_first;  /* the box that gets the other's word before the masked vector */
+    struct message vector; /* which is held back until then */
+};
+
+extern struct check check;
+extern bool disorder;             /* the network doubles messages and delays them */
+extern bool operator_runs;        /* the program's own operator asks for the check */
+extern struct message answers[2]; /* the last of each box, to be sent to the lock again */
+
+int64_t now_ns(void);
+void open_network(void);
+void carry_late(void); /* hands on the message that was delayed, if there is one */
+
+/* Handles one message, if one comes before that time. */
+bool pump_until(int64_t time);
+void pump_before(int64_t deadline); /* which must not pass */
+void pump_what_is_there(void);
+
+void throw_at(enum part part, const uint8_t *bytes, size_t size);
+void send_surely(enum part to, const struct message *m);
+void hear_from(enum part part);
+
+/* Until nothing is under way. */
+void settle(void);
+
 /* observe.c: what was seen, and whether it may be. */
 
 struct tally {
