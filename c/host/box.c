@@ -1,0 +1,223 @@
+/*
+ * The camera box and the office box.
+ *
+ * What a power cut takes away is the open set, and it is gone for good: a box starts again from
+ * its key, its name and its last number, which was on the disk before anything of that set had
+ * left. So no set is opened twice, and no second vector comes under its mask. What is lost is one
+ * check, and the operator begins another.
+ */
+#include "host.h"
+
+#include <inttypes.h>
+#include <string.h>
+
+struct box {
+    struct door_party party;
+    /* Messages of the other box, which may be faster, that wait for this one to get there. */
+    struct message early[2];
+    bool waits[2];
+};
+
+static enum part self_of(const struct box *box)
+{
+    return box->party.party == CAMERA ? CAMERA : OFFICE;
+}
+
+static enum part other_of(const struct box *box)
+{
+    return box->party.party == CAMERA ? OFFICE : CAMERA;
+}
+
+/* The state goes on and the answer's copy of it goes away; the refusal is handed back. */
+static uint32_t adopt(struct box *box, struct door_party_answer *a)
+{
+    uint32_t why = a->why;
+    box->party = a->party;
+    explicit_bzero(a, sizeof *a);
+    return why;
+}
+
+static bool start_box(struct box *box, enum part self)
+{
+    struct door_name name;
+    uint8_t key[DOOR_KEY];
+    uint64_t last;
+    if (!start_part(self, &name, &last) || !read_key(PART[self].command, "key", key))
+        return false;
+    struct door_party_answer a =
+        door_start_party(name.bytes, name.size, self, key, DOOR_KEY, last);
+    uint32_t why = adopt(box, &a);
+    explicit_bzero(key, sizeof key);
+    if (why != DOOR_ACCEPTED) {
+        say_refused("the start", last, why, "the box does not start");
+        return false;
+    }
+    remove_spent_halves(self, last);
+    return true;
+}
+
+static void send_words(const struct box *box, const struct link *link, enum part to,
+    uint32_t kind, uint64_t number, const uint32_t *words, size_t count)
+{
+    struct message message = {
+        .kind = kind, .sender = box->party.party, .number = number, .count = count};
+    memcpy(message.name, box->party.name, DOOR_NAME);
+    memcpy(message.words, words, sizeof *words * count);
+    send_to(link, to, &message);
+}
+
+static void drop_open_set(struct box *box, const char *because)
+{
+    if (box->party.phase == 0)
+        return;
+    uint64_t number = box->party.set.number;
+    struct door_party_answer a = door_drop(box->party);
+    uint32_t why = adopt(box, &a);
+    if (why == DOOR_ACCEPTED)
+        say("set %" PRIu64 ": dropped, %s; its number stays spent", number, because);
+    else
+        say_refused("the drop", number, why, "the set stays as it is");
+}
+
+/* The office box has the enrolled vector in a file; the camera box gets its own with the begin, in
+   place of the camera that a real one would have. */
+static bool own_vector(const struct box *box, const struct message *begin, struct vector *vector)
+{
+    if (self_of(box) == OFFICE)
+        return read_vector("office/vector", vector);
+    memcpy(vector->words, begin->words, sizeof begin->words);
+    vector->length = begin->count;
+    return true;
+}
+
+/* Opens the half and spends its number, in memory and on disk. Only when this has answered true
+   may anything that the set masks leave the box. */
+static bool load(struct box *box, uint64_t number, const uint8_t *half, size_t size, uint32_t *why)
+{
+    struct door_party_answer a = door_load(box->party, half, size);
+    *why = adopt(box, &a);
+    if (*why != DOOR_ACCEPTED) {
+        say_refused("the load", number, *why, "the half is not used");
+        return false;
+    }
+    if (!write_last(PART[self_of(box)].command, box->party.last)) {
+        drop_open_set(box, "since its number could not be forced to disk and nothing has left yet");
+        return false;
+    }
+    remove_spent_halves(box->party.party, box->party.last);
+    return true;
+}
+
+static bool mask(
+    struct box *box, const struct link *link, const struct vector *vector, uint32_t *why)
+{
+    uint32_t masked[DOOR_LENGTH_MOST];
+    uint64_t number = box->party.set.number;
+    struct door_party_answer a =
+        door_mask(box->party, vector->words, vector->length, masked, DOOR_LENGTH_MOST);
+    *why = adopt(box, &a);
+    if (*why != DOOR_ACCEPTED) {
+        say_refused("the mask call", number, *why, "nothing has left the box");
+        drop_open_set(box, "since it cannot be used for this vector");
+        return false;
+    }
+    send_words(
+        box, link, other_of(box), DOOR_MASKED_VECTOR, number, masked, box->party.set.n);
+    return true;
+}
+
+/* The two calls that take a message of the other box, told apart by the kind and never by the
+   length: at L = 1 both are one word. Every other kind goes to door_take, which refuses it. */
+static void hand_in(struct box *box, const struct link *link, const struct message *m)
+{
+    bool finishes = m->kind == DOOR_WORD;
+    uint64_t number = box->party.set.number;
+    struct door_party_answer a = finishes
+        ? door_finish(box->party, m->kind, m->name, DOOR_NAME, m->sender, m->number, m->words[0])
+        : door_take(
+              box->party, m->kind, m->name, DOOR_NAME, m->sender, m->number, m->words, m->count);
+    uint32_t word = a.word;
+    uint32_t why = adopt(box, &a);
+    if (why != DOOR_ACCEPTED)
+        say_refused(finishes ? "the finish call" : "the take call", m->number, why,
+            "the message is dropped");
+    else if (finishes)
+        send_words(box, link, LOCK, DOOR_ANSWER, number, &word, 1);
+    else
+        send_words(box, link, other_of(box), DOOR_WORD, number, &word, 1);
+}
+
+/* Whether the box has not come yet to where it takes a message of this kind and number. */
+static bool comes_early(const struct box *box, const struct message *m)
+{
+    if (m->kind != DOOR_MASKED_VECTOR && m->kind != DOOR_WORD)
+        return false;
+    if (m->number > box->party.last)
+        return true;
+    uint32_t takes_at = m->kind == DOOR_MASKED_VECTOR ? 2 : 3;
+    return box->party.phase != 0 && m->number == box->party.set.number
+        && box->party.phase < takes_at;
+}
+
+/* A masked vector first: taking it is what lets a word be taken. */
+static void hand_in_early_ones(struct box *box, const struct link *link)
+{
+    for (uint32_t kind = DOOR_MASKED_VECTOR; kind <= DOOR_WORD; kind++) {
+        if (!box->waits[kind] || comes_early(box, &box->early[kind]))
+            continue;
+        box->waits[kind] = false;
+        hand_in(box, link, &box->early[kind]);
+    }
+}
+
+static void take_message(struct box *box, const struct link *link, const struct message *m)
+{
+    if (comes_early(box, m)) {
+        box->early[m->kind] = *m;
+        box->waits[m->kind] = true;
+        return;
+    }
+    hand_in(box, link, m);
+    hand_in_early_ones(box, link);
+}
+
+/* A begin that brings no half or no vector leaves an open set as it is. */
+static void begin(struct box *box, const struct link *link, const struct message *m)
+{
+    static uint8_t half[DOOR_HALF_MOST + 1];
+    static struct vector vector;
+    size_t size;
+    uint32_t why = DOOR_ACCEPTED;
+    bool begun = own_vector(box, m, &vector) && read_half(box->party.party, m->number, half, &size);
+    if (begun) {
+        drop_open_set(box, "since another one begins");
+        begun = load(box, m->number, half, size, &why) && mask(box, link, &vector, &why);
+    }
+    explicit_bzero(half, sizeof half);
+    explicit_bzero(&vector, sizeof vector);
+    if (begun) {
+        hand_in_early_ones(box, link);
+    } else {
+        say("set %" PRIu64 ": this box does not take part in it", m->number);
+        send_failed(link, m->number, why);
+    }
+}
+
+static void handle(void *state, const struct link *link, const struct message *message)
+{
+    if (message->kind == HOST_BEGIN)
+        begin(state, link, message);
+    else
+        take_message(state, link, message);
+}
+
+int run_box(enum part self, const char *via)
+{
+    static struct box box;
+    if (!start_box(&box, self))
+        return EXIT_TROUBLE;
+    const struct served served = {.state = &box, .last = &box.party.last, .handle = handle};
+    int status = serve(self, via, &served);
+    explicit_bzero(&box, sizeof box);
+    return status;
+}

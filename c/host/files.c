@@ -1,0 +1,323 @@
+#include "files.h"
+
+#include "parts.h"
+
+#include <dirent.h>
+#include <errno.h>
+#include <fcntl.h>
+#include <inttypes.h>
+#include <limits.h>
+#include <stdio.h>
+#include <stdlib.h>
+#include <string.h>
+#include <sys/file.h>
+#include <sys/stat.h>
+#include <unistd.h>
+
+#define VECTOR_TEXT_MOST 16384 /* bytes of a vector's file: ample for 512 lines */
+
+bool make_folder(const char *folder)
+{
+    if (mkdir(folder, 0700) == 0)
+        return true;
+    say_trouble("cannot make the folder", folder);
+    return false;
+}
+
+static bool close_file(int file, const char *path)
+{
+    if (close(file) == 0)
+        return true;
+    say_trouble("cannot close", path);
+    return false;
+}
+
+/* After a failed fsync the system may forget what it had to write, so nobody tries again. */
+static bool force(int file, const char *path)
+{
+    bool forced = fsync(file) == 0;
+    if (!forced)
+        say_trouble("cannot force to disk", path);
+    return close_file(file, path) && forced;
+}
+
+bool force_folder(const char *folder)
+{
+    int file = open(folder, O_RDONLY | O_DIRECTORY | O_CLOEXEC);
+    if (file < 0) {
+        say_trouble("cannot open the folder", folder);
+        return false;
+    }
+    return force(file, folder);
+}
+
+bool claim(const char *path)
+{
+    int file = open(path, O_RDWR | O_CREAT | O_CLOEXEC | O_NOFOLLOW, 0600);
+    if (file < 0) {
+        say_trouble("cannot open", path);
+        return false;
+    }
+    if (flock(file, LOCK_EX | LOCK_NB) == 0)
+        return true; /* the file stays open: the claim ends with the process */
+    if (errno == EWOULDBLOCK)
+        say("another process has claimed %s: this one does not start", path);
+    else
+        say_trouble("cannot claim", path);
+    if (close(file) != 0)
+        say_trouble("cannot close", path);
+    return false;
+}
+
+/* Reads to the end of the file or of the room, whichever comes first. */
+static bool read_all(int file, const char *path, uint8_t *bytes, size_t room, size_t *size)
+{
+    *size = 0;
+    while (*size < room) {
+        ssize_t got = read(file, bytes + *size, room - *size);
+        if (got == 0)
+            return true;
+        if (got > 0) {
+            *size += (size_t)got;
+        } else if (errno != EINTR) {
+            say_trouble("cannot read", path);
+            return false;
+        }
+    }
+    return true;
+}
+
+bool read_file(const char *path, void *bytes, size_t room, size_t *size)
+{
+    int file = open(path, O_RDONLY | O_CLOEXEC);
+    if (file < 0) {
+        say_trouble("cannot open", path);
+        return false;
+    }
+    bool read_to_end = read_all(file, path, bytes, room, size);
+    return close_file(file, path) && read_to_end;
+}
+
+static bool write_all(int file, const char *path, const uint8_t *bytes, size_t size)
+{
+    while (size > 0) {
+        ssize_t put = write(file, bytes, size);
+        if (put >= 0) {
+            bytes += put;
+            size -= (size_t)put;
+        } else if (errno != EINTR) {
+            say_trouble("cannot write", path);
+            return false;
+        }
+    }
+    return true;
+}
+
+static bool write_forced(const char *path, const void *bytes, size_t size)
+{
+    int file = open(path, O_WRONLY | O_CREAT | O_TRUNC | O_CLOEXEC | O_NOFOLLOW, 0600);
+    if (file < 0) {
+        say_trouble("cannot make", path);
+        return false;
+    }
+    if (!write_all(file, path, bytes, size)) {
+        close_file(file, path);
+        return false;
+    }
+    return force(file, path);
+}
+
+/* First the bytes, then the name, then the folder that holds the name: in this order each moment
+   has a whole file under the name, and the end has the new one. */
+bool write_durably(const char *folder, const char *file, const void *bytes, size_t size)
+{
+    char path[PATH_ROOM], fresh[PATH_ROOM + 4];
+    snprintf(path, sizeof path, "%s/%s", folder, file);
+    snprintf(fresh, sizeof fresh, "%s.tmp", path);
+    if (!write_forced(fresh, bytes, size))
+        return false;
+    if (rename(fresh, path) != 0) {
+        say_trouble("cannot rename to", path);
+        return false;
+    }
+    return force_folder(folder);
+}
+
+/* The number and what it lacks to 2^64 - 1, each in twenty digits: whatever tears or damages the
+   file, it is then no longer one that is ever written. */
+#define LAST_SIZE 42
+
+static void last_text(uint64_t last, char text[LAST_SIZE + 1])
+{
+    snprintf(text, LAST_SIZE + 1, "%020" PRIu64 " %020" PRIu64 "\n", last, UINT64_MAX - last);
+}
+
+bool read_last(const char *folder, uint64_t *last)
+{
+    char path[PATH_ROOM], found[LAST_SIZE + 2] = "", right[LAST_SIZE + 1];
+    size_t size;
+    snprintf(path, sizeof path, "%s/last", folder);
+    if (!read_file(path, found, LAST_SIZE + 1, &size))
+        return false;
+    *last = strtoull(found, NULL, 10);
+    last_text(*last, right);
+    if (size == LAST_SIZE && memcmp(found, right, LAST_SIZE) == 0)
+        return true;
+    say("%s is torn or damaged: which numbers are spent is not known, and a mask could be used "
+        "twice; this part stays down until it has new keys (setup in a new folder)",
+        path);
+    return false;
+}
+
+bool write_last(const char *folder, uint64_t last)
+{
+    char text[LAST_SIZE + 1];
+    last_text(last, text);
+    return write_durably(folder, "last", text, LAST_SIZE);
+}
+
+bool read_key(const char *folder, const char *file, uint8_t key[DOOR_KEY])
+{
+    char path[PATH_ROOM];
+    uint8_t found[DOOR_KEY + 1];
+    size_t size;
+    snprintf(path, sizeof path, "%s/%s", folder, file);
+    if (!read_file(path, found, sizeof found, &size))
+        return false;
+    bool right = size == DOOR_KEY;
+    memcpy(key, found, DOOR_KEY);
+    explicit_bzero(found, sizeof found);
+    if (!right)
+        say("%s has not the %d bytes of a key", path, DOOR_KEY);
+    return right;
+}
+
+bool read_name(const char *folder, struct door_name *name)
+{
+    char path[PATH_ROOM];
+    snprintf(path, sizeof path, "%s/name", folder);
+    return read_file(path, name->bytes, sizeof name->bytes, &name->size);
+}
+
+/* Reads a number within bounds and the white space behind it, and moves on past both. */
+static bool next_number(const char **text, intmax_t low, intmax_t high, intmax_t *number)
+{
+    char *end;
+    errno = 0;
+    *number = strtoimax(*text, &end, 10);
+    if (end == *text || errno != 0 || *number < low || *number > high)
+        return false;
+    if (*end != '\0' && strchr(" \t\r\n", *end) == NULL)
+        return false;
+    *text = end + strspn(end, " \t\r\n");
+    return true;
+}
+
+/* Nothing is cut to a narrower type here before the deal has tested it. */
+bool parse_settings(const char *text, struct settings *settings)
+{
+    intmax_t code, length, threshold;
+    if (!next_number(&text, 0, UINT32_MAX, &code) || !next_number(&text, 0, INTMAX_MAX, &length)
+        || !next_number(&text, INT32_MIN, INT32_MAX, &threshold) || *text != '\0')
+        return false;
+    settings->code = (uint32_t)code;
+    settings->length = (size_t)length;
+    settings->threshold = (int32_t)threshold;
+    return true;
+}
+
+bool read_settings(struct settings *settings)
+{
+    char text[PATH_ROOM] = "";
+    size_t size;
+    if (!read_file("dealer/settings", text, sizeof text - 1, &size))
+        return false;
+    if (parse_settings(text, settings))
+        return true;
+    say("dealer/settings has not three whole numbers: measure code, length, threshold");
+    return false;
+}
+
+bool write_settings(const struct settings *settings)
+{
+    char text[PATH_ROOM];
+    int size = snprintf(text, sizeof text, "%" PRIu32 " %zu %" PRId32 "\n", settings->code,
+        settings->length, settings->threshold);
+    return write_durably("dealer", "settings", text, (size_t)size);
+}
+
+bool read_vector(const char *path, struct vector *vector)
+{
+    static char text[VECTOR_TEXT_MOST + 1]; /* secret as the vector is: wiped below */
+    size_t size;
+    if (!read_file(path, text, VECTOR_TEXT_MOST, &size))
+        return false;
+    text[size] = '\0';
+    const char *at = text;
+    bool right = size < VECTOR_TEXT_MOST;
+    for (vector->length = 0; right && *at != '\0'; vector->length++) {
+        intmax_t number = 0;
+        right = vector->length < DOOR_LENGTH_MOST
+            && next_number(&at, INT32_MIN, INT32_MAX, &number);
+        if (right)
+            vector->words[vector->length] = (uint32_t)number;
+    }
+    explicit_bzero(text, sizeof text);
+    if (!right)
+        say("%s: line %zu is no whole number, or one too many (at most %d)", path, vector->length,
+            DOOR_LENGTH_MOST);
+    return right;
+}
+
+static void stick_of(uint32_t party, char folder[PATH_ROOM])
+{
+    snprintf(folder, PATH_ROOM, "stick/%s", PART[party].command);
+}
+
+bool write_half(uint32_t party, uint64_t number, const uint8_t *half, size_t size)
+{
+    char folder[PATH_ROOM], file[PATH_ROOM / 2];
+    stick_of(party, folder);
+    snprintf(file, sizeof file, "%" PRIu64 ".half", number);
+    return write_durably(folder, file, half, size);
+}
+
+bool read_half(uint32_t party, uint64_t number, uint8_t half[DOOR_HALF_MOST + 1], size_t *size)
+{
+    char folder[PATH_ROOM], path[PATH_ROOM + 32];
+    stick_of(party, folder);
+    snprintf(path, sizeof path, "%s/%" PRIu64 ".half", folder, number);
+    return read_file(path, half, DOOR_HALF_MOST + 1, size);
+}
+
+/* Whether a file on the stick is a half, or what a power cut left of one, of a spent set. */
+static bool is_spent_half(const char *file, uint64_t last)
+{
+    char *end;
+    errno = 0;
+    uint64_t number = strtoull(file, &end, 10);
+    if (end == file || errno != 0 || number > last)
+        return false;
+    return strcmp(end, ".half") == 0 || strcmp(end, ".half.tmp") == 0;
+}
+
+/* A half that cannot be removed is reported and no more: its number is spent, and a load refuses
+   it. Removing it keeps its masks from whoever finds the stick and the key later. */
+void remove_spent_halves(uint32_t party, uint64_t last)
+{
+    char folder[PATH_ROOM];
+    stick_of(party, folder);
+    DIR *stick = opendir(folder);
+    if (stick == NULL) {
+        say_trouble("cannot look through", folder);
+        return;
+    }
+    for (struct dirent *entry; (entry = readdir(stick)) != NULL;) {
+        char path[PATH_ROOM + sizeof entry->d_name];
+        snprintf(path, sizeof path, "%s/%s", folder, entry->d_name);
+        if (is_spent_half(entry->d_name, last) && unlink(path) != 0)
+            say_trouble("cannot remove the spent half", path);
+    }
+    if (closedir(stick) != 0)
+        say_trouble("cannot close", folder);
+}

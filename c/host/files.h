@@ -1,0 +1,73 @@
+/*
+ * What the parts keep on disk. Paths are relative to the state folder, which every process makes
+ * its working folder. Every function says what went wrong before it answers false.
+ *
+ * What is written here is on the disk when the function has answered true, not only on its way: a
+ * power cut right afterwards leaves the new file, and one at any earlier moment the old file or
+ * the new one, never a part of either.
+ */
+#ifndef HOST_FILES_H
+#define HOST_FILES_H
+
+#include "../door.h"
+
+#include <stdbool.h>
+#include <stddef.h>
+#include <stdint.h>
+
+#define PATH_ROOM 128
+#define NAME_ROOM 64 /* more than any name has, so that one that is too long is seen as such */
+
+/* Makes a folder of its owner alone. It is there for good when the folder above was forced. */
+bool make_folder(const char *folder);
+bool force_folder(const char *folder);
+
+/* Claims a part's folder for this process, until it ends in whatever way: of two processes with
+   one box's state, each would put its own vector under the same mask. */
+bool claim(const char *path);
+
+bool read_file(const char *path, void *bytes, size_t room, size_t *size);
+bool write_durably(const char *folder, const char *file, const void *bytes, size_t size);
+
+/* A part's high-water mark: the last set number that is spent. A file that is missing, torn or
+   damaged is never read as any number. */
+bool read_last(const char *folder, uint64_t *last);
+bool write_last(const char *folder, uint64_t last);
+
+bool read_key(const char *folder, const char *file, uint8_t key[DOOR_KEY]);
+
+/* A door's bare name. That it is a good one is the start calls' matter. */
+struct door_name {
+    uint8_t bytes[NAME_ROOM];
+    size_t size;
+};
+
+bool read_name(const char *folder, struct door_name *name);
+
+/* What the dealer deals for. Whether the three fit each other is the deal's matter. */
+struct settings {
+    uint32_t code;
+    size_t length;
+    int32_t threshold;
+};
+
+bool parse_settings(const char *text, struct settings *settings);
+bool read_settings(struct settings *settings);
+bool write_settings(const struct settings *settings);
+
+/* A vector, one whole number a line, as words. */
+struct vector {
+    uint32_t words[DOOR_LENGTH_MOST];
+    size_t length;
+};
+
+bool read_vector(const char *path, struct vector *vector);
+
+/* Halves lie on the stick of the box with that party number, one file for each set. */
+bool write_half(uint32_t party, uint64_t number, const uint8_t *half, size_t size);
+bool read_half(uint32_t party, uint64_t number, uint8_t half[DOOR_HALF_MOST + 1], size_t *size);
+
+/* Removes the halves of all spent sets, those included that a power cut had left. */
+void remove_spent_halves(uint32_t party, uint64_t last);
+
+#endif

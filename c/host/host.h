@@ -1,0 +1,40 @@
+/*
+ * The commands of door-host. Each runs in the state folder and answers the process's exit status.
+ */
+#ifndef HOST_H
+#define HOST_H
+
+#include "files.h"
+#include "wire.h"
+
+enum exit_status {
+    EXIT_OPEN = 0, /* also of every command that is no check and went well */
+    EXIT_SHUT = 1,
+    EXIT_TROUBLE = 2
+};
+
+int set_up(const char *folder, const char *name, const char *settings_text);
+int run_dealer(const char *via);
+int run_box(enum part self, const char *via);
+int run_lock(const char *via);
+int run_check(const struct vector *vector);
+int run_status(void);
+int run_watch(void);
+
+/* What the dealer, the boxes and the lock have in common: a message is handled to its end before
+   the next is read, and HOST_ASK is answered with the last number. */
+struct served {
+    void *state;
+    const uint64_t *last;
+    void (*handle)(void *state, const struct link *link, const struct message *message);
+};
+
+int serve(enum part self, const char *via, const struct served *served);
+
+/* Claims the part's folder for this process and reads the name and the last number in it. */
+bool start_part(enum part self, struct door_name *name, uint64_t *last);
+
+/* Tells the operator that this set came to nothing here. */
+void send_failed(const struct link *link, uint64_t number, uint32_t why);
+
+#endif

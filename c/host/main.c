@@ -1,0 +1,95 @@
+/*
+ * door-host: dealer, camera box, office box and lock of one door, as processes that talk over
+ * Unix sockets. README.md beside this file says how they work together.
+ */
+#include "host.h"
+
+#include <stdio.h>
+#include <string.h>
+#include <sys/resource.h>
+#include <sys/stat.h>
+#include <unistd.h>
+
+static int usage(void)
+{
+    fputs("usage: door-host setup FOLDER NAME CODE LENGTH THRESHOLD\n"
+          "       door-host dealer|camera|office|lock FOLDER [--via SOCKET]\n"
+          "       door-host check FOLDER VECTORFILE\n"
+          "       door-host status FOLDER\n"
+          "       door-host watch FOLDER\n",
+        stderr);
+    return EXIT_TROUBLE;
+}
+
+/* Keys and masks are in memory: nobody else may read the files, and no core is written. */
+static bool keep_secrets_in(void)
+{
+    const struct rlimit none = {0, 0};
+    umask(077);
+    if (setrlimit(RLIMIT_CORE, &none) == 0)
+        return true;
+    say_trouble("cannot turn off", "core files");
+    return false;
+}
+
+static bool go_to(const char *folder)
+{
+    if (chdir(folder) == 0)
+        return true;
+    say_trouble("cannot go to", folder);
+    return false;
+}
+
+static int run_setup(char **arguments)
+{
+    char text[PATH_ROOM];
+    int size = snprintf(text, sizeof text, "%s %s %s", arguments[2], arguments[3], arguments[4]);
+    if (size < 0 || (size_t)size >= sizeof text)
+        return usage();
+    return set_up(arguments[0], arguments[1], text);
+}
+
+/* The vector's path is the caller's, so it is read before the working folder changes. */
+static int run_check_of(const char *folder, const char *path)
+{
+    static struct vector vector;
+    int status = EXIT_TROUBLE;
+    if (read_vector(path, &vector) && go_to(folder))
+        status = run_check(&vector);
+    explicit_bzero(&vector, sizeof vector);
+    return status;
+}
+
+static int run_part(const char *command, const char *folder, const char *via)
+{
+    if (!go_to(folder))
+        return EXIT_TROUBLE;
+    if (strcmp(command, PART[DEALER].command) == 0)
+        return run_dealer(via);
+    if (strcmp(command, PART[CAMERA].command) == 0)
+        return run_box(CAMERA, via);
+    if (strcmp(command, PART[OFFICE].command) == 0)
+        return run_box(OFFICE, via);
+    if (strcmp(command, PART[LOCK].command) == 0)
+        return run_lock(via);
+    if (via == NULL && strcmp(command, PART[WATCH].command) == 0)
+        return run_watch();
+    if (via == NULL && strcmp(command, "status") == 0)
+        return run_status();
+    return usage();
+}
+
+int main(int count, char **arguments)
+{
+    if (!keep_secrets_in() || !stop_on_signals())
+        return EXIT_TROUBLE;
+    if (count == 7 && strcmp(arguments[1], "setup") == 0)
+        return run_setup(arguments + 2);
+    if (count == 4 && strcmp(arguments[1], "check") == 0)
+        return run_check_of(arguments[2], arguments[3]);
+    if (count == 3)
+        return run_part(arguments[1], arguments[2], NULL);
+    if (count == 5 && strcmp(arguments[3], "--via") == 0)
+        return run_part(arguments[1], arguments[2], arguments[4]);
+    return usage();
+}

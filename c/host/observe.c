@@ -1,0 +1,214 @@
+#include "test.h"
+
+#include <dirent.h>
+#include <inttypes.h>
+#include <stdio.h>
+#include <stdlib.h>
+#include <string.h>
+
+#define NUMBERS 4096 /* more than one run deals */
+
+struct tally tally;
+int32_t current[2][DOOR_LENGTH_MOST];
+
+/* What is known of one set. */
+struct seen {
+    bool dealt;
+    uint32_t code;
+    size_t length;
+    int32_t threshold;
+    bool sent[2][3];                    /* by box and kind */
+    int32_t used[2][DOOR_LENGTH_MOST];  /* the vector that each box had when it sent it masked */
+    bool reported;                      /* by the lock */
+    uint64_t half[2];                   /* a hash of each box's half */
+    uint64_t mask[2];                   /* a hash of the mask that each box has used */
+};
+
+static struct seen seen[NUMBERS];
+static uint64_t most_sent[PARTS]; /* the highest number that left each part */
+
+int64_t measure(uint32_t code, size_t length, const int32_t *x, const int32_t *y)
+{
+    int64_t sum = 0;
+    for (size_t i = 0; i < length; i++) {
+        int64_t a = x[i], b = y[i];
+        sum += code == DOOR_SCALAR ? a * b : code == DOOR_EUCLID ? (a - b) * (a - b) : a != b;
+    }
+    return sum;
+}
+
+static struct seen *set_of(uint64_t number)
+{
+    EXPECT(number > 0 && number < NUMBERS, "set %" PRIu64 " was never dealt", number);
+    return &seen[number];
+}
+
+/* Whatever leaves a part under a number, the part's disk must know the number first. */
+static void left(enum part from, uint64_t number)
+{
+    uint64_t last = durable_last(from);
+    EXPECT(last >= number,
+        "set %" PRIu64 ": something left the %s while a power cut would have left it at %" PRIu64,
+        number, PART[from].title, last);
+    if (number > most_sent[from])
+        most_sent[from] = number;
+}
+
+/* FNV-1a. */
+static uint64_t hash_of(const void *at, size_t size)
+{
+    const uint8_t *bytes = at;
+    uint64_t hash = 14695981039346656037u;
+    for (size_t i = 0; i < size; i++)
+        hash = (hash ^ bytes[i]) * 1099511628211u;
+    return hash;
+}
+
+/* A half as it lies on a stick. */
+struct copy {
+    uint64_t number;
+    uint8_t bytes[DOOR_HALF_MOST];
+    size_t size;
+};
+
+static struct copy newest[2]; /* of each box, to be put back on the stick when it is spent */
+
+void put_half_back(enum part box, uint64_t number)
+{
+    const struct copy *c = &newest[box];
+    EXPECT(c->number == number && write_half(box, number, c->bytes, c->size),
+        "cannot put the half of set %" PRIu64 " back", number);
+}
+
+static bool read_copy(struct copy *c, const char *path)
+{
+    FILE *file = fopen(path, "r");
+    if (file == NULL)
+        return false; /* its box has just removed it */
+    c->size = fread(c->bytes, 1, DOOR_HALF_MOST, file);
+    fclose(file);
+    return true;
+}
+
+/* A number under which two different halves were sealed is a nonce that was used twice. */
+static void take_down_half(enum part box, const char *file)
+{
+    char path[3 * PATH_ROOM], end[PATH_ROOM] = "";
+    static struct copy c;
+    if (sscanf(file, "%" SCNu64 "%100s", &c.number, end) != 2 || strcmp(end, ".half") != 0)
+        return;
+    snprintf(path, sizeof path, "stick/%s/%s", PART[box].command, file);
+    if (!read_copy(&c, path))
+        return;
+    uint64_t hash = hash_of(c.bytes, c.size), *known = &set_of(c.number)->half[box];
+    EXPECT(*known == 0 || *known == hash, "%s was dealt twice", path);
+    *known = hash;
+    left(DEALER, c.number);
+    if (c.number > newest[box].number)
+        newest[box] = c;
+}
+
+static void take_down_halves(void)
+{
+    for (enum part box = CAMERA; box <= OFFICE; box++) {
+        char folder[PATH_ROOM];
+        snprintf(folder, sizeof folder, "stick/%s", PART[box].command);
+        DIR *stick = opendir(folder);
+        EXPECT(stick != NULL, "cannot look through %s", folder);
+        for (struct dirent *entry; (entry = readdir(stick)) != NULL;)
+            take_down_half(box, entry->d_name);
+        closedir(stick);
+    }
+}
+
+static void observe_dealt(enum part from, const struct message *m)
+{
+    struct seen *s = set_of(m->number);
+    EXPECT(from == DEALER, "the %s deals", PART[from].title);
+    EXPECT(!s->dealt, "set %" PRIu64 " was dealt twice", m->number);
+    take_down_halves();
+    EXPECT(s->half[CAMERA] != 0 && s->half[OFFICE] != 0,
+        "set %" PRIu64 " was announced without its halves", m->number);
+    s->dealt = true;
+    s->code = m->words[0];
+    s->length = m->words[1];
+    s->threshold = (int32_t)m->words[2];
+    tally.dealt++;
+}
+
+/* The test knows the vector and sees it masked: no other set of this box may have had this mask.
+   Short masks may be alike by chance. */
+static void take_down_mask(enum part box, const struct message *m)
+{
+    uint32_t mask[16];
+    if (m->count < 16)
+        return;
+    for (size_t i = 0; i < 16; i++)
+        mask[i] = m->words[i] - (uint32_t)current[box][i];
+    uint64_t hash = hash_of(mask, sizeof mask);
+    for (uint64_t number = 1; number < NUMBERS; number++)
+        EXPECT(seen[number].mask[box] != hash,
+            "sets %" PRIu64 " and %" PRIu64 ": the %s used one mask twice", number, m->number,
+            PART[box].title);
+    seen[m->number].mask[box] = hash;
+}
+
+static void observe_box(enum part from, const struct message *m)
+{
+    struct seen *s = set_of(m->number);
+    EXPECT((from == CAMERA || from == OFFICE) && m->sender == from, "the %s sends as %" PRIu32,
+        PART[from].title, m->sender);
+    EXPECT(!s->sent[from][m->kind], "set %" PRIu64 ": the %s sent a second %s", m->number,
+        PART[from].title, kind_words(m->kind));
+    s->sent[from][m->kind] = true;
+    if (m->kind == DOOR_MASKED_VECTOR) {
+        memcpy(s->used[from], current[from], sizeof s->used[from]);
+        take_down_mask(from, m);
+    }
+}
+
+static void observe_verdict(enum part from, const struct message *m)
+{
+    struct seen *s = set_of(m->number);
+    EXPECT(from == LOCK, "the %s reports", PART[from].title);
+    EXPECT(!s->reported, "set %" PRIu64 " was reported twice", m->number);
+    EXPECT(s->sent[CAMERA][DOOR_ANSWER] && s->sent[OFFICE][DOOR_ANSWER],
+        "set %" PRIu64 " was reported before both boxes answered", m->number);
+    int64_t found = measure(s->code, s->length, s->used[CAMERA], s->used[OFFICE]);
+    EXPECT(m->words[0] == (found >= s->threshold),
+        "set %" PRIu64 ": measure %" PRId64 ", threshold %" PRId32 ", and the lock said %" PRIu32,
+        m->number, found, s->threshold, m->words[0]);
+    s->reported = true;
+    tally.answered++;
+    if (m->words[0] == 1)
+        tally.open++;
+    else
+        tally.shut++;
+}
+
+void observe(enum part from, const struct message *m)
+{
+    if (m->kind == HOST_HERE)
+        return;
+    tally.messages++;
+    if (m->kind == HOST_FAILED) {
+        tally.failed++;
+        return;
+    }
+    left(from, m->number);
+    if (m->kind == HOST_DEALT)
+        observe_dealt(from, m);
+    else if (m->kind == HOST_VERDICT)
+        observe_verdict(from, m);
+    else if (m->kind <= DOOR_ANSWER)
+        observe_box(from, m);
+    else
+        EXPECT(false, "the %s sent a message (%s)", PART[from].title, kind_words(m->kind));
+}
+
+void inspect_dead(enum part part)
+{
+    if (part == DEALER)
+        take_down_halves();
+    left(part, most_sent[part]);
+}

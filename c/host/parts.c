@@ -1,0 +1,82 @@
+#include "parts.h"
+
+#include "../door.h"
+
+#include <errno.h>
+#include <inttypes.h>
+#include <stdarg.h>
+#include <stdio.h>
+#include <string.h>
+#include <unistd.h>
+
+const struct part_names PART[PARTS] = {
+    [CAMERA] = {"camera", "camera box", "camera.sock"},
+    [OFFICE] = {"office", "office box", "office.sock"},
+    [DEALER] = {"dealer", "dealer", "dealer.sock"},
+    [LOCK] = {"lock", "lock", "lock.sock"},
+    [OPERATOR] = {"operator", "operator", "operator.sock"},
+    [WATCH] = {"watch", "watch", "watch.sock"},
+};
+
+static enum part speaker = OPERATOR;
+
+void speak_as(enum part self)
+{
+    speaker = self;
+}
+
+/* The length that snprintf gives, cut to what stands in a buffer of that size. */
+static size_t written(int length, size_t room)
+{
+    if (length < 0)
+        return 0;
+    return (size_t)length < room ? (size_t)length : room - 1;
+}
+
+void say(const char *format, ...)
+{
+    char line[1024];
+    const size_t room = sizeof line - 1; /* the last place is for the line's end */
+    size_t size = written(snprintf(line, room, "%s: ", PART[speaker].title), room);
+    va_list arguments;
+    va_start(arguments, format);
+    size += written(vsnprintf(line + size, room - size, format, arguments), room - size);
+    va_end(arguments);
+    line[size++] = '\n';
+    /* Where stderr is gone there is nobody left to tell. */
+    if (write(STDERR_FILENO, line, size) < 0)
+        return;
+}
+
+void say_trouble(const char *what, const char *path)
+{
+    say("%s %s: %s", what, path, strerror(errno));
+}
+
+const char *refusal_words(uint32_t why)
+{
+    static const char *const words[] = {
+        [DOOR_ACCEPTED] = "accepted",
+        [DOOR_BAD_NAME] = "the name is empty, above 16 bytes, or has a byte outside 32 to 126",
+        [DOOR_BAD_PARTY_OR_CODE] = "the party is not 0 or 1, or the measure code is not 0 to 2",
+        [DOOR_OUT_OF_TURN] = "the call is out of its turn, or the state is none that a call leaves",
+        [DOOR_WRONG_LENGTH] = "an input has a wrong length",
+        [DOOR_SHORT_BUFFER] = "an output buffer is too short",
+        [DOOR_WRONG_MESSAGE] = "the message is of another kind, door or sender",
+        [DOOR_WRONG_NUMBER] =
+            "the set number is not the open one, not above the last one, or not the same twice",
+        [DOOR_OUT_OF_RANGE] = "an element or the threshold is outside its measure's range",
+        [DOOR_EQUAL_KEYS] = "the two box keys are equal",
+        [DOOR_BAD_BLOCK] = "a block is out of place, of another set, or its tag does not fit",
+        [DOOR_BAD_CONTENT] =
+            "the half is for another door or box, or has content that no deal writes",
+        [DOOR_BAD_SUM] = "the two answers do not sum to 0 or 1",
+    };
+    return why < sizeof words / sizeof *words ? words[why] : "a number that no call answers";
+}
+
+void say_refused(const char *call, uint64_t number, uint32_t why, const char *done)
+{
+    say("set %" PRIu64 ": %s was refused (%" PRIu32 "): %s; %s", number, call, why,
+        refusal_words(why), done);
+}

@@ -1,0 +1,113 @@
+/*
+ * The test of the host: it is the network between the parts and the operator, it kills parts, and
+ * it takes down all that it sees.
+ */
+#ifndef HOST_TEST_H
+#define HOST_TEST_H
+
+#include "files.h"
+#include "wire.h"
+
+#include <stdbool.h>
+#include <stdint.h>
+
+/* Ends the test as failed, with the place and the words. */
+_Noreturn void fail_at(const char *file, int line, const char *format, ...)
+    __attribute__((format(printf, 3, 4)));
+#define EXPECT(holds, ...) \
+    do { \
+        if (!(holds)) \
+            fail_at(__FILE__, __LINE__, __VA_ARGS__); \
+    } while (0)
+
+/* Numbers by chance, the same for the same seed. */
+void seed_chance(uint64_t seed);
+uint64_t chance(uint64_t below);
+
+/* children.c: the four processes, and the power. */
+
+void name_program(const char *path);
+void start_child(enum part part);
+void kill_child(enum part part); /* SIGKILL, and waits until it is dead */
+void stop_child(enum part part); /* SIGTERM, upon which it must end with status 0 */
+bool child_runs(enum part part);
+void kill_what_is_left(void); /* at the end of a failed test */
+
+/* Runs the program to its end and answers its exit status; one that does not end is killed. */
+int run_to_end(char *const arguments[]);
+int start_program(char *const arguments[]); /* answers the process */
+int end_of(int process);
+
+/* What of the dead part's last changes was not forced to disk is undone, by chance. */
+void cut_power(enum part part);
+
+/* The part's last number, as a power cut at this moment would leave it at the least. */
+uint64_t durable_last(enum part part);
+
+/* network.c: between the parts, and in the operator's place. */
+
+#define PATIENCE_NS 5000000000 /* then something that must come has not come */
+
+/* How far a check has come. */
+enum stage { ASKED, DEALT, MASKED, WORDS, ANSWERS, REPORTED, STAGES };
+
+extern const char *const STAGE[STAGES];
+
+/* The check that is under way. */
+struct check {
+    uint64_t number; /* 0 before the deal */
+    enum stage stage;
+    unsigned messages;
+    bool failed;
+    uint32_t why;          /* it failed */
+    bool told[2];          /* to begin */
+    enum part told_later;  /* the box that is told when the other's masked vector has come */
+    enum part word_first;  /* the box that gets the other's word before the masked vector */
+    struct message vector; /* which is held back until then */
+};
+
+extern struct check check;
+extern bool disorder;             /* the network doubles messages and delays them */
+extern bool operator_runs;        /* the program's own operator asks for the check */
+extern struct message answers[2]; /* the last of each box, to be sent to the lock again */
+
+int64_t now_ns(void);
+void open_network(void);
+void carry_late(void); /* hands on the message that was delayed, if there is one */
+
+/* Handles one message, if one comes before that time. */
+bool pump_until(int64_t time);
+void pump_before(int64_t deadline); /* which must not pass */
+void pump_what_is_there(void);
+
+void throw_at(enum part part, const uint8_t *bytes, size_t size);
+void send_surely(enum part to, const struct message *m);
+void hear_from(enum part part);
+
+/* Until nothing is under way. */
+void settle(void);
+
+/* observe.c: what was seen, and whether it may be. */
+
+struct tally {
+    unsigned long messages, dealt, answered, open, shut, failed;
+};
+
+extern struct tally tally;
+
+/* The vectors that the boxes would mask if they began now: the camera's, the office's. */
+extern int32_t current[2][DOOR_LENGTH_MOST];
+
+void observe(enum part from, const struct message *message);
+
+/* For a part that was just killed, with all that it had sent observed, and again when it has
+   lost its power: its files must know of all that has left it. */
+void inspect_dead(enum part part);
+
+/* Puts the box's half of the set that was dealt last back on the stick, as someone may who has
+   kept a copy. */
+void put_half_back(enum part box, uint64_t number);
+
+int64_t measure(uint32_t code, size_t length, const int32_t *x, const int32_t *y);
+
+#endif
