@@ -1,11 +1,11 @@
 // A box's start and its calls.
-use crate::lines;
-use crate::lines::Line;
-use crate::memory;
-use crate::memory::BYTES;
 use messages::Label;
 use party::Party;
 use party::PartyAnswer;
+use replay_lines::lines;
+use replay_lines::lines::Line;
+use replay_lines::memory;
+use replay_lines::memory::BYTES;
 
 // The most words of a vector, and of call 2's buffer.
 const LONGEST: usize = 2432;

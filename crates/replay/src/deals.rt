@@ -1,14 +1,14 @@
 // The dealer's start and its deals, the halves of the last four deals, and loads of these.
 ghost use Prim.Native.Nat.{_<_};
-use crate::lines;
-use crate::lines::Line;
-use crate::memory;
-use crate::memory::BYTES;
-use crate::memory::HALVES;
-use crate::memory::NUMBERS;
-use crate::memory::OTHER;
 use dealer::Dealer;
 use dealer::DealerAnswer;
+use replay_lines::lines;
+use replay_lines::lines::Line;
+use replay_lines::memory;
+use replay_lines::memory::BYTES;
+use replay_lines::memory::HALVES;
+use replay_lines::memory::NUMBERS;
+use replay_lines::memory::OTHER;
 
 // The longest buffer of a deal.
 const ROOM: usize = 8704;

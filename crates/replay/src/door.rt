@@ -2,18 +2,18 @@
 use crate::boxes;
 use crate::deals;
 use crate::joins;
-use crate::lines;
-use crate::lines::Line;
-use crate::memory;
-use crate::memory::ANSWERS;
-use crate::memory::BYTES;
-use crate::memory::MASKED;
-use crate::memory::NUMBERS;
-use crate::memory::WORDS;
 use crate::states;
 use dealer::Dealer;
 use lock::Lock;
 use party::Party;
+use replay_lines::lines;
+use replay_lines::lines::Line;
+use replay_lines::memory;
+use replay_lines::memory::ANSWERS;
+use replay_lines::memory::BYTES;
+use replay_lines::memory::MASKED;
+use replay_lines::memory::NUMBERS;
+use replay_lines::memory::WORDS;
 
 pub struct Door {
     pub dealer: Dealer,

@@ -1,11 +1,11 @@
 // The lock's start, the join, and the C host's.
 use crate::boxes::label;
-use crate::lines;
-use crate::lines::Line;
-use crate::memory;
-use crate::memory::BYTES;
 use lock::Lock;
 use lock::LockAnswer;
+use replay_lines::lines;
+use replay_lines::lines::Line;
+use replay_lines::memory;
+use replay_lines::memory::BYTES;
 
 // lock NAME FLOOR. A refused start leaves the lock as it was.
 fn start(lock: Lock, b: &[u8; BYTES], l: Line) -> LockAnswer {

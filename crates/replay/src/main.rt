@@ -4,15 +4,15 @@ mod boxes;
 mod deals;
 mod door;
 mod joins;
-mod lines;
-mod memory;
 mod put;
 mod states;
 
 use door::Door;
-use lines::Line;
-use memory::BYTES;
-use memory::NUMBERS;
+use replay_lines::lines;
+use replay_lines::lines::Line;
+use replay_lines::memory;
+use replay_lines::memory::BYTES;
+use replay_lines::memory::NUMBERS;
 use script::ROOM;
 
 // One more than the longest script.

@@ -1,12 +1,12 @@
 // The states before the first start, and the bytes of a state, in slot 0.
-use crate::memory;
-use crate::memory::BYTES;
 use content::Set;
 use dealer::Dealer;
 use lock::Lock;
 use node::Correction;
 use node::Key;
 use party::Party;
+use replay_lines::memory;
+use replay_lines::memory::BYTES;
 
 pub fn no_dealer() -> Dealer {
     Dealer {

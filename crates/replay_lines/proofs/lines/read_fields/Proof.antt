@@ -1,7 +1,7 @@
 use borrow.Author.Needs.{needs}
 use Prim.Native.Nat.{_-_, _≤_}
-use Rattle.replay.proofs.lines.read_fields.Statement.{statement}
-use Rattle.replay.proofs.lines.read_fields.Tie as tie
+use Rattle.replay_lines.proofs.lines.read_fields.Statement.{statement}
+use Rattle.replay_lines.proofs.lines.read_fields.Tie as tie
 
 abbrev Inv-loop : tie.InvT-loop
 Inv-loop command kinds line b₀ n f₀ ok₀ count i₀ b f ok i = 1 ≤ i

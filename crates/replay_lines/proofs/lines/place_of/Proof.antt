@@ -1,7 +1,7 @@
 use borrow.Author.Needs.{needs}
 use Prim.Native.Nat.{_-_}
-use Rattle.replay.proofs.lines.place_of.Statement.{statement}
-use Rattle.replay.proofs.lines.place_of.Tie as tie
+use Rattle.replay_lines.proofs.lines.place_of.Statement.{statement}
+use Rattle.replay_lines.proofs.lines.place_of.Tie as tie
 
 abbrev Inv-loop : tie.InvT-loop
 Inv-loop name table count i₀ i = Unit {0}

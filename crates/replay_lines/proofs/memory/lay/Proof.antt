@@ -2,8 +2,8 @@ use borrow.Author.Needs.{needs}
 use mathlib.Core.Path.{_≡_}
 use Prim.Native.Nat.{_-_}
 use lib.ListN.{length}
-use Rattle.replay.proofs.memory.lay.Statement.{statement}
-use Rattle.replay.proofs.memory.lay.Tie as tie
+use Rattle.replay_lines.proofs.memory.lay.Statement.{statement}
+use Rattle.replay_lines.proofs.memory.lay.Tie as tie
 
 abbrev Inv-loop : tie.InvT-loop
 Inv-loop b₀ slot at src from n i₀ b i = length b ≡ length b₀

@@ -2,8 +2,8 @@ use borrow.Author.Needs.{needs}
 use mathlib.Core.Path.{_≡_}
 use Prim.Native.Nat.{_-_}
 use lib.ListN.{length}
-use Rattle.replay.proofs.memory.copy_within.Statement.{statement}
-use Rattle.replay.proofs.memory.copy_within.Tie as tie
+use Rattle.replay_lines.proofs.memory.copy_within.Statement.{statement}
+use Rattle.replay_lines.proofs.memory.copy_within.Tie as tie
 
 abbrev Inv-loop : tie.InvT-loop
 Inv-loop b₀ from to n i₀ b i = length b ≡ length b₀
