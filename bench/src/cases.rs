@@ -26,6 +26,7 @@ enum Call {
         number: u64,
     },
     WholeCheck,
+    CopyState,
 }
 
 /// A masked vector would go to the words.
@@ -50,6 +51,14 @@ pub const WHOLE_CHECK: Case = Case {
     name: "whole check",
     why: 0,
     call: Call::WholeCheck,
+};
+
+/// No call, but in the time of every call on a box: once and more in ours, once in the second
+/// implementation's.
+pub const COPY_STATE: Case = Case {
+    name: "copy of a state",
+    why: 0,
+    call: Call::CopyState,
 };
 
 /// The calls of a check, in their order.
@@ -164,6 +173,10 @@ impl Call {
                 parts.check(known, C::states(states), sent);
                 let (why, word) = (0, sent.joined);
                 Said { why, word }
+            }
+            Call::CopyState => {
+                C::states(states)[PARTY].clone_from(&parts.phases[0]);
+                Said { why: 0, word: 0 }
             }
         }
     }

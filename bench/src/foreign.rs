@@ -178,6 +178,7 @@ pub mod door {
     use crate::calls::Step;
     use second::dealer::Order;
     use second::lock::Answer;
+    use second::message::Label;
     use second::{dcf, party};
 
     /// A dealer's state, as crates/dealer has it.
@@ -275,29 +276,26 @@ pub mod door {
                     Step::Mask(v, out) => {
                         door_mask(party, v.as_ptr(), v.len(), out.as_mut_ptr(), out.len())
                     }
-                    Step::Take(label, v) => door_take(
-                        party,
-                        label.kind as u32,
-                        label.name.as_ptr(),
-                        label.name.len(),
-                        label.sender as u32,
-                        label.number,
-                        v.as_ptr(),
-                        v.len(),
-                    ),
-                    Step::Finish(label, word) => door_finish(
-                        party,
-                        label.kind as u32,
-                        label.name.as_ptr(),
-                        label.name.len(),
-                        label.sender as u32,
-                        label.number,
-                        word,
-                    ),
+                    Step::Take(label, v) => {
+                        let (kind, name, len, sender, number) = apart(&label);
+                        let (v, v_len) = (v.as_ptr(), v.len());
+                        door_take(party, kind, name, len, sender, number, v, v_len)
+                    }
+                    Step::Finish(label, word) => {
+                        let (kind, name, len, sender, number) = apart(&label);
+                        door_finish(party, kind, name, len, sender, number, word)
+                    }
                     Step::Drop => door_drop(party),
                 }
             }
         }
+    }
+
+    /// Kind, name with its length, sender and number, as the functions take them.
+    fn apart(label: &Label) -> (u32, *const u8, usize, u32, u64) {
+        let (kind, sender) = (label.kind as u32, label.sender as u32);
+        let (name, name_len) = (label.name.as_ptr(), label.name.len());
+        (kind, name, name_len, sender, label.number)
     }
 
     #[link(name = "door_c", kind = "static")]
@@ -424,24 +422,14 @@ pub mod door {
 
     /// 0 or 1, or 100 plus the refusal's number.
     pub fn join(name: &[u8], last: u64, answers: [&Answer; 2]) -> u32 {
-        let [one, two] = answers.map(|answer| &answer.label);
+        let [(kind0, name0, len0, sender0, number0), (kind1, name1, len1, sender1, number1)] =
+            answers.map(|answer| apart(&answer.label));
+        let [answer0, answer1] = answers.map(|answer| answer.answer);
+        let (name, len) = (name.as_ptr(), name.len());
         unsafe {
             lock_join(
-                name.as_ptr(),
-                name.len(),
-                last,
-                one.kind as u32,
-                one.name.as_ptr(),
-                one.name.len(),
-                one.sender as u32,
-                one.number,
-                answers[0].answer,
-                two.kind as u32,
-                two.name.as_ptr(),
-                two.name.len(),
-                two.sender as u32,
-                two.number,
-                answers[1].answer,
+                name, len, last, kind0, name0, len0, sender0, number0, answer0, kind1, name1, len1,
+                sender1, number1, answer1,
             )
         }
     }

@@ -26,6 +26,9 @@ pub fn table() -> Result<Table, String> {
         calls.push((case.name, numbers.collect::<Result<Vec<_>, String>>()?));
     }
     let mut table = by_length("Instructions", "", &calls, |count| format!("{count:.0}"));
+    table
+        .notes
+        .push("second/ours: 2.00 is half as many of ours".to_string());
     table.notes.push(
         "counted by valgrind's callgrind, on which a processor without AVX-512 is seen; each \
          element that a repeated string instruction moves counts as one"

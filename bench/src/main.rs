@@ -15,7 +15,7 @@ mod report;
 mod rows;
 mod table;
 
-use cases::{Case, ACCEPTED, REFUSED, WHOLE_CHECK};
+use cases::{Case, ACCEPTED, COPY_STATE, REFUSED, WHOLE_CHECK};
 use door::Door;
 use measure::Row;
 use report::LENGTHS;
@@ -73,6 +73,7 @@ fn times() -> Result<Vec<Table>, String> {
     let operations = rows.len();
     rows.extend(ACCEPTED.iter().flat_map(|case| of_case(case, &scalar)));
     rows.extend(of_case(&WHOLE_CHECK, &euclid));
+    rows.extend(of_case(&COPY_STATE, &scalar));
     let calls = rows.len();
     rows.extend(REFUSED.iter().flat_map(|case| of_case(case, &scalar)));
     for row in &mut rows {

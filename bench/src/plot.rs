@@ -100,44 +100,73 @@ fn path(points: &[(f64, f64)], colour: &str, dashes: &str) -> String {
 fn panel(name: &str, timings: &[Timing], x: f64, y: f64) -> String {
     let microseconds = |timing: &Timing, who| timing.of(who).unwrap_or(0.0) / 1000.0;
     let times = |who| timings.iter().map(move |timing| microseconds(timing, who));
-    let most = LINES
-        .iter()
-        .flat_map(|(who, ..)| times(*who))
-        .fold(0.0, f64::max);
-    let step = step(most);
-    let top = step * (most / step).ceil();
-    let (left, bottom) = (x + PLOT_AT.0, y + PLOT_AT.1 + PLOT.1);
-    let across = |length: usize| left + PLOT.0 * length as f64 / 512.0;
-    let up = |time: f64| bottom - PLOT.1 * time / top;
-
-    let mut panel = text(left, y + 20.0, "start", 14, name);
-    for number in 0..=(top / step).round() as u32 {
-        let time = f64::from(number) * step;
-        panel += &text(left - 6.0, up(time) + 4.0, "end", 11, &decimal(time, step));
-        panel += &rule((left, up(time)), (left + PLOT.0, up(time)));
-    }
-    for length in [1, 128, 256, 384, 512] {
-        let x = across(length);
-        panel += &text(x, bottom + 16.0, "middle", 11, &length.to_string());
-        panel += &rule((x, bottom), (x, bottom + 4.0));
-    }
-    panel += &text(
-        left + PLOT.0 / 2.0,
-        bottom + 32.0,
-        "middle",
-        11,
-        "L, elements",
+    let all = LINES.iter().flat_map(|(who, ..)| times(*who));
+    let axes = Axes::new(
+        x + PLOT_AT.0,
+        y + PLOT_AT.1 + PLOT.1,
+        all.fold(0.0, f64::max),
     );
-    panel += &text(left - 6.0, y + 20.0, "end", 11, "µs");
+    let mut panel = text(axes.left, y + 20.0, "start", 14, name) + &axes.draw();
     for (who, _, colour, dashes) in LINES {
-        let points: Vec<_> = LENGTHS
-            .map(across)
-            .into_iter()
-            .zip(times(who).map(up))
-            .collect();
-        panel += &path(&points, colour, dashes);
+        let points = LENGTHS.into_iter().zip(times(who));
+        let points = points.map(|(length, time)| (axes.across(length), axes.up(time)));
+        panel += &path(&points.collect::<Vec<_>>(), colour, dashes);
     }
     panel
+}
+
+/// The axes of a panel: lengths to the right, microseconds up.
+struct Axes {
+    left: f64,
+    bottom: f64,
+    /// The time between two marks, and how many there are above 0.
+    step: f64,
+    marks: u32,
+}
+
+impl Axes {
+    fn new(left: f64, bottom: f64, most: f64) -> Axes {
+        let step = step(most);
+        let marks = (most / step).ceil() as u32;
+        Axes {
+            left,
+            bottom,
+            step,
+            marks,
+        }
+    }
+
+    fn across(&self, length: usize) -> f64 {
+        self.left + PLOT.0 * length as f64 / 512.0
+    }
+
+    fn up(&self, time: f64) -> f64 {
+        self.bottom - PLOT.1 * time / (f64::from(self.marks) * self.step)
+    }
+
+    fn draw(&self) -> String {
+        let Axes {
+            left, bottom, step, ..
+        } = *self;
+        let mut axes = text(left - 6.0, bottom - PLOT.1 - 14.0, "end", 11, "µs");
+        for time in (0..=self.marks).map(|mark| f64::from(mark) * step) {
+            let y = self.up(time);
+            axes += &text(left - 6.0, y + 4.0, "end", 11, &decimal(time, step));
+            axes += &rule((left, y), (left + PLOT.0, y));
+        }
+        for length in [1, 128, 256, 384, 512] {
+            let x = self.across(length);
+            axes += &text(x, bottom + 16.0, "middle", 11, &length.to_string());
+            axes += &rule((x, bottom), (x, bottom + 4.0));
+        }
+        axes + &text(
+            left + PLOT.0 / 2.0,
+            bottom + 32.0,
+            "middle",
+            11,
+            "L, elements",
+        )
+    }
 }
 
 fn rule(from: (f64, f64), to: (f64, f64)) -> String {

@@ -1,6 +1,6 @@
 //! The tables of times, and the lines below them that say how they came to be.
 
-use crate::cases::{ACCEPTED, REFUSED, WHOLE_CHECK};
+use crate::cases::{ACCEPTED, COPY_STATE, REFUSED, WHOLE_CHECK};
 use crate::foreign::{openssl, sodium};
 use crate::measure::{Timing, Who};
 use crate::rows::BUFFERS;
@@ -102,8 +102,8 @@ fn processor() -> String {
     format!("CPU: {name}, family {family}, model {model}, with {sets}")
 }
 
-/// A table with a line for each call, and two columns for each of `LENGTHS`: `cells` makes them of
-/// the numbers of ours and of the second implementation.
+/// A table with a line for each call, and two columns for each of `LENGTHS`: our number, and what
+/// the second implementation's is in parts of it.
 pub fn by_length(
     title: &'static str,
     unit: &str,
@@ -112,10 +112,7 @@ pub fn by_length(
 ) -> Table {
     let mut header = vec!["call".to_string()];
     for length in LENGTHS {
-        header.extend([
-            format!("L {length}: ours, {unit}"),
-            "second/ours".to_string(),
-        ]);
+        header.extend([format!("L {length}: ours{unit}"), "second/ours".to_string()]);
     }
     let mut lines = vec![header];
     for (name, numbers) in calls {
@@ -125,7 +122,7 @@ pub fn by_length(
         }
         lines.push(line);
     }
-    let notes = vec![format!("second/ours: {RATIO}")];
+    let notes = Vec::new();
     Table {
         title,
         lines,
@@ -145,18 +142,20 @@ fn pairs<'a>(names: &[&'a str], timings: &[Timing]) -> Vec<(&'a str, Vec<[f64; 2
         .collect()
 }
 
-/// The accepted calls; last the whole check under another measure.
+/// The accepted calls, then the whole check under another measure, and what a copy takes.
 pub fn accepted(timings: &[Timing]) -> Table {
     let mut names: Vec<&str> = ACCEPTED.iter().map(|case| case.name).collect();
-    names.push("whole check, squared Euclid");
+    names.extend(["whole check, squared Euclid", COPY_STATE.name]);
     let calls = pairs(&names, timings);
-    let mut table = by_length("Calls", "ns", &calls, nanoseconds);
+    let mut table = by_length("Calls", ", ns", &calls, nanoseconds);
     table.notes.extend([
+        format!("second/ours: {RATIO}"),
         "whole check: the deal, four calls of each box, the join; scalar product where nothing is \
          said"
             .to_string(),
-        "a box's state of 9,624 bytes goes in and comes out by value: the copies are in ours; a \
-         single call of the second implementation copies the state first, for the next one"
+        "a box's state of 9,624 bytes goes in and comes out by value, and is then put in its place: \
+         these copies are in ours; the second implementation works in place, on a copy that is made \
+         in the time of a single call, and once for each box in the time of a whole check"
             .to_string(),
     ]);
     for (name, numbers) in &calls {
@@ -180,7 +179,7 @@ pub fn refused(timings: &[Timing]) -> Table {
         .collect();
     let names: Vec<&str> = names.iter().map(String::as_str).collect();
     let calls = pairs(&names, timings);
-    let mut table = by_length("Refused calls", "ns", &calls, nanoseconds);
+    let mut table = by_length("Refused calls", ", ns", &calls, nanoseconds);
     let slow = |(_, numbers): &&(&str, Vec<[f64; 2]>)| {
         numbers.iter().any(|[ours, _]| *ours >= REFUSED_AIM)
     };
