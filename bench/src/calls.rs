@@ -66,15 +66,13 @@ impl Calls for Ours {
     }
 
     fn step(party: &mut ours::PartyAnswer, step: Step) -> Said {
-        *party = party.step(step);
-        let ours::PartyAnswer { why, word, .. } = *party;
-        Said { why, word }
+        party.step(step);
+        said(party)
     }
 
     fn step_to(party: &ours::PartyAnswer, next: &mut ours::PartyAnswer, step: Step) -> Said {
-        *next = party.step(step);
-        let ours::PartyAnswer { why, word, .. } = *next;
-        Said { why, word }
+        party.step_to(next, step);
+        said(next)
     }
 
     fn join(name: &[u8], last: u64, answers: [&Answer; 2]) -> u32 {
@@ -85,6 +83,11 @@ impl Calls for Ours {
         states.last = Some(Who::Ours);
         &mut states.ours
     }
+}
+
+fn said(answer: &ours::PartyAnswer) -> Said {
+    let ours::PartyAnswer { why, word, .. } = *answer;
+    Said { why, word }
 }
 
 pub struct Second;

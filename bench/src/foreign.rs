@@ -180,6 +180,7 @@ pub mod door {
     use second::lock::Answer;
     use second::message::Label;
     use second::{dcf, party};
+    use std::mem::MaybeUninit;
 
     /// A dealer's state, as crates/dealer has it.
     #[repr(C)]
@@ -267,26 +268,40 @@ pub mod door {
             }
         }
 
-        /// The answer to a call on the state. The state is handed over by value: it stays as it is.
-        pub fn step(&self, step: Step) -> PartyAnswer {
-            let party = self.party;
+        /// A call as a host makes it: the answer's state takes the place of this one.
+        pub fn step(&mut self, step: Step) {
+            let mut answer = MaybeUninit::uninit();
             unsafe {
-                match step {
-                    Step::Load(half) => door_load(party, half.as_ptr(), half.len()),
-                    Step::Mask(v, out) => {
-                        door_mask(party, v.as_ptr(), v.len(), out.as_mut_ptr(), out.len())
-                    }
-                    Step::Take(label, v) => {
-                        let (kind, name, len, sender, number) = apart(&label);
-                        let (v, v_len) = (v.as_ptr(), v.len());
-                        door_take(party, kind, name, len, sender, number, v, v_len)
-                    }
-                    Step::Finish(label, word) => {
-                        let (kind, name, len, sender, number) = apart(&label);
-                        door_finish(party, kind, name, len, sender, number, word)
-                    }
-                    Step::Drop => door_drop(party),
+                self.answer(answer.as_mut_ptr(), step);
+                *self = answer.assume_init();
+            }
+        }
+
+        /// The same, but the answer is left elsewhere.
+        pub fn step_to(&self, next: &mut PartyAnswer, step: Step) {
+            unsafe { self.answer(next, step) }
+        }
+
+        /// Writes the whole answer: there must be room for it, and it may be uninitialised. The
+        /// state is handed over by value and stays as it is.
+        unsafe fn answer(&self, answer: *mut PartyAnswer, step: Step) {
+            let party = self.party;
+            match step {
+                Step::Load(half) => door_load(answer, party, half.as_ptr(), half.len()),
+                Step::Mask(v, out) => {
+                    let (out, out_len) = (out.as_mut_ptr(), out.len());
+                    door_mask(answer, party, v.as_ptr(), v.len(), out, out_len)
                 }
+                Step::Take(label, v) => {
+                    let (kind, name, len, sender, number) = apart(&label);
+                    let (v, v_len) = (v.as_ptr(), v.len());
+                    door_take(answer, party, kind, name, len, sender, number, v, v_len)
+                }
+                Step::Finish(label, word) => {
+                    let (kind, name, len, sender, number) = apart(&label);
+                    door_finish(answer, party, kind, name, len, sender, number, word)
+                }
+                Step::Drop => door_drop(answer, party),
             }
         }
     }
@@ -298,6 +313,8 @@ pub mod door {
         (kind, name, name_len, sender, label.number)
     }
 
+    // On x86-64 the place of a large answer is a hidden first argument. It is said here where a box
+    // is called, since rustc would have a copy made of the answer that a C compiler need not make.
     #[link(name = "door_c", kind = "static")]
     extern "C" {
         fn door_start_dealer(
@@ -330,15 +347,17 @@ pub mod door {
             key_len: usize,
             floor: u64,
         ) -> PartyAnswer;
-        fn door_load(party: Party, half: *const u8, half_len: usize) -> PartyAnswer;
+        fn door_load(answer: *mut PartyAnswer, party: Party, half: *const u8, half_len: usize);
         fn door_mask(
+            answer: *mut PartyAnswer,
             party: Party,
             v: *const u32,
             v_len: usize,
             out: *mut u32,
             out_len: usize,
-        ) -> PartyAnswer;
+        );
         fn door_take(
+            answer: *mut PartyAnswer,
             party: Party,
             kind: u32,
             name: *const u8,
@@ -347,8 +366,9 @@ pub mod door {
             number: u64,
             v: *const u32,
             v_len: usize,
-        ) -> PartyAnswer;
+        );
         fn door_finish(
+            answer: *mut PartyAnswer,
             party: Party,
             kind: u32,
             name: *const u8,
@@ -356,8 +376,8 @@ pub mod door {
             sender: u32,
             number: u64,
             word: u32,
-        ) -> PartyAnswer;
-        fn door_drop(party: Party) -> PartyAnswer;
+        );
+        fn door_drop(answer: *mut PartyAnswer, party: Party);
     }
 
     #[link(name = "lock_c", kind = "static")]

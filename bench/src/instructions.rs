@@ -25,7 +25,8 @@ pub fn table() -> Result<Table, String> {
         });
         calls.push((case.name, numbers.collect::<Result<Vec<_>, String>>()?));
     }
-    let mut table = by_length("Instructions", "", &calls, |count| format!("{count:.0}"));
+    let cells = |[ours, second]: [f64; 2]| [format!("{ours:.0}"), format!("{:.2}", second / ours)];
+    let mut table = by_length("Instructions", ["ours", "second/ours"], &calls, cells);
     table
         .notes
         .push("second/ours: 2.00 is half as many of ours".to_string());

@@ -102,24 +102,22 @@ fn processor() -> String {
     format!("CPU: {name}, family {family}, model {model}, with {sets}")
 }
 
-/// A table with a line for each call, and two columns for each of `LENGTHS`: our number, and what
-/// the second implementation's is in parts of it.
+/// A table with a line for each call, and for each of `LENGTHS` two columns of these names, which
+/// `cells` makes of our number and the second implementation's.
 pub fn by_length(
     title: &'static str,
-    unit: &str,
+    names: [&str; 2],
     calls: &[(&str, Vec<[f64; 2]>)],
-    cell: fn(f64) -> String,
+    cells: fn([f64; 2]) -> [String; 2],
 ) -> Table {
     let mut header = vec!["call".to_string()];
     for length in LENGTHS {
-        header.extend([format!("L {length}: ours{unit}"), "second/ours".to_string()]);
+        header.extend([format!("L {length}: {}", names[0]), names[1].to_string()]);
     }
     let mut lines = vec![header];
     for (name, numbers) in calls {
         let mut line = vec![name.to_string()];
-        for [ours, second] in numbers {
-            line.extend([cell(*ours), format!("{:.2}", second / ours)]);
-        }
+        line.extend(numbers.iter().flat_map(|pair| cells(*pair)));
         lines.push(line);
     }
     let notes = Vec::new();
@@ -147,15 +145,19 @@ pub fn accepted(timings: &[Timing]) -> Table {
     let mut names: Vec<&str> = ACCEPTED.iter().map(|case| case.name).collect();
     names.extend(["whole check, squared Euclid", COPY_STATE.name]);
     let calls = pairs(&names, timings);
-    let mut table = by_length("Calls", ", ns", &calls, nanoseconds);
+    let names = ["ours, ns", "second/ours"];
+    let cells = |[ours, second]: [f64; 2]| [nanoseconds(ours), format!("{:.2}", second / ours)];
+    let mut table = by_length("Calls", names, &calls, cells);
     table.notes.extend([
         format!("second/ours: {RATIO}"),
         "whole check: the deal, four calls of each box, the join; scalar product where nothing is \
          said"
             .to_string(),
-        "a box's state of 9,624 bytes goes in and comes out by value, and is then put in its place: \
-         these copies are in ours; the second implementation works in place, on a copy that is made \
-         in the time of a single call, and once for each box in the time of a whole check"
+        "a box's state of 9,624 bytes goes in and comes out by value: these copies are in ours, and in \
+         a whole check also the one by which a host puts the next state in the place of the last"
+            .to_string(),
+        "the second implementation works in place, on a copy of the state, which is in the time of a \
+         single call, and once for each box in that of a whole check"
             .to_string(),
     ]);
     for (name, numbers) in &calls {
@@ -179,7 +181,10 @@ pub fn refused(timings: &[Timing]) -> Table {
         .collect();
     let names: Vec<&str> = names.iter().map(String::as_str).collect();
     let calls = pairs(&names, timings);
-    let mut table = by_length("Refused calls", ", ns", &calls, nanoseconds);
+    let columns = ["ours, ns", "second, ns"];
+    let mut table = by_length("Refused calls", columns, &calls, |pair| {
+        pair.map(nanoseconds)
+    });
     let slow = |(_, numbers): &&(&str, Vec<[f64; 2]>)| {
         numbers.iter().any(|[ours, _]| *ours >= REFUSED_AIM)
     };
@@ -187,6 +192,9 @@ pub fn refused(timings: &[Timing]) -> Table {
     table.notes.extend([
         format!("aim: under {REFUSED_AIM} ns; over it: {}", listed(&slow)),
         "a load with a bad tag opens every block before it answers, so that its time tells nothing"
+            .to_string(),
+        "a box's state goes in and comes out by value in ours; the second implementation works in \
+         place, and has one copy of the state in its time"
             .to_string(),
     ]);
     table
