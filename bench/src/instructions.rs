@@ -1,6 +1,6 @@
 //! How many instructions a call takes, as valgrind counts them.
 
-use crate::cases::{Case, ACCEPTED};
+use crate::cases::{Case, ACCEPTED, REFUSED};
 use crate::door::Door;
 use crate::measure::Who;
 use crate::report::{by_length, LENGTHS};
@@ -70,7 +70,8 @@ fn of_run(call: &str, length: usize, who: &str, calls: u32) -> Result<u64, Strin
 /// One call some times, and nothing else that depends on how often: what valgrind runs.
 pub fn once(call: &str, length: &str, who: &str, calls: &str) -> Result<(), String> {
     let found = |case: &&Case| case.name == call;
-    let case = ACCEPTED.iter().find(found).ok_or("no such call")?;
+    let mut cases = ACCEPTED.iter().chain(&REFUSED);
+    let case = cases.find(found).ok_or("no such call")?;
     let length: usize = length.parse().map_err(|_| "L is a number")?;
     let calls: u32 = calls.parse().map_err(|_| "a count is a number")?;
     let (who, _) = WHOS
