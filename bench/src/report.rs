@@ -191,8 +191,7 @@ pub fn refused(timings: &[Timing]) -> Table {
     let slow: Vec<&str> = calls.iter().filter(slow).map(|(name, _)| *name).collect();
     table.notes.extend([
         format!("aim: under {REFUSED_AIM} ns; over it: {}", listed(&slow)),
-        "a load with a bad tag opens every block before it answers, so that its time tells nothing"
-            .to_string(),
+        "a load with a bad tag tests every block before it answers, whichever it is".to_string(),
         "a box's state goes in and comes out by value in ours; the second implementation works in \
          place, and has one copy of the state in its time"
             .to_string(),
