@@ -9,7 +9,12 @@ fn main() {
     let folder = Path::new(&bench).join("../target/staticlib");
     println!("cargo:rustc-link-search=native={}", folder.display());
     // Cargo does not look into archives: without this line a new one would not be linked.
-    for name in ["libcipher_c.a", "libcheck_c.a", "libdoor_c.a"] {
+    for name in [
+        "libcipher_c.a",
+        "libcheck_c.a",
+        "libdoor_c.a",
+        "liblock_c.a",
+    ] {
         let archive = folder.join(name);
         println!("cargo:rerun-if-changed={}", archive.display());
     }

@@ -1,138 +1,249 @@
-//! The rows of the door's calls: a deal, and the load that examines a half.
+//! A check at a door from the deal to the join, and the states and messages on its way.
 
-use crate::foreign::door as ours;
-use crate::measure::{row, way, Row, Who};
+use crate::calls::{Calls, Ours, Second, States, Step};
+use crate::foreign::Key;
 use second::content;
-use second::dealer::{Dealer, Order};
+use second::dealer::Order;
+use second::lock::Answer;
 use second::measure::Measure;
-use second::party::Party;
+use second::message::{Label, ANSWER, MASKED_VECTOR, WORD};
+use second::sample::Source;
 use second::sealed::BLOCK_BYTES;
 use std::hint::black_box;
+use std::mem::take;
 
 const NAME: &[u8] = b"Hut 4";
-const FLOOR: u64 = 10;
-const LENGTHS: [usize; 2] = [128, 512];
+const PADDED: &[u8; 16] = b"Hut 4\0\0\0\0\0\0\0\0\0\0\0";
 
-/// The party that loads.
-const PARTY: usize = 1;
+/// Every part has spent this number.
+pub const FLOOR: u64 = 10;
+pub const NUMBER: u64 = FLOOR + 1;
 
-type Key = [u8; 32];
+/// The box whose calls are timed one by one: it adds one sum of products more.
+pub const PARTY: usize = 1;
+pub const OTHER: usize = 1 - PARTY;
 
-/// The input of the rows of one length.
-pub struct Door {
+/// What a check is about.
+pub struct Input {
+    measure: Measure,
+    length: usize,
     keys: [Key; 2],
     seed: Key,
-    length: usize,
-    /// What the second implementation deals.
-    halves: [Vec<u8>; 2],
+    vectors: [Vec<u32>; 2],
 }
 
-impl Door {
-    pub fn new(length: usize) -> Door {
-        let bytes = BLOCK_BYTES * content::blocks(length);
-        let mut door = Door {
+impl Input {
+    fn new(measure: Measure, length: usize) -> Input {
+        let mut source = Source(0);
+        let mut vector = || source.vector(measure, length).into_iter();
+        let input = Input {
+            measure,
+            length,
             keys: [[1; 32], [2; 32]],
             seed: [3; 32],
-            length,
-            halves: [vec![0; bytes], vec![0; bytes]],
+            vectors: [(); 2].map(|()| vector().map(|x| x as u32).collect()),
         };
-        let mut halves = door.halves.clone();
-        let [half0, half1] = &mut halves;
-        let dealt = door.dealer().deal(&door.order(), [half0, half1]);
-        dealt.expect("the order is in range");
-        door.halves = halves;
         // The compiler must not know the keys.
-        black_box(door)
+        black_box(input)
     }
 
-    fn dealer(&self) -> Dealer {
-        let [key0, key1] = &self.keys;
-        Dealer::start(NAME, FLOOR, [key0, key1]).expect("a good start")
-    }
-
-    fn order(&self) -> Order<'_> {
+    pub fn order(&self, threshold: u32) -> Order<'_> {
         Order {
-            code: Measure::Euclid.code().into(),
+            code: self.measure.code().into(),
             length: self.length as u64,
-            threshold: 1000,
-            number: FLOOR + 1,
+            threshold,
+            number: NUMBER,
             seed: &self.seed,
         }
     }
 
-    fn party(&self) -> Party {
-        Party::start(NAME, PARTY as u64, &self.keys[PARTY], FLOOR).expect("a good start")
+    fn boxes<C: Calls>(&self) -> [C::Party; 2] {
+        [0, 1].map(|party| C::start_party(NAME, party, &self.keys[party], FLOOR))
     }
 }
 
-/// The input of all rows.
-pub fn doors() -> [Door; 2] {
-    LENGTHS.map(Door::new)
+/// What goes from part to part in a check, at each place that of party 0 and that of party 1.
+#[derive(Clone, PartialEq)]
+pub struct Sent {
+    pub halves: [Vec<u8>; 2],
+    pub masked: [Vec<u32>; 2],
+    pub words: [u32; 2],
+    pub answers: [u32; 2],
+    pub joined: u32,
 }
 
-/// All rows, in the order of the table.
-pub fn rows(doors: &[Door; 2]) -> Vec<Box<dyn Row + '_>> {
-    let deals = doors.iter().map(deal);
-    deals.chain(doors.iter().map(load)).collect()
-}
-
-/// Both halves of a set, each into its buffer, which is not cleared.
-fn deal(door: &Door) -> Box<dyn Row + '_> {
-    let name = format!("deal a set, L {}", door.length);
-    let buffers = [(); 2].map(|()| vec![0; door.halves[0].len()]);
-    let (ours, second) = (ours::start_dealer(NAME, FLOOR, &door.keys), door.dealer());
-    let order = door.order();
-    let ways = vec![
-        way(Who::Ours, move |[half0, half1]: &mut [Vec<u8>; 2]| {
-            ours::deal(&ours, &order, [half0, half1])
-        }),
-        way(Who::Second, move |[half0, half1]: &mut [Vec<u8>; 2]| {
-            let dealt = second.clone().deal(&order, [half0, half1]);
-            dealt.expect("the order is in range")
-        }),
-    ];
-    row(&name, buffers, ways)
-}
-
-/// The buffer of a load: each implementation leaves the state as it has it.
-#[derive(Clone)]
-enum Loaded {
-    Nothing,
-    Ours(ours::Party),
-    Second(Party),
-}
-
-impl Loaded {
-    fn plain(&self) -> Option<Party> {
-        match self {
-            Loaded::Nothing => None,
-            Loaded::Ours(party) => Some(party.plain()),
-            Loaded::Second(party) => Some(party.clone()),
+impl Sent {
+    /// Room for all of it.
+    pub fn nothing(length: usize) -> Sent {
+        let bytes = BLOCK_BYTES * content::blocks(length);
+        Sent {
+            halves: [(); 2].map(|()| vec![0; bytes]),
+            masked: [(); 2].map(|()| vec![0; length]),
+            words: [0; 2],
+            answers: [0; 2],
+            joined: 0,
         }
     }
-}
 
-impl PartialEq for Loaded {
-    fn eq(&self, other: &Loaded) -> bool {
-        self.plain() == other.plain()
+    /// What the lock is handed.
+    fn join<C: Calls>(&self, number: u64) -> u32 {
+        let [one, two] = [0, 1].map(|sender| Answer {
+            label: Label {
+                number,
+                ..label(ANSWER, sender)
+            },
+            answer: self.answers[sender],
+        });
+        C::join(PADDED, FLOOR, [&one, &two])
     }
 }
 
-/// A half examined and opened into a box's state, which is copied in every call.
-fn load(door: &Door) -> Box<dyn Row + '_> {
-    let name = format!("load a half, L {}", door.length);
-    let half = &door.halves[PARTY];
-    let ours = ours::start_party(NAME, PARTY as u32, &door.keys[PARTY], FLOOR);
-    let second = door.party();
-    let ways = vec![
-        way(Who::Ours, move |loaded| {
-            *loaded = Loaded::Ours(ours::load(&ours, half))
-        }),
-        way(Who::Second, move |loaded| {
-            let mut party = second.clone();
-            party.load(half).expect("the half is good");
-            *loaded = Loaded::Second(party)
-        }),
-    ];
-    row(&name, Loaded::Nothing, ways)
+pub fn label(kind: u64, sender: usize) -> Label<'static> {
+    Label {
+        kind,
+        name: PADDED,
+        sender: sender as u64,
+        number: NUMBER,
+    }
+}
+
+/// What a box is handed in one of the four calls of a check, counted from 0.
+fn step<'a>(
+    call: usize,
+    party: usize,
+    input: &'a Input,
+    sent: &'a Sent,
+    out: &'a mut [u32],
+) -> Step<'a> {
+    let other = 1 - party;
+    match call {
+        0 => Step::Load(&sent.halves[party]),
+        1 => Step::Mask(&input.vectors[party], out),
+        2 => Step::Take(label(MASKED_VECTOR, other), &sent.masked[other]),
+        _ => Step::Finish(label(WORD, other), sent.words[other]),
+    }
+}
+
+/// A whole check, as four hosts do it: the deal, the four calls of both boxes, the join.
+fn check<C: Calls>(input: &Input, dealer: &C::Dealer, boxes: &mut [C::Party; 2], sent: &mut Sent) {
+    let [half0, half1] = &mut sent.halves;
+    let why = C::deal(dealer, &input.order(THRESHOLD), [half0, half1]);
+    assert_eq!(why, 0, "a check's deal");
+    for call in 0..4 {
+        for party in 0..2 {
+            // Taken out, since the other messages are read meanwhile.
+            let mut out = take(&mut sent.masked[party]);
+            let said = C::step(&mut boxes[party], step(call, party, input, sent, &mut out));
+            assert_eq!(said.why, 0, "a check's call");
+            sent.masked[party] = out;
+            match call {
+                2 => sent.words[party] = said.word,
+                3 => sent.answers[party] = said.word,
+                _ => {}
+            }
+        }
+    }
+    sent.joined = sent.join::<C>(NUMBER);
+    assert!(sent.joined < 2, "a check's join");
+}
+
+/// In the range of every measure.
+pub const THRESHOLD: u32 = 500;
+
+/// All that a call may be handed: the messages of a good check, and some that are refused.
+pub struct Known {
+    pub input: Input,
+    pub sent: Sent,
+    /// A half with a spent number, one with a bad last tag, and a vector with a bad last element.
+    pub spent: Vec<u8>,
+    pub broken: Vec<u8>,
+    pub wide: Vec<u32>,
+}
+
+impl Known {
+    fn new(input: Input) -> Known {
+        let mut sent = Sent::nothing(input.length);
+        let dealer = Second::start_dealer(NAME, FLOOR, &input.keys);
+        check::<Second>(&input, &dealer, &mut input.boxes::<Second>(), &mut sent);
+        let mut spent = sent.halves[PARTY].clone();
+        spent[..8].copy_from_slice(&FLOOR.to_le_bytes());
+        let mut broken = sent.halves[PARTY].clone();
+        *broken.last_mut().expect("a half has bytes") ^= 1;
+        let mut wide = input.vectors[PARTY].clone();
+        *wide.last_mut().expect("a vector has elements") = 1024;
+        Known {
+            input,
+            sent,
+            spent,
+            broken,
+            wide,
+        }
+    }
+
+    /// What the timed box is handed in one of the four calls, counted from 0.
+    pub fn step<'a>(&'a self, call: usize, out: &'a mut [u32]) -> Step<'a> {
+        step(call, PARTY, &self.input, &self.sent, out)
+    }
+
+    pub fn join<C: Calls>(&self, number: u64) -> u32 {
+        self.sent.join::<C>(number)
+    }
+}
+
+/// The parts of one implementation.
+pub struct Parts<C: Calls> {
+    pub dealer: C::Dealer,
+    pub started: [C::Party; 2],
+    /// The timed box after so many of the four calls.
+    pub phases: [C::Party; 4],
+}
+
+impl<C: Calls> Parts<C> {
+    fn new(known: &Known) -> Parts<C> {
+        let started = known.input.boxes::<C>();
+        let mut party = started[PARTY].clone();
+        let mut out = vec![0; known.input.length];
+        let phases = [0, 1, 2, 3].map(|phase| {
+            if phase > 0 {
+                let said = C::step(&mut party, known.step(phase - 1, &mut out));
+                assert_eq!(said.why, 0, "a call on the way");
+            }
+            party.clone()
+        });
+        Parts {
+            dealer: C::start_dealer(NAME, FLOOR, &known.input.keys),
+            started,
+            phases,
+        }
+    }
+
+    /// A whole check, from the starts.
+    pub fn check(&self, known: &Known, boxes: &mut [C::Party; 2], sent: &mut Sent) {
+        boxes.clone_from(&self.started);
+        check::<C>(&known.input, &self.dealer, boxes, sent);
+    }
+}
+
+/// All that the calls of one measure and one length need.
+pub struct Door {
+    pub length: usize,
+    pub known: Known,
+    pub ours: Parts<Ours>,
+    pub second: Parts<Second>,
+}
+
+impl Door {
+    pub fn new(measure: Measure, length: usize) -> Door {
+        let known = Known::new(Input::new(measure, length));
+        Door {
+            length,
+            ours: Parts::new(&known),
+            second: Parts::new(&known),
+            known,
+        }
+    }
+
+    pub fn states(&self) -> States {
+        States::new(&self.ours.started, &self.second.started)
+    }
 }

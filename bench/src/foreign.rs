@@ -1,4 +1,5 @@
-//! The functions of C that are timed, each behind a safe one: the only unsafe code of the program.
+//! The functions of C that are timed, each behind a safe one, and a look at the stack below a call:
+//! the only unsafe code of the program.
 
 #![allow(unsafe_code)]
 
@@ -170,12 +171,16 @@ pub mod ours {
     }
 }
 
-/// The verified calls of dealer and box: crates/door_c.
+/// The verified calls of dealer, box and lock: crates/door_c and crates/lock_c.
 pub mod door {
     use super::ours::ComparisonKey;
     use super::*;
+    use crate::calls::Step;
     use second::dealer::Order;
+    use second::lock::Answer;
+    use second::message::Label;
     use second::{dcf, party};
+    use std::mem::MaybeUninit;
 
     /// A dealer's state, as crates/dealer has it.
     #[repr(C)]
@@ -188,15 +193,15 @@ pub mod door {
     }
 
     #[repr(C)]
-    struct DealerAnswer {
-        why: u32,
+    pub struct DealerAnswer {
+        pub why: u32,
         dealer: Dealer,
     }
 
     /// An opened set, as crates/content has it.
     #[repr(C)]
     #[derive(Clone, Copy)]
-    struct Set {
+    pub struct Set {
         number: u64,
         code: u32,
         n: usize,
@@ -224,23 +229,25 @@ pub mod door {
         word: u32,
     }
 
+    /// What a call on a box answers: the next state is in it.
     #[repr(C)]
-    struct PartyAnswer {
-        why: u32,
+    #[derive(Clone, Copy)]
+    pub struct PartyAnswer {
+        pub why: u32,
         party: Party,
-        word: u32,
+        pub word: u32,
     }
 
-    impl Party {
-        /// The same state as the second implementation has it.
+    impl PartyAnswer {
+        /// The state as the second implementation has it.
         pub fn plain(&self) -> party::Party {
-            let set = &self.set;
+            let Party { set, .. } = &self.party;
             party::Party {
-                name: self.name,
-                party: self.party,
-                key: self.key,
-                last: self.last,
-                phase: self.phase,
+                name: self.party.name,
+                party: self.party.party,
+                key: self.party.key,
+                last: self.party.last,
+                phase: self.party.phase,
                 set: party::OpenSet {
                     number: set.number,
                     code: set.code,
@@ -254,14 +261,60 @@ pub mod door {
                     key: set.key.plain(),
                 },
                 check: party::Check {
-                    masked: self.masked,
-                    own: self.own,
-                    word: self.word,
+                    masked: self.party.masked,
+                    own: self.party.own,
+                    word: self.party.word,
                 },
+            }
+        }
+
+        /// A call as a host makes it: the answer's state takes the place of this one.
+        pub fn step(&mut self, step: Step) {
+            let mut answer = MaybeUninit::uninit();
+            unsafe {
+                self.answer(answer.as_mut_ptr(), step);
+                *self = answer.assume_init();
+            }
+        }
+
+        /// The same, but the answer is left elsewhere.
+        pub fn step_to(&self, next: &mut PartyAnswer, step: Step) {
+            unsafe { self.answer(next, step) }
+        }
+
+        /// Writes the whole answer: there must be room for it, and it may be uninitialised. The
+        /// state is handed over by value and stays as it is.
+        unsafe fn answer(&self, answer: *mut PartyAnswer, step: Step) {
+            let party = self.party;
+            match step {
+                Step::Load(half) => door_load(answer, party, half.as_ptr(), half.len()),
+                Step::Mask(v, out) => {
+                    let (out, out_len) = (out.as_mut_ptr(), out.len());
+                    door_mask(answer, party, v.as_ptr(), v.len(), out, out_len)
+                }
+                Step::Take(label, v) => {
+                    let (kind, name, len, sender, number) = apart(&label);
+                    let (v, v_len) = (v.as_ptr(), v.len());
+                    door_take(answer, party, kind, name, len, sender, number, v, v_len)
+                }
+                Step::Finish(label, word) => {
+                    let (kind, name, len, sender, number) = apart(&label);
+                    door_finish(answer, party, kind, name, len, sender, number, word)
+                }
+                Step::Drop => door_drop(answer, party),
             }
         }
     }
 
+    /// Kind, name with its length, sender and number, as the functions take them.
+    fn apart(label: &Label) -> (u32, *const u8, usize, u32, u64) {
+        let (kind, sender) = (label.kind as u32, label.sender as u32);
+        let (name, name_len) = (label.name.as_ptr(), label.name.len());
+        (kind, name, name_len, sender, label.number)
+    }
+
+    // On x86-64 the place of a large answer is a hidden first argument. It is said here where a box
+    // is called, since rustc would have a copy made of the answer that a C compiler need not make.
     #[link(name = "door_c", kind = "static")]
     extern "C" {
         fn door_start_dealer(
@@ -294,7 +347,58 @@ pub mod door {
             key_len: usize,
             floor: u64,
         ) -> PartyAnswer;
-        fn door_load(party: Party, half: *const u8, half_len: usize) -> PartyAnswer;
+        fn door_load(answer: *mut PartyAnswer, party: Party, half: *const u8, half_len: usize);
+        fn door_mask(
+            answer: *mut PartyAnswer,
+            party: Party,
+            v: *const u32,
+            v_len: usize,
+            out: *mut u32,
+            out_len: usize,
+        );
+        fn door_take(
+            answer: *mut PartyAnswer,
+            party: Party,
+            kind: u32,
+            name: *const u8,
+            name_len: usize,
+            sender: u32,
+            number: u64,
+            v: *const u32,
+            v_len: usize,
+        );
+        fn door_finish(
+            answer: *mut PartyAnswer,
+            party: Party,
+            kind: u32,
+            name: *const u8,
+            name_len: usize,
+            sender: u32,
+            number: u64,
+            word: u32,
+        );
+        fn door_drop(answer: *mut PartyAnswer, party: Party);
+    }
+
+    #[link(name = "lock_c", kind = "static")]
+    extern "C" {
+        fn lock_join(
+            name: *const u8,
+            name_len: usize,
+            last: u64,
+            kind0: u32,
+            name0: *const u8,
+            name0_len: usize,
+            sender0: u32,
+            number0: u64,
+            answer0: u32,
+            kind1: u32,
+            name1: *const u8,
+            name1_len: usize,
+            sender1: u32,
+            number1: u64,
+            answer1: u32,
+        ) -> u32;
     }
 
     pub fn start_dealer(name: &[u8], floor: u64, keys: &[Key; 2]) -> Dealer {
@@ -305,8 +409,8 @@ pub mod door {
         answer.dealer
     }
 
-    /// Writes both halves; the next state is not wanted.
-    pub fn deal(dealer: &Dealer, order: &Order, out: [&mut [u8]; 2]) {
+    /// Writes both halves, and answers why not.
+    pub fn deal(dealer: &Dealer, order: &Order, out: [&mut [u8]; 2]) -> u32 {
         let (code, length) = (order.code as u32, order.length as usize);
         let (seed, seed_len) = (order.seed.as_ptr(), order.seed.len());
         let [(out0, out0_len), (out1, out1_len)] = out.map(|out| (out.as_mut_ptr(), out.len()));
@@ -325,21 +429,78 @@ pub mod door {
                 out1_len,
             )
         };
-        assert_eq!(answer.why, 0, "door_deal");
+        answer.why
     }
 
-    pub fn start_party(name: &[u8], party: u32, key: &Key, floor: u64) -> Party {
+    pub fn start_party(name: &[u8], party: u32, key: &Key, floor: u64) -> PartyAnswer {
         let (name, name_len) = (name.as_ptr(), name.len());
         let (key, key_len) = (key.as_ptr(), key.len());
         let answer = unsafe { door_start_party(name, name_len, party, key, key_len, floor) };
         assert_eq!(answer.why, 0, "door_start_party");
-        answer.party
+        answer
     }
 
-    pub fn load(party: &Party, half: &[u8]) -> Party {
-        let answer = unsafe { door_load(*party, half.as_ptr(), half.len()) };
-        assert_eq!(answer.why, 0, "door_load");
-        answer.party
+    /// 0 or 1, or 100 plus the refusal's number.
+    pub fn join(name: &[u8], last: u64, answers: [&Answer; 2]) -> u32 {
+        let [(kind0, name0, len0, sender0, number0), (kind1, name1, len1, sender1, number1)] =
+            answers.map(|answer| apart(&answer.label));
+        let [answer0, answer1] = answers.map(|answer| answer.answer);
+        let (name, len) = (name.as_ptr(), name.len());
+        unsafe {
+            lock_join(
+                name, len, last, kind0, name0, len0, sender0, number0, answer0, kind1, name1, len1,
+                sender1, number1, answer1,
+            )
+        }
+    }
+
+    /// The structs of the calls, with their sizes in bytes.
+    pub const SIZES: [(&str, usize); 5] = [
+        ("door_dealer", size_of::<Dealer>()),
+        ("door_dealer_answer", size_of::<DealerAnswer>()),
+        ("door_set", size_of::<Set>()),
+        ("door_party", size_of::<Party>()),
+        ("door_party_answer", size_of::<PartyAnswer>()),
+    ];
+}
+
+/// How much of the stack a call takes.
+pub mod stack {
+    use std::arch::asm;
+    use std::hint::black_box;
+
+    /// What is painted below the frame of `depth`; no call goes so deep.
+    const PAINTED: usize = 512 * 1024;
+
+    /// What a thread must have so that `depth` may be called on it.
+    pub const ROOM: usize = 8 * PAINTED;
+
+    /// A function may use so much below its stack pointer.
+    const RED_ZONE: usize = 128;
+
+    const PAINT: u64 = 0xA5C3_96E1_5A3C_691E;
+
+    /// The bytes of stack from here down to the lowest that the call has written to. The thread
+    /// must have `ROOM` bytes of stack, most of them unused.
+    #[inline(never)]
+    pub fn depth(call: &mut dyn FnMut()) -> usize {
+        let here: usize;
+        unsafe { asm!("mov {}, rsp", out(reg) here, options(nomem, nostack)) };
+        let top = (here - RED_ZONE) / 8 * 8;
+        let bottom = top - PAINTED;
+        let mut word = bottom;
+        while word < top {
+            // Volatile, as are the reads: the compiler knows nothing of these words.
+            unsafe { (word as *mut u64).write_volatile(PAINT) };
+            word += 8;
+        }
+        black_box(call)();
+        let mut lowest = bottom;
+        while lowest < top && unsafe { (lowest as *const u64).read_volatile() } == PAINT {
+            lowest += 8;
+        }
+        assert!(lowest > bottom, "the call goes deeper than what is painted");
+        here - lowest
     }
 }
 

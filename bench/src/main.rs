@@ -2,23 +2,44 @@
 
 #![deny(unsafe_code)]
 
+mod calls;
+mod cases;
 mod check;
 mod door;
 mod foreign;
+mod instructions;
 mod measure;
+mod memory;
+mod plot;
 mod report;
 mod rows;
+mod table;
 
+use cases::{Case, ACCEPTED, COPY_STATE, REFUSED, WHOLE_CHECK};
+use door::Door;
+use measure::Row;
+use report::LENGTHS;
+use second::measure::Measure;
 use std::process::ExitCode;
+use table::{Style, Table};
 
-const USAGE: &str = "usage: bench/run [--markdown]";
+const USAGE: &str = "usage: bench/run [--instructions] [--markdown], or bench/run --plot";
+
+/// How often each row has its turn; a row that takes long in a turn has fewer.
+const ROUNDS: usize = 3000;
 
 fn main() -> ExitCode {
     let arguments: Vec<String> = std::env::args().skip(1).collect();
     let names: Vec<&str> = arguments.iter().map(String::as_str).collect();
     let result = match names[..] {
-        [] => run().map(|report| report.plain()),
-        ["--markdown"] => run().map(|report| report.markdown()),
+        [] => times().map(|tables| text(&tables, Style::Plain)),
+        ["--markdown"] => times().map(|tables| text(&tables, Style::Markdown)),
+        ["--instructions"] => counts(Style::Plain),
+        ["--instructions", "--markdown"] => counts(Style::Markdown),
+        ["--plot"] => plot::write(),
+        ["--once", call, length, who, calls] => {
+            instructions::once(call, length, who, calls).map(|()| String::new())
+        }
         _ => Err(USAGE.to_string()),
     };
     match result {
@@ -33,15 +54,42 @@ fn main() -> ExitCode {
     }
 }
 
+fn text(tables: &[Table], style: Style) -> String {
+    let texts: Vec<String> = tables.iter().map(|table| table.text(style)).collect();
+    texts.join("\n")
+}
+
+fn counts(style: Style) -> Result<String, String> {
+    instructions::table().map(|table| table.text(style))
+}
+
 /// Nothing is timed before all rows are checked: a wrong answer has no speed.
-fn run() -> Result<report::Report, String> {
+fn times() -> Result<Vec<Table>, String> {
     foreign::sodium::init();
     let input = rows::Input::new();
-    let doors = door::doors();
+    let scalar = LENGTHS.map(|length| Door::new(Measure::Scalar, length));
+    let euclid = LENGTHS.map(|length| Door::new(Measure::Euclid, length));
     let mut rows = rows::rows(&input);
-    rows.extend(door::rows(&doors));
+    let operations = rows.len();
+    rows.extend(ACCEPTED.iter().flat_map(|case| of_case(case, &scalar)));
+    rows.extend(of_case(&WHOLE_CHECK, &euclid));
+    rows.extend(of_case(&COPY_STATE, &scalar));
+    let calls = rows.len();
+    rows.extend(REFUSED.iter().flat_map(|case| of_case(case, &scalar)));
     for row in &mut rows {
         row.check()?;
     }
-    Ok(report::report(&measure::measure(&mut rows)))
+    let timings = measure::measure(&mut rows, ROUNDS);
+    Ok(vec![
+        report::operations(&timings[..operations]),
+        report::accepted(&timings[operations..calls]),
+        report::refused(&timings[calls..]),
+        memory::sizes(),
+        memory::depths(),
+    ])
+}
+
+/// A row of the case at each door.
+fn of_case<'a>(case: &Case, doors: &'a [Door]) -> Vec<Box<dyn Row + 'a>> {
+    doors.iter().map(|door| case.row(door)).collect()
 }

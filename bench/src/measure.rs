@@ -6,9 +6,6 @@ use std::time::{Duration, Instant};
 /// a look at the clock, and short enough that nothing disturbs many of them.
 const SLICE: Duration = Duration::from_micros(100);
 
-/// How often each row has its turn; a row that takes long in a turn has fewer.
-const ROUNDS: usize = 3000;
-
 /// Code of libsodium and OpenSSL may use AVX-512, after which the processor's clock is slower for
 /// most of a millisecond: so long nothing is timed.
 const WIDE_PAUSE: Duration = Duration::from_micros(1000);
@@ -48,8 +45,13 @@ pub trait Row {
     fn whos(&self) -> Vec<Who>;
     /// Whether all ways leave the same answer.
     fn check(&mut self) -> Result<(), String>;
-    /// The time of some calls of one way.
+    /// The time of some calls of one way. One more is made before, which does not count.
     fn time(&mut self, way: usize, calls: u32) -> Duration;
+    /// The place of this implementation's way.
+    fn way(&self, who: Who) -> usize {
+        let place = self.whos().into_iter().position(|name| name == who);
+        place.expect("the row has such a way")
+    }
 }
 
 /// A row. The buffer must not begin with the answer in it, or the check would be worth nothing.
@@ -147,6 +149,10 @@ impl Timing {
         let found = self.best.iter().find(|(name, _)| *name == who);
         found.map(|(_, time)| *time)
     }
+
+    pub fn ours(&self) -> f64 {
+        self.of(Who::Ours).expect("every row has ours")
+    }
 }
 
 /// A row being timed.
@@ -197,9 +203,9 @@ impl<'a, 'b> Turns<'a, 'b> {
 
 /// Times all rows. Every row has its turns all over the run, and every implementation a slice in
 /// each of them, so that what disturbs for a while disturbs all alike.
-pub fn measure(rows: &mut [Box<dyn Row + '_>]) -> Vec<Timing> {
+pub fn measure(rows: &mut [Box<dyn Row + '_>], rounds: usize) -> Vec<Timing> {
     let mut turns: Vec<Turns> = rows.iter_mut().map(|row| Turns::new(&mut **row)).collect();
-    for round in 0..ROUNDS {
+    for round in 0..rounds {
         for row in turns.iter_mut().filter(|row| round % row.every == 0) {
             row.take();
         }

@@ -8,7 +8,7 @@ use second::{aead, chacha20};
 use std::hint::black_box;
 
 /// What is done with the buffers, for the reader of the table.
-pub const BUFFERS: [&str; 5] = [
+pub const BUFFERS: [&str; 4] = [
     "key stream: the buffer is not cleared before a call; libsodium clears it itself, and OpenSSL \
      encrypts a second buffer, of zeros, into it",
     "seal and open: in place; before each call the text is copied into the buffer, in the same way \
@@ -17,8 +17,6 @@ pub const BUFFERS: [&str; 5] = [
      and the copy of 1284 bytes is in its time",
     "mask: into the buffer, which is not cleared, and nothing is allocated; word: with the own term, \
      at party 1",
-    "deal: both halves into two buffers, which are not cleared; load: the copies of a state of some \
-     10 KB are in both times",
 ];
 
 const TEXT: usize = 484;

@@ -1,0 +1,183 @@
+//! The calls that are timed, accepted and refused: one list for all that looks at them.
+
+use crate::calls::{Calls, Said, States, Step};
+use crate::door::{label, Door, Known, Parts, Sent, FLOOR, NUMBER, OTHER, PARTY, THRESHOLD};
+use crate::measure::{row, way, Row, Way};
+use second::message::{Label, MASKED_VECTOR, WORD};
+
+pub struct Case {
+    pub name: &'static str,
+    /// The refusal, 0 for an accepted call.
+    pub why: u32,
+    call: Call,
+}
+
+#[derive(Clone, Copy)]
+enum Call {
+    Deal {
+        threshold: u32,
+    },
+    /// A call on the timed box after so many of a check's four.
+    Box {
+        phase: usize,
+        step: MakeStep,
+    },
+    Join {
+        number: u64,
+    },
+    WholeCheck,
+    CopyState,
+}
+
+/// A masked vector would go to the words.
+type MakeStep = for<'a> fn(&'a Known, &'a mut [u32]) -> Step<'a>;
+
+const fn deal(name: &'static str, why: u32, threshold: u32) -> Case {
+    let call = Call::Deal { threshold };
+    Case { name, why, call }
+}
+
+const fn on_box(name: &'static str, why: u32, phase: usize, step: MakeStep) -> Case {
+    let call = Call::Box { phase, step };
+    Case { name, why, call }
+}
+
+const fn join(name: &'static str, why: u32, number: u64) -> Case {
+    let call = Call::Join { number };
+    Case { name, why, call }
+}
+
+pub const WHOLE_CHECK: Case = Case {
+    name: "whole check",
+    why: 0,
+    call: Call::WholeCheck,
+};
+
+/// No call, but in the time of every call on a box: once and more in ours, once in the second
+/// implementation's.
+pub const COPY_STATE: Case = Case {
+    name: "copy of a state",
+    why: 0,
+    call: Call::CopyState,
+};
+
+/// The calls of a check, in their order.
+pub const ACCEPTED: [Case; 8] = [
+    deal("deal", 0, THRESHOLD),
+    on_box("load", 0, 0, |known, out| known.step(0, out)),
+    on_box("mask", 0, 1, |known, out| known.step(1, out)),
+    on_box("take", 0, 2, |known, out| known.step(2, out)),
+    on_box("finish", 0, 3, |known, out| known.step(3, out)),
+    on_box("drop", 0, 3, |_, _| Step::Drop),
+    join("join", 0, NUMBER),
+    WHOLE_CHECK,
+];
+
+/// A refusal of each call, where it can be had one that comes late among its tests.
+pub const REFUSED: [Case; 9] = [
+    deal("deal, threshold out of range", 8, 1 << 31),
+    on_box("load, out of turn", 3, 1, |known, out| known.step(0, out)),
+    on_box("load, a spent number", 7, 0, |known, _| {
+        Step::Load(&known.spent)
+    }),
+    on_box("load, a bad last tag", 10, 0, |known, _| {
+        Step::Load(&known.broken)
+    }),
+    on_box("mask, last element out of range", 8, 1, |known, out| {
+        Step::Mask(&known.wide, out)
+    }),
+    on_box("take, another sender", 6, 2, |known, _| {
+        Step::Take(label(MASKED_VECTOR, PARTY), &known.sent.masked[OTHER])
+    }),
+    on_box("finish, another number", 7, 3, |known, _| {
+        let number = NUMBER + 1;
+        let label = Label {
+            number,
+            ..label(WORD, OTHER)
+        };
+        Step::Finish(label, known.sent.words[OTHER])
+    }),
+    on_box("drop, no set open", 3, 0, |_, _| Step::Drop),
+    join("join, a spent number", 7, FLOOR),
+];
+
+/// What a call leaves: the buffer of its row.
+#[derive(Clone, PartialEq)]
+struct Left {
+    said: Said,
+    sent: Sent,
+    states: States,
+}
+
+impl Left {
+    fn nothing(door: &Door) -> Left {
+        // What no call says.
+        let (why, word) = (u32::MAX, 0);
+        Left {
+            said: Said { why, word },
+            sent: Sent::nothing(door.length),
+            states: door.states(),
+        }
+    }
+}
+
+impl Case {
+    pub fn row<'a>(&self, door: &'a Door) -> Box<dyn Row + 'a> {
+        let name = format!("{}, L {}", self.name, door.length);
+        let Door {
+            known,
+            ours,
+            second,
+            ..
+        } = door;
+        let ways = vec![self.way(known, ours), self.way(known, second)];
+        row(&name, Left::nothing(door), ways)
+    }
+
+    fn way<'a, C: Calls>(&self, known: &'a Known, parts: &'a Parts<C>) -> Way<'a, Left> {
+        let (name, why) = (self.name, self.why);
+        let call = self.call;
+        way(C::WHO, move |left: &mut Left| {
+            left.said = call.run(known, parts, &mut left.sent, &mut left.states);
+            assert_eq!(left.said.why, why, "{name}");
+        })
+    }
+}
+
+impl Call {
+    fn run<C: Calls>(
+        self,
+        known: &Known,
+        parts: &Parts<C>,
+        sent: &mut Sent,
+        states: &mut States,
+    ) -> Said {
+        match self {
+            Call::Deal { threshold } => {
+                let [half0, half1] = &mut sent.halves;
+                let order = known.input.order(threshold);
+                let why = C::deal(&parts.dealer, &order, [half0, half1]);
+                Said { why, word: 0 }
+            }
+            Call::Box { phase, step } => {
+                let next = &mut C::states(states)[PARTY];
+                let step = step(known, &mut sent.masked[PARTY]);
+                C::step_to(&parts.phases[phase], next, step)
+            }
+            Call::Join { number } => {
+                let word = known.join::<C>(number);
+                let why = word.saturating_sub(100);
+                Said { why, word }
+            }
+            Call::WholeCheck => {
+                parts.check(known, C::states(states), sent);
+                let (why, word) = (0, sent.joined);
+                Said { why, word }
+            }
+            Call::CopyState => {
+                C::states(states)[PARTY].clone_from(&parts.phases[0]);
+                Said { why: 0, word: 0 }
+            }
+        }
+    }
+}

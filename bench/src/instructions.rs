@@ -1,0 +1,86 @@
+//! How many instructions a call takes, as valgrind counts them.
+
+use crate::cases::{Case, ACCEPTED, REFUSED};
+use crate::door::Door;
+use crate::measure::Who;
+use crate::report::{by_length, LENGTHS};
+use crate::table::Table;
+use second::measure::Measure;
+use std::env;
+use std::process::Command;
+
+/// The calls of a run and of one with more: the difference is of calls alone, since all else that
+/// the two do is the same.
+const CALLS: [u32; 2] = [5, 25];
+
+/// The C library is to copy and fill with no repeated string instruction: valgrind would count one
+/// for each byte.
+const TUNABLES: &str = "glibc.cpu.x86_rep_movsb_threshold=1000000000:\
+                        glibc.cpu.x86_rep_stosb_threshold=1000000000";
+
+const WHOS: [(Who, &str); 2] = [(Who::Ours, "ours"), (Who::Second, "second")];
+
+pub fn table() -> Result<Table, String> {
+    let mut calls = Vec::new();
+    for case in &ACCEPTED {
+        eprintln!("bench: counting {}", case.name);
+        let numbers = LENGTHS.iter().map(|&length| {
+            let [ours, second] = WHOS.map(|(_, who)| of_call(case.name, length, who));
+            Ok([ours?, second?])
+        });
+        calls.push((case.name, numbers.collect::<Result<Vec<_>, String>>()?));
+    }
+    let cells = |[ours, second]: [f64; 2]| [format!("{ours:.0}"), format!("{:.2}", second / ours)];
+    let mut table = by_length("Instructions", ["ours", "second/ours"], &calls, cells);
+    table
+        .notes
+        .push("second/ours: 2.00 is half as many of ours".to_string());
+    table.notes.push(
+        "counted by valgrind's callgrind; the copy by which a box's state is handed over by value is \
+         1,203 of ours (a repeated move of 8 bytes)"
+            .to_string(),
+    );
+    Ok(table)
+}
+
+fn of_call(call: &str, length: usize, who: &str) -> Result<f64, String> {
+    let [fewer, more] = CALLS.map(|calls| of_run(call, length, who, calls));
+    let extra = more?.checked_sub(fewer?).ok_or("more calls took less")?;
+    Ok(extra as f64 / f64::from(CALLS[1] - CALLS[0]))
+}
+
+/// The instructions of a whole run of this program.
+fn of_run(call: &str, length: usize, who: &str, calls: u32) -> Result<u64, String> {
+    let program = env::current_exe().map_err(|error| error.to_string())?;
+    let output = Command::new("valgrind")
+        .env("GLIBC_TUNABLES", TUNABLES)
+        .args(["--tool=callgrind", "--callgrind-out-file=/dev/null"])
+        .arg(program)
+        .args(["--once", call, &length.to_string(), who, &calls.to_string()])
+        .output()
+        .map_err(|error| format!("valgrind: {error}"))?;
+    let text = String::from_utf8_lossy(&output.stderr);
+    let count = text.lines().find_map(|line| line.split_once("Collected :"));
+    match count.map(|(_, count)| count.trim().parse()) {
+        Some(Ok(count)) if output.status.success() => Ok(count),
+        _ => Err(format!("valgrind of {call}, {length}, {who}: {text}")),
+    }
+}
+
+/// One call some times, and nothing else that depends on how often: what valgrind runs.
+pub fn once(call: &str, length: &str, who: &str, calls: &str) -> Result<(), String> {
+    let found = |case: &&Case| case.name == call;
+    let mut cases = ACCEPTED.iter().chain(&REFUSED);
+    let case = cases.find(found).ok_or("no such call")?;
+    let length: usize = length.parse().map_err(|_| "L is a number")?;
+    let calls: u32 = calls.parse().map_err(|_| "a count is a number")?;
+    let (who, _) = WHOS
+        .into_iter()
+        .find(|(_, name)| *name == who)
+        .ok_or("ours or second")?;
+    let door = Door::new(Measure::Scalar, length);
+    let mut row = case.row(&door);
+    let way = row.way(who);
+    row.time(way, calls);
+    Ok(())
+}

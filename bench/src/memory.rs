@@ -1,0 +1,60 @@
+//! The sizes of the states, and the stack that a call takes.
+
+use crate::cases::{ACCEPTED, REFUSED};
+use crate::door::Door;
+use crate::foreign::{door, stack};
+use crate::measure::{Row, Who};
+use crate::report::LENGTHS;
+use crate::table::Table;
+use second::measure::Measure;
+use std::thread;
+
+pub fn sizes() -> Table {
+    let mut lines = vec![["struct", "bytes"].map(str::to_string).to_vec()];
+    lines.extend(door::SIZES.map(|(name, bytes)| vec![name.to_string(), bytes.to_string()]));
+    Table {
+        title: "Sizes",
+        lines,
+        notes: vec!["the lock's host keeps a name of 16 bytes and a number of 8".to_string()],
+    }
+}
+
+/// The stack that each call of ours takes, at each length.
+pub fn depths() -> Table {
+    let thread = thread::Builder::new().stack_size(stack::ROOM);
+    let thread = thread.spawn(lines).expect("a thread");
+    Table {
+        title: "Stack",
+        lines: thread.join().expect("the calls return"),
+        notes: vec![
+            "bytes of ours from the caller's frame down to the lowest byte written: with the state \
+             that is handed in, by value, and the frames of this program"
+                .to_string(),
+        ],
+    }
+}
+
+fn lines() -> Vec<Vec<String>> {
+    let doors = LENGTHS.map(|length| Door::new(Measure::Scalar, length));
+    let mut lines = vec![vec!["call".to_string()]];
+    lines[0].extend(LENGTHS.map(|length| format!("L {length}")));
+    for case in ACCEPTED.iter().chain(&REFUSED) {
+        let mut line = vec![case.name.to_string()];
+        line.extend(
+            doors
+                .iter()
+                .map(|door| depth(&mut *case.row(door)).to_string()),
+        );
+        lines.push(line);
+    }
+    lines
+}
+
+fn depth(row: &mut dyn Row) -> usize {
+    let ours = row.way(Who::Ours);
+    // Once before, so that no function is looked up by the linker meanwhile.
+    row.time(ours, 0);
+    stack::depth(&mut || {
+        row.time(ours, 0);
+    })
+}
