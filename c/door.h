@@ -1,9 +1,8 @@
 /*
- * The calls of the two-box door check, for a host in C on x86-64 Linux. `rt staticlib door_c` and
- * `rt staticlib lock_c` prove them and write target/staticlib/libdoor_c.a and liblock_c.a. These
- * need memcpy and memset and nothing else; they allocate nothing and keep nothing between calls,
- * so calls on different states may run at the same time. A call was seen to take up to 60 KB of
- * stack, the states by value with it: have DOOR_STACK bytes left.
+ * The calls of the two-box door check, for a host in C on x86-64 Linux. `c/library` proves them and
+ * writes target/c/libdoor.a. It needs memcpy and memset and nothing else; it allocates nothing and
+ * keeps nothing between calls, so calls on different states may run at the same time. A call was
+ * seen to take up to 60 KB of stack, the states by value with it: have DOOR_STACK bytes left.
  *
  * States. A dealer and a box are plain values. A call takes the state by value and its answer
  * holds the next one: keep that, and hand it to the next call on the same dealer or box.
