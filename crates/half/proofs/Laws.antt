@@ -1,29 +1,26 @@
 -- What the code of sealing and opening blocks comes to. Assumes nothing.
 use mathlib.Core.Path.{_≡_, refl, sym, ap, ap₂, _∙_}
-use mathlib.Core.Bool.{Bool, true, _&&_}
 use mathlib.Core.List.{List, [], _∷_, _++_, append-assoc, append-nil}
 use Prim.Native.Nat.{ℕ, zero, suc, _+_, _*_, _-_, _/_, _%_, _^_, _≤_}
 use native.Mathlib.Omega.{arith}
 use native.Mathlib.Numerals.{add-one}
 use borrow.Author.Tests.{le-leb}
 use borrow.Rule.Slice.PartMut.{putMid}
-use lib.Dec.{eqb}
 use lib.ListN.{length, take-append-drop, take, drop, replicate, length-append, length-drop, drop-of-length-le}
-use lib.Seq.{length-take-le, take-at, drop-at, drop-append-add, drop-drop}
+use lib.Seq.{length-take-le, take-at, drop-at, drop-append-add}
 use Rattle.words.specs.List.{over, over-eq, over-all, over-next}
-use Rattle.words.specs.Bytes.{le32, bytesOf, wordAt}
-use Rattle.poly1305.specs.Numbers.{eight, four, number-word, number-words}
+use Rattle.words.specs.Bytes.{le32, bytesOf}
+use Rattle.poly1305.specs.Numbers.{eight, four}
 use Rattle.aead.specs.declared.Sealed.{Sealed}
-use Rattle.aead.specs.Aead.{cipher, tagFor, within, sealed, sealedText, opens, openedText as openedTextOf}
+use Rattle.aead.specs.Aead.{cipher, tagFor, within, sealed, sealedText}
 use Rattle.aead.specs.Claims.{length-cipher}
 use Rattle.lanes.specs.Lanes.{flat}
-use Rattle.measure.specs.Order.{both}
 use Rattle.content.specs.declared.Set.{Set}
 use Rattle.content.specs.Content.{part, fields, size, blocks, Proper}
 use Rattle.content.specs.Laws.{blocks-bounds, take-laid}
-use Rattle.content.specs.Pieces.{part-is, length-part}
-use Rattle.half.specs.Half.{header, block, firstBlocks, half, setNumber, blockFits, firstFit, blockAt, openedText}
-use Rattle.half.specs.Laws.{part-front, length-tag, length-block, length-blocks}
+use Rattle.content.specs.Pieces.{length-part}
+use Rattle.half.specs.Half.{header, block, firstBlocks, half}
+use Rattle.half.specs.Laws.{part-front, length-tag, length-block, length-blocks, put-over}
 
 pub header-law : (a i : ℕ) (out t : List ℕ) → length out ≡ 12 → t ≡ over 0 (bytesOf (a % 2 ^ 32 ∷ a / 2 ^ 32 ∷ i ∷ [])) out → t ≡ header a i
 unfolding bytesOf le32 header

@@ -1,13 +1,15 @@
 -- Laws of blocks: what stands where in a block and in a half, and that a sealed block opens. Assumes nothing.
 use mathlib.Core.Path.{_≡_, refl, sym, ap, _∙_}
 use mathlib.Core.Bool.{Bool, true, false}
-use mathlib.Core.List.{List, _++_}
+use mathlib.Core.List.{List, _++_, append-assoc}
 use Prim.Native.Nat.{ℕ, zero, suc, _+_, _*_, _^_, _<_, _≤_}
 use native.Mathlib.Omega.{arith}
 use borrow.Author.Tests.{eq-eqb, ltb-true, ltb-false}
+use borrow.Rule.Slice.PartMut.{putMid}
 use lib.Dec.{ltb}
 use lib.ListN.{length, take, drop, length-append, length-drop}
-use lib.Seq.{take-append-le, drop-append-le, drop-append-add, take-all, take-add}
+use lib.Seq.{take-append-le, drop-append-le, drop-append-add, drop-drop, take-all, take-add}
+use Rattle.words.specs.List.{over, over-eq}
 use Rattle.poly1305.specs.Poly1305.{bytes, number}
 use Rattle.poly1305.specs.Laws.{length-bytes, length-mac}
 use Rattle.poly1305.specs.Numbers.{number-four, number-eight}

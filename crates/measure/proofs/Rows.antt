@@ -1,6 +1,6 @@
 -- The rows of the table as code makes them: the range test on words, every element of a slice, and the own term. Assumes nothing.
 use mathlib.Core.Path.{_≡_, refl, sym, ap, ap₂, _∙_}
-use mathlib.Core.Bool.{Bool, true, false, cond, _&&_, and-true, and-assoc}
+use mathlib.Core.Bool.{Bool, _&&_, and-true, and-assoc}
 use mathlib.Core.List.{List, [], _∷_}
 use Prim.Native.Nat.{ℕ, zero, suc, _+_, _^_, _<_}
 use native.Mathlib.Numerals.{add-one}
@@ -9,9 +9,8 @@ use lib.Dec.{leb}
 use lib.IntN.{ℤ}
 use lib.ListN.{length, take, getD}
 use lib.Seq.{take-all}
-use Rattle.algebra.specs.Word.{add, mul, signed}
-use Rattle.algebra.specs.Sum.{sum}
-use Rattle.measure.specs.Measure.{scalarProduct, squaredEuclid, hamming, row, within, inRange, allInRange, thresholdFits, ownWord}
+use Rattle.algebra.specs.Word.{add, signed}
+use Rattle.measure.specs.Measure.{scalarProduct, squaredEuclid, hamming, row, within, inRange, allInRange, thresholdFits}
 use Rattle.measure.proofs.Signed.{signed-order}
 
 -- the row of each code

@@ -2,13 +2,11 @@
 use mathlib.Core.Path.{_≡_, refl, sym, _∙_, ap, ap₂}
 use mathlib.Core.Bool.{Bool, true, false}
 use mathlib.Core.List.{List, [], _∷_}
-use Prim.Native.Nat.{ℕ, _+_, _-_, _/_, _^_, _<_}
+use Prim.Native.Nat.{ℕ, _+_, _-_, _^_, _<_}
 use native.Mathlib.Omega.{arith}
-use lib.Dec.{ltb}
-use borrow.Author.Tests.{ltb-true, ltb-false}
 use lib.ListN.{getD, set}
 use Rattle.algebra.specs.Word.{words, add, sub, mul, _≈_, add-lt, same-word}
-use Rattle.algebra.specs.Bit.{only, less, odd, less-lt, less-ge}
+use Rattle.algebra.specs.Bit.{only, odd}
 use Rattle.algebra.specs.Ring.{ring}
 use Rattle.algebra.specs.Sum.{sum, sum-more}
 use Rattle.words.specs.List.{over, tab, over-tab}
