@@ -142,7 +142,6 @@ fn why_not_deal(
     0
 }
 
-// A key or a seed.
 // Both halves of an accepted deal, from the starts of the two buffers.
 fn write_halves(
     dealer: Dealer,
