@@ -4,8 +4,8 @@
  * keeps nothing between calls, so calls on different states may run at the same time. A call was
  * seen to take up to 60 KB of stack, the states by value with it: have DOOR_STACK bytes left.
  *
- * States. A dealer and a box are plain values. A call takes the state by value and its answer
- * holds the next one: keep that, and hand it to the next call on the same dealer or box.
+ * States. A dealer, a box and a lock are plain values. A call takes the state by value and its answer
+ * holds the next one: keep that, and hand it to the next call on the same part.
  *
  *     struct door_party_answer a = door_load(box, half, size);
  *     box = a.party;
@@ -97,7 +97,7 @@ enum door_kind {
     DOOR_ANSWER = 2         /* sent by door_finish, taken by the lock */
 };
 
-/* The structs of the crates node, content, dealer and party, all #[repr(C)]. */
+/* The structs of the crates node, content, dealer, party and lock, all #[repr(C)]. */
 
 struct door_correction {
     uint32_t seed[8];
@@ -153,6 +153,17 @@ struct door_party_answer {
     uint32_t why;
     struct door_party party;
     uint32_t word; /* what door_take and door_finish send, else 0 */
+};
+
+struct door_lock {
+    uint8_t name[DOOR_NAME]; /* padded */
+    uint64_t last;           /* the last joined number, first the floor */
+};
+
+struct door_lock_answer {
+    uint32_t why;
+    struct door_lock lock;
+    uint32_t bit; /* what an accepted join reports: 1 means measure >= T */
 };
 
 /*
@@ -232,15 +243,35 @@ struct door_party_answer door_finish(
 /* Ends the open set; its number stays spent. Refusal: 3. */
 struct door_party_answer door_drop(struct door_party party);
 
-/* A refused join answers this plus the refusal's number. */
-#define LOCK_REFUSED 100
+/* The lock. Refusal: 1. */
+struct door_lock_answer door_start_lock(
+    const uint8_t *name, size_t name_len,
+    uint64_t floor);
 
 /*
- * The lock, whose host keeps the door's padded name and the last joined number, first the floor.
- * It hands them in beside the two answers, the camera box's first. 1 means measure >= T, 0 means
- * not; anything above LOCK_REFUSED is a refusal: 4, 6, 7, 12. After a 0 or 1 the joined number is
- * the last one; after a refusal it is what it was.
+ * Joins the two boxes' answers, the camera box's first. The joined number is then the last one,
+ * whatever the join reports. Refusals: 4, 6, 7, 12.
  */
+struct door_lock_answer door_join(
+    struct door_lock lock,
+    uint32_t kind0,
+    const uint8_t *name0, size_t name0_len,
+    uint32_t sender0,
+    uint64_t number0,
+    uint32_t answer0,
+    uint32_t kind1,
+    const uint8_t *name1, size_t name1_len,
+    uint32_t sender1,
+    uint64_t number1,
+    uint32_t answer1);
+
+/*
+ * The same join without a struct, for a small lock: its archive (`rt staticlib lock_c`) is proved in
+ * seconds. The host keeps the door's padded name and the last joined number, first the floor, and
+ * hands them in. 0 or 1 is what is reported; a refused join answers LOCK_REFUSED plus the refusal's
+ * number: 4, 6, 7, 12.
+ */
+#define LOCK_REFUSED 100
 uint32_t lock_join(
     const uint8_t *name, size_t name_len,
     uint64_t last,
@@ -295,6 +326,11 @@ DOOR_AT(door_dealer, key1, 48);
 DOOR_AT(door_dealer, last, 80);
 DOOR_SIZE(door_dealer_answer, 96);
 DOOR_AT(door_dealer_answer, dealer, 8);
+DOOR_SIZE(door_lock, 24);
+DOOR_AT(door_lock, last, 16);
+DOOR_SIZE(door_lock_answer, 40);
+DOOR_AT(door_lock_answer, lock, 8);
+DOOR_AT(door_lock_answer, bit, 32);
 DOOR_SIZE(door_party, 9624);
 DOOR_AT(door_party, party, 16);
 DOOR_AT(door_party, key, 20);

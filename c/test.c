@@ -331,6 +331,19 @@ static struct join join_of(uint64_t number, uint32_t answer0, uint32_t answer1)
     return j;
 }
 
+/* The same join with a state by value says the same, and moves on or not. */
+static void join_by_state(uint64_t last, const struct join *j, uint32_t said, uint64_t next)
+{
+    uint32_t why = said > LOCK_REFUSED ? said - LOCK_REFUSED : DOOR_ACCEPTED;
+    struct door_lock lock = {.last = last};
+    memcpy(lock.name, PADDED, DOOR_NAME);
+    struct door_lock_answer a = door_join(lock, j->kind[0], j->name[0], j->name_size[0],
+        j->sender[0], j->number[0], j->answer[0], j->kind[1], j->name[1], j->name_size[1],
+        j->sender[1], j->number[1], j->answer[1]);
+    EXPECT(a.why == why && a.bit == (why == DOOR_ACCEPTED ? said : 0));
+    EXPECT(a.lock.last == next && memcmp(a.lock.name, PADDED, DOOR_NAME) == 0);
+}
+
 /* What the join answers; the last number that goes with it is expected to be `next`. */
 static uint32_t join(uint64_t last, const struct join *j, uint64_t next)
 {
@@ -338,9 +351,12 @@ static uint32_t join(uint64_t last, const struct join *j, uint64_t next)
         j->sender[0], j->number[0], j->answer[0], j->kind[1], j->name[1], j->name_size[1],
         j->sender[1], j->number[1], j->answer[1]);
     EXPECT(after == next);
-    return lock_join(PADDED, j->size, last, j->kind[0], j->name[0], j->name_size[0], j->sender[0],
-        j->number[0], j->answer[0], j->kind[1], j->name[1], j->name_size[1], j->sender[1],
-        j->number[1], j->answer[1]);
+    uint32_t said = lock_join(PADDED, j->size, last, j->kind[0], j->name[0], j->name_size[0],
+        j->sender[0], j->number[0], j->answer[0], j->kind[1], j->name[1], j->name_size[1],
+        j->sender[1], j->number[1], j->answer[1]);
+    if (j->size == DOOR_NAME) /* a state has the door's name whole */
+        join_by_state(last, j, said, next);
+    return said;
 }
 
 /* From deal to join: the lock must say whether the measure reaches T. */
@@ -429,6 +445,13 @@ static void start_party_refused(
     EXPECT(same_party(&a.party, &none));
 }
 
+static void start_lock_refused(const uint8_t *name, size_t name_size)
+{
+    struct door_lock_answer a = door_start_lock(name, name_size, 7);
+    EXPECT(a.why == DOOR_BAD_NAME && a.bit == 0);
+    EXPECT(all_zero(a.lock.name, DOOR_NAME) && a.lock.last == 0);
+}
+
 static void starts(void)
 {
     static const uint8_t bad[2] = {31, 127};
@@ -448,7 +471,13 @@ static void starts(void)
     for (int i = 0; i < 2; i++) {
         start_dealer_refused(bad + i, 1, 32, 32, other, DOOR_BAD_NAME);
         start_party_refused(bad + i, 1, 0, 32, DOOR_BAD_NAME);
+        start_lock_refused(bad + i, 1);
     }
+    start_lock_refused(name, 17);
+    start_lock_refused(name, 0);
+    struct door_lock_answer lock = door_start_lock(BARE, sizeof BARE, 4);
+    EXPECT(lock.why == DOOR_ACCEPTED && lock.bit == 0 && lock.lock.last == 4);
+    EXPECT(memcmp(lock.lock.name, PADDED, DOOR_NAME) == 0);
     struct door_dealer dealer = dealer_of(name, 16, 5);
     EXPECT(memcmp(dealer.name, name, DOOR_NAME) == 0 && dealer.last == 5);
     EXPECT(memcmp(dealer.key0, keys[0], DOOR_KEY) == 0);

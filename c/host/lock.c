@@ -4,57 +4,57 @@
 #include <string.h>
 
 struct lock {
-    uint8_t name[DOOR_NAME]; /* padded */
-    uint64_t last;
+    struct door_lock state;
     struct message answer[2]; /* the newest of each box */
     bool waits[2];
 };
 
-/* The lock's host keeps name and number, so it is also what sees to a name of the right size. */
 static bool start_lock(struct lock *lock)
 {
     struct door_name name;
-    if (!start_part(LOCK, &name, &lock->last))
+    uint64_t last;
+    if (!start_part(LOCK, &name, &last))
         return false;
-    if (name.size == 0 || name.size > DOOR_NAME) {
-        say_refused("the start", lock->last, DOOR_BAD_NAME, "the lock does not start");
+    struct door_lock_answer a = door_start_lock(name.bytes, name.size, last);
+    if (a.why != DOOR_ACCEPTED) {
+        say_refused("the start", last, a.why, "the lock does not start");
         return false;
     }
-    memcpy(lock->name, name.bytes, name.size);
+    lock->state = a.lock;
     return true;
 }
 
 /* The number is spent on disk before the door moves: whatever happens after, no number is
    reported twice. */
 static bool join(struct lock *lock, const struct message *a0, const struct message *a1,
-    uint32_t *verdict)
+    uint32_t *bit, uint32_t *why)
 {
-    *verdict = lock_join(lock->name, DOOR_NAME, lock->last,
+    struct door_lock_answer a = door_join(lock->state,
         a0->kind, a0->name, DOOR_NAME, a0->sender, a0->number, a0->words[0],
         a1->kind, a1->name, DOOR_NAME, a1->sender, a1->number, a1->words[0]);
-    if (*verdict > LOCK_REFUSED) {
-        say_refused("the join", a0->number, *verdict - LOCK_REFUSED,
+    *bit = a.bit;
+    *why = a.why;
+    if (a.why != DOOR_ACCEPTED) {
+        say_refused("the join", a0->number, a.why,
             "the door stays as it is and both answers are dropped");
         return false;
     }
-    uint64_t last = lock_last(lock->name, DOOR_NAME, lock->last,
-        a0->kind, a0->name, DOOR_NAME, a0->sender, a0->number, a0->words[0],
-        a1->kind, a1->name, DOOR_NAME, a1->sender, a1->number, a1->words[0]);
-    if (!write_last(PART[LOCK].command, last)) {
+    if (!write_last(PART[LOCK].command, a.lock.last)) {
         say("set %" PRIu64 ": its number could not be forced to disk; the door stays as it is",
-            last);
+            a.lock.last);
         return false;
     }
-    lock->last = last;
+    lock->state = a.lock;
     return true;
 }
 
-static void report(const struct lock *lock, const struct link *link, uint32_t verdict)
+static void report(const struct lock *lock, const struct link *link, uint32_t bit)
 {
-    struct message message = {.kind = HOST_VERDICT, .sender = LOCK, .number = lock->last,
-        .words = {verdict}, .count = 1};
-    memcpy(message.name, lock->name, DOOR_NAME);
-    say("set %" PRIu64 ": %s", lock->last, verdict == 1 ? "OPEN" : "STAY SHUT");
+    uint64_t number = lock->state.last;
+    struct message message = {
+        .kind = HOST_VERDICT, .sender = LOCK, .number = number, .words = {bit}, .count = 1};
+    memcpy(message.name, lock->state.name, DOOR_NAME);
+    say("set %" PRIu64 ": %s", number, bit == 1 ? "OPEN" : "STAY SHUT");
     send_to(link, OPERATOR, &message);
 }
 
@@ -64,17 +64,17 @@ static void handle(void *state, const struct link *link, const struct message *m
 {
     struct lock *lock = state;
     uint32_t party = message->sender == OFFICE ? OFFICE : CAMERA;
-    uint32_t verdict;
+    uint32_t bit, why;
     lock->answer[party] = *message;
     lock->waits[party] = true;
     if (!lock->waits[CAMERA] || !lock->waits[OFFICE]
         || lock->answer[CAMERA].number != lock->answer[OFFICE].number)
         return;
     lock->waits[CAMERA] = lock->waits[OFFICE] = false;
-    if (join(lock, &lock->answer[CAMERA], &lock->answer[OFFICE], &verdict))
-        report(lock, link, verdict);
+    if (join(lock, &lock->answer[CAMERA], &lock->answer[OFFICE], &bit, &why))
+        report(lock, link, bit);
     else
-        send_failed(link, message->number, verdict > LOCK_REFUSED ? verdict - LOCK_REFUSED : 0);
+        send_failed(link, message->number, why);
 }
 
 int run_lock(const char *via)
@@ -82,6 +82,6 @@ int run_lock(const char *via)
     static struct lock lock;
     if (!start_lock(&lock))
         return EXIT_TROUBLE;
-    const struct served served = {.state = &lock, .last = &lock.last, .handle = handle};
+    const struct served served = {.state = &lock, .last = &lock.state.last, .handle = handle};
     return serve(LOCK, via, &served);
 }

@@ -1,11 +1,14 @@
-// The dealer's and the boxes' calls as C functions, for their hosts. A state is handed over and
-// comes back by value; a slice is a pointer and a length. No function asks anything of its caller.
+// Every call of dealer, box and lock as a C function, for their hosts. A state is handed over and comes
+// back by value; a slice is a pointer and a length. No function asks anything of its caller.
 ghost use mathlib.Core.Path.{_≡_};
 ghost use lib.ListN.{length};
 ghost use Rattle.dealer.specs.Dealer.{startDealer, dealFrom, deal, dealOut};
 ghost use Rattle.party.specs.Party.{startParty, load, mask, maskOut, take, finish, drop};
+ghost use Rattle.lock.specs.Lock.{startLock, join};
 use dealer::Dealer;
 use dealer::DealerAnswer;
+use lock::Lock;
+use lock::LockAnswer;
 use messages::Label;
 use party::Party;
 use party::PartyAnswer;
@@ -119,4 +122,46 @@ pub extern "C" fn door_drop(party: Party) -> PartyAnswer
     ensures { λ r. ⌜ r ≡ drop party ⌝ }
 {
     party.drop()
+}
+
+#[no_mangle]
+pub extern "C" fn door_start_lock(name: &[u8], floor: u64) -> LockAnswer
+    ensures { λ r. ⌜ r ≡ startLock (now (name .entry)) floor ⌝ }
+{
+    Lock::start(name, floor)
+}
+
+// The camera box's answer comes first.
+#[no_mangle]
+pub extern "C" fn door_join(
+    lock: Lock,
+    kind0: u32,
+    name0: &[u8],
+    sender0: u32,
+    number0: u64,
+    answer0: u32,
+    kind1: u32,
+    name1: &[u8],
+    sender1: u32,
+    number1: u64,
+    answer1: u32,
+) -> LockAnswer
+    ensures { λ r. ⌜ r ≡ join lock (record { kind = kind0; sender = sender0; number = number0 }) (now (name0 .entry)) answer0 (record { kind = kind1; sender = sender1; number = number1 }) (now (name1 .entry)) answer1 ⌝ }
+{
+    lock.join(
+        Label {
+            kind: kind0,
+            sender: sender0,
+            number: number0,
+        },
+        name0,
+        answer0,
+        Label {
+            kind: kind1,
+            sender: sender1,
+            number: number1,
+        },
+        name1,
+        answer1,
+    )
 }
