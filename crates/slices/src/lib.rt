@@ -67,7 +67,9 @@ pub fn equal(a: &[u8], b: &[u8]) -> bool
     let mut all = true;
     let mut i: usize = 0;
     while i < a.len() {
-        all = all & (a[i] == b[i]);
+        let x = a[i];
+        let y = b[i];
+        all = all & (x == y);
         i += 1;
     }
     all
