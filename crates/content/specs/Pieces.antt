@@ -5,7 +5,7 @@ use Prim.Native.Nat.{ℕ, zero, suc, _+_, _*_, _-_, _^_, _<_, _≤_}
 use native.Mathlib.Omega.{arith}
 use lib.ListN.{length, getD, take, drop, length-append, length-drop, length-replicate, List·getD-append, replicate, replicate-append-replicate}
 use lib.Seq.{take-append-seam, drop-append-seam, drop-drop, getD-append-add, getD-take, getD-drop, take-at, drop-at, length-take-le}
-use Rattle.words.specs.List.{over, over-eq, tab, tab-ext, tab-getD}
+use Rattle.words.specs.List.{tab, tab-ext, tab-getD}
 use Rattle.words.specs.Bytes.{le32, bytesOf, wordAt, wordsAt, length-bytesOf, wordAt-bytesOf}
 use Rattle.lanes.specs.Lanes.{flat}
 use Rattle.content.specs.Content.{part, cut, Words}
@@ -81,18 +81,6 @@ pub take-replicate : (k m : ℕ) → k ≤ m → take k (replicate m 0) ≡ repl
 take-replicate k m h =
     let e : k + (m - k) ≡ m = omega arith in
     ap (take k) (sym (replicate-append-replicate k (m - k) 0 ∙ ap (λ (i : ℕ). replicate i 0) e)) ∙ take-at (replicate k 0) (replicate (m - k) 0) k (length-replicate k 0)
-
-pub drop-replicate : (k m : ℕ) → k ≤ m → drop k (replicate m 0) ≡ replicate {A = ℕ} (m - k) 0
-drop-replicate k m h =
-    let e : k + (m - k) ≡ m = omega arith in
-    ap (drop k) (sym (replicate-append-replicate k (m - k) 0 ∙ ap (λ (i : ℕ). replicate i 0) e)) ∙ drop-at (replicate k 0) (replicate (m - k) 0) k (length-replicate k 0)
-
--- what is written over the start of zeros
-pub over-zeros : (p z : List ℕ) (k n : ℕ) → length p ≡ k → k ≤ n → z ≡ replicate n 0 → over 0 p z ≡ p ++ replicate (n - k) 0
-over-zeros p z k n l h e =
-    let lz : length z ≡ n = ap length e ∙ length-replicate n 0 in
-    let at : 0 + length p ≡ k = omega arith in
-    over-eq p z 0 (omega arith) ∙ ap (λ (l : List ℕ). p ++ l) (ap₂ drop at e ∙ drop-replicate k n h)
 
 -- ---- words and their bytes
 

@@ -7,7 +7,7 @@ use native.Mathlib.Numerals.{add-one}
 use native.Mathlib.Omega.{arith}
 use lib.ListN.{length, getD, take, replicate, length-append}
 use lib.Seq.{take-suc, take-all, length-take-le}
-use Rattle.words.specs.List.{over, over-next, over-all}
+use Rattle.words.specs.List.{over, over-next, over-all, over-zeros}
 use Rattle.words.specs.Bytes.{le32, bytesOf, length-bytesOf}
 use Rattle.lanes.specs.Lanes.{flat}
 use Rattle.poly1305.specs.Poly1305.{bytes}
@@ -15,7 +15,7 @@ use Rattle.node.specs.declared.Correction.{Correction}
 use Rattle.node.specs.Node.{none}
 use Rattle.content.specs.declared.Set.{Set}
 use Rattle.content.specs.Content.{correctionBytes, fields, size, noCorrection, FlagBytes}
-use Rattle.content.specs.Pieces.{getD-any, flat-append, over-zeros}
+use Rattle.content.specs.Pieces.{getD-any, flat-append}
 
 -- one piece more
 pub next : (p q s t u : List ℕ) (at : ℕ) → length p ≡ at → t ≡ over 0 p s → u ≡ over at q t → u ≡ over 0 (p ++ q) s

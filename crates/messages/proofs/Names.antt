@@ -1,14 +1,14 @@
 -- Names as code makes them: tested byte by byte, and copied over zeros. Assumes nothing.
-use mathlib.Core.Path.{_≡_, sym, ap, _∙_}
+use mathlib.Core.Path.{_≡_, refl, sym, ap, _∙_}
 use mathlib.Core.Bool.{Bool, _&&_, and-true, and-assoc}
-use mathlib.Core.List.{List, [], _∷_, _++_}
-use Prim.Native.Nat.{ℕ, zero, suc, _+_, _-_, _≤_, _<_}
+use mathlib.Core.List.{List, [], _∷_}
+use Prim.Native.Nat.{ℕ, zero, suc, _+_, _≤_, _<_}
 use native.Mathlib.Numerals.{add-one}
 use native.Mathlib.Omega.{arith}
 use lib.Dec.{leb}
-use lib.ListN.{length, take, drop, getD, replicate, length-replicate, replicate-append-replicate}
-use lib.Seq.{take-all, drop-at}
-use Rattle.words.specs.List.{over, over-eq}
+use lib.ListN.{length, take, getD, replicate}
+use lib.Seq.{take-all}
+use Rattle.words.specs.List.{over, over-zeros}
 use Rattle.messages.specs.Messages.{printable, padded}
 
 -- one byte more
@@ -29,13 +29,4 @@ printable-whole s i h = ap printable (take-all i s (omega arith))
 
 pub padded-over : (s : List ℕ) → length s ≤ 16 → over 0 s (replicate 16 0) ≡ padded s
 unfolding padded
-padded-over s h =
-    let n : ℕ = length s in
-    let front : 0 + n ≡ n = omega arith in
-    let whole : n + (16 - n) ≡ 16 = omega arith in
-    let rest : drop n (replicate {A = ℕ} 16 0) ≡ replicate (16 - n) 0 =
-    ap (λ (k : ℕ). drop n (replicate {A = ℕ} k 0)) (sym whole)
-    ∙ ap (drop n) (sym (replicate-append-replicate {A = ℕ} n (16 - n) 0))
-    ∙ drop-at (replicate {A = ℕ} n 0) (replicate (16 - n) 0) n (length-replicate {A = ℕ} n 0) in
-    over-eq s (replicate 16 0) 0 (omega (arith, length-replicate {A = ℕ} 16 0))
-    ∙ ap (λ (l : List ℕ). s ++ l) (ap (λ (k : ℕ). drop k (replicate {A = ℕ} 16 0)) front ∙ rest)
+padded-over s h = over-zeros s (replicate 16 0) (length s) 16 refl h refl

@@ -8,7 +8,7 @@ use native.Mathlib.Numerals.{add-one}
 use native.Mathlib.Omega.{arith}
 use borrow.Author.Tests.{ltb-true, ltb-false}
 use lib.Dec.{T, eqb, ltb, eqb→eq, eqb-refl}
-use lib.ListN.{length, take, drop, set, getD, length-append, length-drop, length-set, List·getD-append, drop-of-length-le}
+use lib.ListN.{length, take, drop, set, getD, length-append, length-drop, length-set, List·getD-append, drop-of-length-le, replicate, length-replicate, replicate-append-replicate}
 use lib.Seq.{ext-getD, getD-drop, take-at, drop-at, getD-at, drop-drop, getD-set-other, take-all, take-suc, length-take-le, drop-cons, set-at, append-snoc, sets, sets-eq, getD-append-add}
 
 -- s with p written over it from index i on
@@ -143,6 +143,19 @@ getD-rest f d i j h =
 pub over-all : (p s : List ℕ) → length p ≡ length s → over 0 p s ≡ p
 over-all p s h =
     over-eq p s 0 (omega arith) ∙ ap (λ (l : List ℕ). p ++ l) (drop-of-length-le s {i = 0 + length p} (omega arith)) ∙ append-nil p
+
+-- what is left of zeros
+pub drop-replicate : (k m : ℕ) → k ≤ m → drop k (replicate m 0) ≡ replicate {A = ℕ} (m - k) 0
+drop-replicate k m h =
+    let e : k + (m - k) ≡ m = omega arith in
+    ap (drop k) (sym (replicate-append-replicate k (m - k) 0 ∙ ap (λ (i : ℕ). replicate i 0) e)) ∙ drop-at (replicate k 0) (replicate (m - k) 0) k (length-replicate k 0)
+
+-- what is written over the start of zeros
+pub over-zeros : (p z : List ℕ) (k n : ℕ) → length p ≡ k → k ≤ n → z ≡ replicate n 0 → over 0 p z ≡ p ++ replicate (n - k) 0
+over-zeros p z k n l h e =
+    let lz : length z ≡ n = ap length e ∙ length-replicate n 0 in
+    let at : 0 + length p ≡ k = omega arith in
+    over-eq p z 0 (omega arith) ∙ ap (λ (l : List ℕ). p ++ l) (ap₂ drop at e ∙ drop-replicate k n h)
 
 -- ---- laws of same
 

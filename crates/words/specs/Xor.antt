@@ -73,7 +73,7 @@ unfoldable pub xors : List ℕ → List ℕ → List ℕ
 xors = zipWith bitXor
 
 pub xors-back : (a b : List ℕ) → length a ≡ length b → xors a (xors a b) ≡ b
-unfolding xors zipWith length
+unfolding xors zipWith
 xors-back [] [] h = refl
 xors-back [] (y ∷ b) h = absurd (omega arith)
 xors-back (x ∷ a) [] h = absurd (omega arith)
