@@ -13,5 +13,6 @@ pub mod Once
 pub mod Parts
 pub mod Runs
 pub mod Slots
+pub mod Tidy
 pub mod Unmoved
 pub mod Written
