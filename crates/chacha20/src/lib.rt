@@ -52,6 +52,8 @@ pub fn block(key: [u32; 8], counter: u32, nonce: [u32; 3]) -> State
 pub fn key_words(key: &[u8; 32]) -> [u32; 8]
     ensures { λ r. ⌜ r ≡ wordsAt 8 (now (key .entry)) ⌝ }
 {
+    // made a slice once, and not for each load: a shorter walk to prove
+    let key: &[u8] = key;
     [
         slices::load(key, 0),
         slices::load(key, 4),
@@ -67,6 +69,7 @@ pub fn key_words(key: &[u8; 32]) -> [u32; 8]
 pub fn nonce_words(nonce: &[u8; 12]) -> [u32; 3]
     ensures { λ r. ⌜ r ≡ wordsAt 3 (now (nonce .entry)) ⌝ }
 {
+    let nonce: &[u8] = nonce;
     [
         slices::load(nonce, 0),
         slices::load(nonce, 4),

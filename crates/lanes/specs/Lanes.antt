@@ -5,10 +5,19 @@ use mathlib.Core.List.{List, [], _∷_, _++_}
 use native.Mathlib.Omega.{arith}
 use lib.ListN.{length, getD, set, take, drop}
 use Rattle.words.specs.List.{tab, length-tab}
+use Rattle.rounds.specs.declared.Four.{Four}
 
 -- state l of the four: its word w stands at 4 * w + l
 unfoldable pub col : ℕ → List ℕ → List ℕ
 col l x = tab (λ w. getD x (4 * w + l) 0) 16
+
+-- four words of a state, from the one at `at` on
+abbrev pub fourAt : ℕ → List ℕ → Four
+fourAt at x = record { a = getD x at 0; b = getD x (4 + at) 0; c = getD x (8 + at) 0; d = getD x (12 + at) 0 }
+
+-- and those words written over
+abbrev pub putFour : ℕ → ℕ → ℕ → ℕ → ℕ → List ℕ → List ℕ
+putFour at a b c d x = set (set (set (set x at a) (4 + at) b) (8 + at) c) (12 + at) d
 
 -- the four states
 unfoldable pub rows : List ℕ → List (List ℕ)

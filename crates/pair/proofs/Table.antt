@@ -1,6 +1,6 @@
 -- The table of two states: its first 32 words under each of the code's functions. Assumes nothing.
-use mathlib.Core.Path.{_≡_, refl, sym, ap, _∙_, subst}
-use Prim.Native.Nat.{ℕ, zero, suc, _+_, _%_, _≤_, _<_}
+use mathlib.Core.Path.{_≡_, refl, sym, ap, ap₂, _∙_, subst}
+use Prim.Native.Nat.{ℕ, zero, suc, _+_, _≤_, _<_}
 use native.Mathlib.Omega.{arith}
 use native.Mathlib.Numerals.{add-one}
 use mathlib.Core.List.{List, [], _∷_}
@@ -10,7 +10,7 @@ use Rattle.words.specs.Spelt.{all}
 use Rattle.rounds.specs.declared.Four.{Four}
 use Rattle.rounds.specs.declared.State.{State}
 use Rattle.rounds.specs.Rounds.{words, quarter, store, quarterAt, columnRound, diagonalRound, doubleRound, rounds, added, blockFrom}
-use Rattle.pair.specs.Pair.{half, put, columns, turned, turnedRows}
+use Rattle.pair.specs.Pair.{fourAt, putFour, turnedBack, rowOf, half, put, columns, leftBy, turned, turnedRows}
 
 take-set : (n : ℕ) (s : List ℕ) (i v : ℕ) → take n (set s i v) ≡ set (take n s) i v
 take-set zero s i v = refl
@@ -18,54 +18,67 @@ take-set (suc n) [] i v = refl
 take-set (suc n) (x ∷ s) zero v = refl
 take-set (suc n) (x ∷ s) (suc i) v = ap (λ (l : List ℕ). x ∷ l) (take-set n s i v)
 
--- stores past the first 32 words
-pub padded : (z : List ℕ) (at a b c d : ℕ) → 32 ≤ at → take 32 (set (set (set (set z at a) (at + 8) b) (at + 16) c) (at + 24) d) ≡ take 32 z
-padded z at a b c d h =
-    take-set-le 32 (set (set (set z at a) (at + 8) b) (at + 16) c) (at + 24) d (omega arith)
-    ∙ take-set-le 32 (set (set z at a) (at + 8) b) (at + 16) c (omega arith)
-    ∙ take-set-le 32 (set z at a) (at + 8) b (omega arith)
-    ∙ take-set-le 32 z at a h
-
 -- four stores among the first 32 words
-four-sets : (z : List ℕ) (i j k l a b c d : ℕ) → take 32 (set (set (set (set z i a) j b) k c) l d) ≡ set (set (set (set (take 32 z) i a) j b) k c) l d
-four-sets z i j k l a b c d =
-    take-set 32 (set (set (set z i a) j b) k c) l d
-    ∙ ap (λ (s : List ℕ). set s l d) (take-set 32 (set (set z i a) j b) k c
-    ∙ ap (λ (s : List ℕ). set s k c) (take-set 32 (set z i a) j b
-    ∙ ap (λ (s : List ℕ). set s j b) (take-set 32 z i a)))
+front : (z : List ℕ) (at step : ℕ) (q : Four) → take 32 (putFour at step q z) ≡ putFour at step q (take 32 z)
+unfolding store
+front z at step q =
+    let i : ℕ = step + at in
+    let j : ℕ = step + i in
+    take-set 32 (set (set (set z at (q .a)) i (q .b)) j (q .c)) (step + j) (q .d)
+    ∙ ap (λ (s : List ℕ). set s (step + j) (q .d)) (take-set 32 (set (set z at (q .a)) i (q .b)) j (q .c)
+    ∙ ap (λ (s : List ℕ). set s j (q .c)) (take-set 32 (set z at (q .a)) i (q .b)
+    ∙ ap (λ (s : List ℕ). set s i (q .b)) (take-set 32 z at (q .a))))
 
-pub quarter-front : (z : List ℕ) (j : ℕ) (q : Four) → j < 8 → q ≡ quarter (getD z j 0) (getD z (8 + j) 0) (getD z (16 + j) 0) (getD z (24 + j) 0)
-    → take 32 (store j (8 + j) (16 + j) (24 + j) z q) ≡ quarterAt j (8 + j) (16 + j) (24 + j) (take 32 z)
-unfolding quarterAt store
-quarter-front z j q h e =
-    four-sets z j (8 + j) (16 + j) (24 + j) (q .a) (q .b) (q .c) (q .d)
-    ∙ ap (λ (p : Four). store j (8 + j) (16 + j) (24 + j) (take 32 z) p)
-    (rw (getD-take 32 z j 0 (omega arith), getD-take 32 z (8 + j) 0 (omega arith), getD-take 32 z (16 + j) 0 (omega arith), getD-take 32 z (24 + j) 0 (omega arith)) e)
+-- four stores past them
+pub past : (z y : List ℕ) (at step : ℕ) (q : Four) → 32 ≤ at → y ≡ putFour at step q z → take 32 y ≡ take 32 z
+unfolding store
+past z y at step q h e =
+    let i : ℕ = step + at in
+    let j : ℕ = step + i in
+    ap (take 32) e
+    ∙ take-set-le 32 (set (set (set z at (q .a)) i (q .b)) j (q .c)) (step + j) (q .d) (omega arith)
+    ∙ take-set-le 32 (set (set z at (q .a)) i (q .b)) j (q .c) (omega arith)
+    ∙ take-set-le 32 (set z at (q .a)) i (q .b) (omega arith)
+    ∙ take-set-le 32 z at (q .a) h
 
-pub turned-front : (z : List ℕ) (at by : ℕ) → at + 4 ≤ 32 → take 32 (turned at by z) ≡ turned at by (take 32 z)
+-- four words among them
+four-front : (z : List ℕ) (at step : ℕ) → step + (step + (step + at)) < 32 → fourAt at step (take 32 z) ≡ fourAt at step z
+four-front z at step h = λ i. record {
+  a = getD-take 32 z at 0 (omega arith) i;
+  b = getD-take 32 z (step + at) 0 (omega arith) i;
+  c = getD-take 32 z (step + (step + at)) 0 (omega arith) i;
+  d = getD-take 32 z (step + (step + (step + at))) 0 (omega arith) i;
+}
+
+pub quarter-front : (z y : List ℕ) (j : ℕ) (p q : Four) → j < 8 → p ≡ fourAt j 8 z → q ≡ quarter (p .a) (p .b) (p .c) (p .d) → y ≡ putFour j 8 q z
+    → take 32 y ≡ quarterAt j (8 + j) (16 + j) (24 + j) (take 32 z)
+unfolding quarterAt
+quarter-front z y j p q h d e f =
+    let two : 8 + (8 + j) ≡ 16 + j = omega arith in
+    let three : 8 + (8 + (8 + j)) ≡ 24 + j = omega arith in
+    ap (take 32) f ∙ front z j 8 q
+    ∙ ap (λ (p : Four). putFour j 8 p (take 32 z)) (e ∙ ap (λ (p : Four). quarter (p .a) (p .b) (p .c) (p .d)) (d ∙ sym (four-front z j 8 (omega arith))))
+    ∙ ap₂ (λ (k l : ℕ). quarterAt j (8 + j) k l (take 32 z)) two three
+
+pub turned-front : (z y : List ℕ) (at by : ℕ) (p q : Four) → at + 4 ≤ 32 → p ≡ fourAt at 1 z → q ≡ leftBy by p → y ≡ putFour at 1 q z → take 32 y ≡ turned at by (take 32 z)
 unfolding turned
-turned-front z at by h =
-    four-sets z at (at + 1) (at + 2) (at + 3) (getD z (at + by % 4) 0) (getD z (at + (by + 1) % 4) 0) (getD z (at + (by + 2) % 4) 0) (getD z (at + (by + 3) % 4) 0)
-    ∙ rw (getD-take 32 z (at + by % 4) 0 (omega arith), getD-take 32 z (at + (by + 1) % 4) 0 (omega arith), getD-take 32 z (at + (by + 2) % 4) 0 (omega arith), getD-take 32 z (at + (by + 3) % 4) 0 (omega arith)) refl
+turned-front z y at by p q h d e f =
+    ap (take 32) f ∙ front z at 1 q ∙ ap (λ (p : Four). putFour at 1 p (take 32 z)) (e ∙ ap (leftBy by) (d ∙ sym (four-front z at 1 (omega arith))))
 
 half-front : (z : List ℕ) (at : ℕ) → at + 28 ≤ 32 → half at (take 32 z) ≡ half at z
 unfolding half
-half-front z at h = λ i.
-    getD-take 32 z at 0 (omega arith) i ∷ getD-take 32 z (at + 1) 0 (omega arith) i ∷ getD-take 32 z (at + 2) 0 (omega arith) i ∷ getD-take 32 z (at + 3) 0 (omega arith) i
-    ∷ getD-take 32 z (at + 11) 0 (omega arith) i ∷ getD-take 32 z (at + 8) 0 (omega arith) i ∷ getD-take 32 z (at + 9) 0 (omega arith) i ∷ getD-take 32 z (at + 10) 0 (omega arith) i
-    ∷ getD-take 32 z (at + 18) 0 (omega arith) i ∷ getD-take 32 z (at + 19) 0 (omega arith) i ∷ getD-take 32 z (at + 16) 0 (omega arith) i ∷ getD-take 32 z (at + 17) 0 (omega arith) i
-    ∷ getD-take 32 z (at + 25) 0 (omega arith) i ∷ getD-take 32 z (at + 26) 0 (omega arith) i ∷ getD-take 32 z (at + 27) 0 (omega arith) i ∷ getD-take 32 z (at + 24) 0 (omega arith) i ∷ []
+half-front z at h = λ i. turnedBack (four-front z at 1 (omega arith) i) (four-front z (8 + at) 1 (omega arith) i) (four-front z (16 + at) 1 (omega arith) i) (four-front z (24 + at) 1 (omega arith) i)
 
 -- a column round, the rows turned, and a column round, with the rows as they were in between
 abbrev pub both : List ℕ → List ℕ
 both z = columns 8 (turnedRows 1 3 (columns 8 (turnedRows 3 1 z)))
 
 both-half : (s : List ℕ) → length s ≡ 32 → (half 0 (both s) ≡ doubleRound (half 0 s)) × (half 4 (both s) ≡ doubleRound (half 4 s))
-unfolding half columns turned turnedRows doubleRound columnRound diagonalRound quarterAt store
+unfolding half columns leftBy turned turnedRows doubleRound columnRound diagonalRound quarterAt store
 both-half s h = subst (λ (y : List ℕ). (half 0 (both y) ≡ doubleRound (half 0 y)) × (half 4 (both y) ≡ doubleRound (half 4 y))) (all 32 s h) (refl, refl)
 
 -- the two states, where the first 32 words become those of both
-pub double : (z y : List ℕ) → length z ≡ 160 → take 32 y ≡ both (take 32 z) → (half 0 y ≡ doubleRound (half 0 z)) × (half 4 y ≡ doubleRound (half 4 z))
+pub double : (z y : List ℕ) → length z ≡ 64 → take 32 y ≡ both (take 32 z) → (half 0 y ≡ doubleRound (half 0 z)) × (half 4 y ≡ doubleRound (half 4 z))
 double z y h e =
     let l : length (take 32 z) ≡ 32 = length-take-le 32 z (omega arith) in
     let each = both-half (take 32 z) l in (
@@ -73,12 +86,23 @@ double z y h e =
       sym (half-front y 4 (omega arith)) ∙ ap (half 4) e ∙ each .1 ∙ ap doubleRound (half-front z 4 (omega arith)),
     )
 
-put-half : (s t : State) (x : List ℕ) → length x ≡ 160 → (half 0 (put 4 t (put 0 s x)) ≡ words s) × (half 4 (put 4 t (put 0 s x)) ≡ words t)
-unfolding half put
-put-half s t x h = subst (λ (y : List ℕ). (half 0 (put 4 t (put 0 s y)) ≡ words s) × (half 4 (put 4 t (put 0 s y)) ≡ words t)) (all 160 x h) (refl, refl)
+-- a state, read and put row after row
+pub sum-rows : (at : ℕ) (z t v : List ℕ) (p q r s : Four) → p ≡ fourAt at 1 z → q ≡ fourAt (8 + at) 1 z → r ≡ fourAt (16 + at) 1 z → s ≡ fourAt (24 + at) 1 z
+    → v ≡ added (turnedBack p q r s) t → v ≡ added (half at z) t
+unfolding half
+sum-rows at z t v p q r s d e f g h = h ∙ λ i. added (turnedBack (d i) (e i) (f i) (g i)) t
+
+pub put-rows : (at : ℕ) (t : State) (z y x w v : List ℕ) → y ≡ putFour at 1 (rowOf 0 t) z → x ≡ putFour (8 + at) 1 (rowOf 1 t) y → w ≡ putFour (16 + at) 1 (rowOf 2 t) x → v ≡ putFour (24 + at) 1 (rowOf 3 t) w
+    → v ≡ put at t z
+unfolding put
+put-rows at t z y x w v d e f g = g ∙ ap (putFour (24 + at) 1 (rowOf 3 t)) (f ∙ ap (putFour (16 + at) 1 (rowOf 2 t)) (e ∙ ap (putFour (8 + at) 1 (rowOf 1 t)) d))
+
+put-half : (s t : State) (x : List ℕ) → length x ≡ 64 → (half 0 (put 4 t (put 0 s x)) ≡ words s) × (half 4 (put 4 t (put 0 s x)) ≡ words t)
+unfolding half put store
+put-half s t x h = subst (λ (y : List ℕ). (half 0 (put 4 t (put 0 s y)) ≡ words s) × (half 4 (put 4 t (put 0 s y)) ≡ words t)) (all 64 x h) (refl, refl)
 
 -- a table with both states put in
-pub both-put : (s t : State) (x y z : List ℕ) → y ≡ put 0 s x → z ≡ put 4 t y → length x ≡ 160 → (half 0 z ≡ words s) × (half 4 z ≡ words t)
+pub both-put : (s t : State) (x y z : List ℕ) → y ≡ put 0 s x → z ≡ put 4 t y → length x ≡ 64 → (half 0 z ≡ words s) × (half 4 z ≡ words t)
 both-put s t x y z e f h =
     let g : z ≡ put 4 t (put 0 s x) = f ∙ ap (put 4 t) e in
     let each = put-half s t x h in
@@ -90,6 +114,6 @@ unfolding rounds
 rounds-more at n x y z e f = rw (add-one n) (f ∙ ap doubleRound e)
 
 -- what the sums give
-pub block-of : (at : ℕ) (y z r s u : List ℕ) → r ≡ added u s → u ≡ half at y → half at y ≡ rounds 10 (half at z) → half at z ≡ s → r ≡ blockFrom s
+pub block-of : (at : ℕ) (y z r s : List ℕ) → r ≡ added (half at y) s → half at y ≡ rounds 10 (half at z) → half at z ≡ s → r ≡ blockFrom s
 unfolding blockFrom
-block-of at y z r s u e d f g = e ∙ ap (λ (v : List ℕ). added v s) (d ∙ f ∙ ap (rounds 10) g)
+block-of at y z r s e f g = e ∙ ap (λ (v : List ℕ). added v s) (f ∙ ap (rounds 10) g)

@@ -8,8 +8,8 @@
 ghost use mathlib.Core.Path.{_≡_};
 ghost use Prim.Native.Nat.{_+_, _≤_, _<_};
 ghost use lib.ListN.{length, take};
-ghost use Rattle.rounds.specs.Rounds.{words, store, quarterAt, doubleRound, rounds, blockFrom};
-ghost use Rattle.pair.specs.Pair.{half, put, columns as columnsOf, turned, turnedRows};
+ghost use Rattle.rounds.specs.Rounds.{words, quarterAt, doubleRound, rounds, added, blockFrom};
+ghost use Rattle.pair.specs.Pair.{fourAt, putFour, leftBy, half, put, columns as columnsOf, turned as turnedAt, turnedRows};
 use rounds::Four;
 use rounds::State;
 
@@ -18,99 +18,102 @@ pub struct Two {
     pub b: State,
 }
 
+// Four words of the table, from `at` on and `step` apart.
+fn four(z: &[u32], at: usize, step: usize) -> Four
+    requires { ⌜ step + (step + (step + at)) < length (now z) ⌝ }
+    ensures { λ r. ⌜ r ≡ fourAt at step (now (z .entry)) ⌝ }
+{
+    let i = step + at;
+    let j = step + i;
+    let k = step + j;
+    Four {
+        a: z[at],
+        b: z[i],
+        c: z[j],
+        d: z[k],
+    }
+}
+
+fn set_four(z: &mut [u32], at: usize, step: usize, a: u32, b: u32, c: u32, d: u32)
+    requires { ⌜ step + (step + (step + at)) < length (now z) ⌝ }
+    ensures { λ _. ⌜ now (z .exit) ≡ putFour at step record { a = a; b = b; c = c; d = d } (now (z .entry)) ⌝ }
+{
+    let i = step + at;
+    let j = step + i;
+    let k = step + j;
+    z[at] = a;
+    z[i] = b;
+    z[j] = c;
+    z[k] = d;
+}
+
 // Row r of a state is put r places to the left, as a diagonal round leaves it. So a double round
 // can end with a round: where it ended with rows being turned, LLVM took them apart into words.
 fn set_state(z: &mut [u32], at: usize, t: State)
     requires { ⌜ at + 28 ≤ length (now z) ⌝ }
     ensures { λ _. ⌜ now (z .exit) ≡ put at t (now (z .entry)) ⌝ }
 {
-    z[at] = t.x0;
-    z[at + 1] = t.x1;
-    z[at + 2] = t.x2;
-    z[at + 3] = t.x3;
-    z[at + 11] = t.x4;
-    z[at + 8] = t.x5;
-    z[at + 9] = t.x6;
-    z[at + 10] = t.x7;
-    z[at + 18] = t.x8;
-    z[at + 19] = t.x9;
-    z[at + 16] = t.x10;
-    z[at + 17] = t.x11;
-    z[at + 25] = t.x12;
-    z[at + 26] = t.x13;
-    z[at + 27] = t.x14;
-    z[at + 24] = t.x15;
+    set_four(z, at, 1, t.x0, t.x1, t.x2, t.x3);
+    set_four(z, 8 + at, 1, t.x5, t.x6, t.x7, t.x4);
+    set_four(z, 16 + at, 1, t.x10, t.x11, t.x8, t.x9);
+    set_four(z, 24 + at, 1, t.x15, t.x12, t.x13, t.x14);
 }
 
-fn state_at(z: &[u32; 160], at: usize) -> State
-    requires { ⌜ at + 28 ≤ 160 ⌝ }
-    ensures { λ r. ⌜ words r ≡ half at (now (z .entry)) ⌝ }
+// The state whose rows begin at `at`, with t added.
+fn sum_at(z: &[u32], at: usize, t: State) -> State
+    requires { ⌜ at + 28 ≤ length (now z) ⌝ }
+    ensures { λ r. ⌜ words r ≡ added (half at (now (z .entry))) (words t) ⌝ }
 {
-    State {
-        x0: z[at],
-        x1: z[at + 1],
-        x2: z[at + 2],
-        x3: z[at + 3],
-        x4: z[at + 11],
-        x5: z[at + 8],
-        x6: z[at + 9],
-        x7: z[at + 10],
-        x8: z[at + 18],
-        x9: z[at + 19],
-        x10: z[at + 16],
-        x11: z[at + 17],
-        x12: z[at + 25],
-        x13: z[at + 26],
-        x14: z[at + 27],
-        x15: z[at + 24],
-    }
+    let p = four(z, at, 1);
+    let q = four(z, 8 + at, 1);
+    let r = four(z, 16 + at, 1);
+    let s = four(z, 24 + at, 1);
+    let u = State {
+        x0: p.a,
+        x1: p.b,
+        x2: p.c,
+        x3: p.d,
+        x4: q.d,
+        x5: q.a,
+        x6: q.b,
+        x7: q.c,
+        x8: r.c,
+        x9: r.d,
+        x10: r.a,
+        x11: r.b,
+        x12: s.b,
+        x13: s.c,
+        x14: s.d,
+        x15: s.a,
+    };
+    rounds::add_states(u, t)
 }
 
-// Stores past the states' rows, of words that nothing reads. Without them the loop of `columns` is
-// so short that LLVM unrolls it before it looks for loops to vectorise. Once it has vectorised the
-// loop it sees that they are not read, and leaves them out.
-fn pad(z: &mut [u32], at: usize, x: u32)
-    requires { ⌜ (length (now z) ≡ 160) × (32 ≤ at) × (at < 136) ⌝ }
+// Two quarter rounds more, stored past the states' rows, where nothing reads them. Without them the
+// loop of `columns` is so short that LLVM unrolls it before it looks for loops to vectorise. Once it
+// has vectorised the loop it sees that they are not read, and leaves them out.
+fn pad(z: &mut [u32], j: usize, q: Four)
+    requires { ⌜ (length (now z) ≡ 64) × (j < 8) ⌝ }
     ensures { λ _. ⌜ take 32 (now (z .exit)) ≡ take 32 (now (z .entry)) ⌝ }
 {
-    z[at] = x;
-    z[at + 8] = x >> 1;
-    z[at + 16] = x >> 2;
-    z[at + 24] = x >> 3;
-}
-
-fn pad_column(z: &mut [u32], j: usize, q: Four)
-    requires { ⌜ (length (now z) ≡ 160) × (j < 8) ⌝ }
-    ensures { λ _. ⌜ take 32 (now (z .exit)) ≡ take 32 (now (z .entry)) ⌝ }
-{
-    pad(z, 32 + j, q.a);
-    pad(z, 64 + j, q.b);
-    pad(z, 96 + j, q.c);
-    pad(z, 128 + j, q.d);
-}
-
-fn set_column(z: &mut [u32], j: usize, q: Four)
-    requires { ⌜ (length (now z) ≡ 160) × (j < 8) ⌝ }
-    ensures { λ _. ⌜ now (z .exit) ≡ store j (8 + j) (16 + j) (24 + j) (now (z .entry)) q ⌝ }
-{
-    z[j] = q.a;
-    z[8 + j] = q.b;
-    z[16 + j] = q.c;
-    z[24 + j] = q.d;
+    let r = rounds::quarter_round(q.a, q.b, q.c, q.d);
+    let s = rounds::quarter_round(r.a, r.b, r.c, r.d);
+    set_four(z, 32 + j, 8, s.a, s.b, s.c, s.d);
 }
 
 fn quarter_at(z: &mut [u32], j: usize)
-    requires { ⌜ (length (now z) ≡ 160) × (j < 8) ⌝ }
+    requires { ⌜ (length (now z) ≡ 64) × (j < 8) ⌝ }
     ensures { λ _. ⌜ take 32 (now (z .exit)) ≡ quarterAt j (8 + j) (16 + j) (24 + j) (take 32 (now (z .entry))) ⌝ }
 {
-    let q = rounds::quarter_round(z[j], z[8 + j], z[16 + j], z[24 + j]);
-    set_column(z, j, q);
-    pad_column(z, j, q);
+    let p = four(z, j, 8);
+    let q = rounds::quarter_round(p.a, p.b, p.c, p.d);
+    set_four(z, j, 8, q.a, q.b, q.c, q.d);
+    pad(z, j, q);
 }
 
 // A round on the columns of both states as the rows stand.
 fn columns(z: &mut [u32])
-    requires { ⌜ length (now z) ≡ 160 ⌝ }
+    requires { ⌜ length (now z) ≡ 64 ⌝ }
     ensures { λ _. ⌜ take 32 (now (z .exit)) ≡ columnsOf 8 (take 32 (now (z .entry))) ⌝ }
 {
     let mut j: usize = 0;
@@ -120,23 +123,45 @@ fn columns(z: &mut [u32])
     }
 }
 
-// The four words at `at`, turned to the left by so many places.
-fn turn(z: &mut [u32], at: usize, by: usize)
-    requires { ⌜ (length (now z) ≡ 160) × (at + 4 ≤ 32) × (by < 4) ⌝ }
-    ensures { λ _. ⌜ take 32 (now (z .exit)) ≡ turned at by (take 32 (now (z .entry))) ⌝ }
+// A row's words, turned to the left by one, two or three places.
+fn turned(q: Four, by: usize) -> Four
+    requires { ⌜ (0 < by) × (by < 4) ⌝ }
+    ensures { λ r. ⌜ r ≡ leftBy by q ⌝ }
 {
-    let a = z[at + by % 4];
-    let b = z[at + (by + 1) % 4];
-    let c = z[at + (by + 2) % 4];
-    let d = z[at + (by + 3) % 4];
-    z[at] = a;
-    z[at + 1] = b;
-    z[at + 2] = c;
-    z[at + 3] = d;
+    if by == 1 {
+        return Four {
+            a: q.b,
+            b: q.c,
+            c: q.d,
+            d: q.a,
+        };
+    }
+    if by == 2 {
+        return Four {
+            a: q.c,
+            b: q.d,
+            c: q.a,
+            d: q.b,
+        };
+    }
+    Four {
+        a: q.d,
+        b: q.a,
+        c: q.b,
+        d: q.c,
+    }
+}
+
+fn turn(z: &mut [u32], at: usize, by: usize)
+    requires { ⌜ (length (now z) ≡ 64) × (at + 4 ≤ 32) × (0 < by) × (by < 4) ⌝ }
+    ensures { λ _. ⌜ take 32 (now (z .exit)) ≡ turnedAt at by (take 32 (now (z .entry))) ⌝ }
+{
+    let q = turned(four(z, at, 1), by);
+    set_four(z, at, 1, q.a, q.b, q.c, q.d);
 }
 
 fn turn_rows(z: &mut [u32], b: usize, d: usize)
-    requires { ⌜ (length (now z) ≡ 160) × (b < 4) × (d < 4) ⌝ }
+    requires { ⌜ (length (now z) ≡ 64) × (0 < b) × (b < 4) × (0 < d) × (d < 4) ⌝ }
     ensures { λ _. ⌜ take 32 (now (z .exit)) ≡ turnedRows b d (take 32 (now (z .entry))) ⌝ }
 {
     turn(z, 8, b);
@@ -148,7 +173,7 @@ fn turn_rows(z: &mut [u32], b: usize, d: usize)
 }
 
 fn double_round(z: &mut [u32])
-    requires { ⌜ length (now z) ≡ 160 ⌝ }
+    requires { ⌜ length (now z) ≡ 64 ⌝ }
     ensures { λ _. ⌜ half 0 (now (z .exit)) ≡ doubleRound (half 0 (now (z .entry))) ⌝ }
     ensures { λ _. ⌜ half 4 (now (z .exit)) ≡ doubleRound (half 4 (now (z .entry))) ⌝ }
 {
@@ -159,7 +184,7 @@ fn double_round(z: &mut [u32])
 }
 
 fn twenty_rounds(z: &mut [u32])
-    requires { ⌜ length (now z) ≡ 160 ⌝ }
+    requires { ⌜ length (now z) ≡ 64 ⌝ }
     ensures { λ _. ⌜ half 0 (now (z .exit)) ≡ rounds 10 (half 0 (now (z .entry))) ⌝ }
     ensures { λ _. ⌜ half 4 (now (z .exit)) ≡ rounds 10 (half 4 (now (z .entry))) ⌝ }
 {
@@ -175,12 +200,12 @@ pub fn two_blocks(t: Two) -> Two
     ensures { λ r. ⌜ words (r .a) ≡ blockFrom (words (t .a)) ⌝ }
     ensures { λ r. ⌜ words (r .b) ≡ blockFrom (words (t .b)) ⌝ }
 {
-    let mut z = [0; 160];
+    let mut z = [0; 64];
     set_state(&mut z, 0, t.a);
     set_state(&mut z, 4, t.b);
     twenty_rounds(&mut z);
     Two {
-        a: rounds::add_states(state_at(&z, 0), t.a),
-        b: rounds::add_states(state_at(&z, 4), t.b),
+        a: sum_at(&z, 0, t.a),
+        b: sum_at(&z, 4, t.b),
     }
 }
