@@ -24,8 +24,11 @@ pub load-law : (b : List ℕ) (x y : ℕ) → 8 ≤ length b → x ≡ wordAt b 
 unfolding setNumber part
 load-law b x y h e f = (λ i. e i + f i * 2 ^ 32) ∙ sym (number-words b 0 h)
 
-module _ (key b out0 n t o z : List ℕ) (set i x s : ℕ) (r : Bool) (lb : length b ≡ 512) (lo : length out0 ≡ 484) where
-  module _ (en : n ≡ over 0 (take 12 (drop 0 b)) (replicate 12 0)) (et : t ≡ over 0 (take 16 (drop 496 b)) (replicate 16 0)) (eo : o ≡ over 0 (take 484 (drop 12 b)) out0) where
+-- a block's text: n, t and o are the copies of its nonce, its tag and its sealed bytes, and z is what the opening leaves of o
+module _ (key b out0 n t o : List ℕ) (r : Bool) (lb : length b ≡ 512) (lo : length out0 ≡ 484)
+    (en : n ≡ over 0 (take 12 (drop 0 b)) (replicate 12 0)) (et : t ≡ over 0 (take 16 (drop 496 b)) (replicate 16 0)) (eo : o ≡ over 0 (take 484 (drop 12 b)) out0)
+    (er : r ≡ opens key n n o t)
+  where
     nonce-is : n ≡ part 0 12 b
     unfolding part
     nonce-is = en ∙ over-all (take 12 b) (replicate 12 0) (length-take-le 12 b (omega arith))
@@ -38,15 +41,21 @@ module _ (key b out0 n t o z : List ℕ) (set i x s : ℕ) (r : Bool) (lb : leng
     unfolding part
     text-part = eo ∙ over-all (take 484 (drop 12 b)) out0 (length-take-le 484 (drop 12 b) (omega (arith, length-drop 12 b)) ∙ sym lo)
 
-    pub open-fits : r ≡ opens key n n o t → x ≡ wordAt b 8 → s ≡ setNumber b → eqb x i && (eqb s set && r) ≡ blockFits key set i b
-    unfolding blockFits setNumber part
-    open-fits er ex es = rw (ex, es, er, nonce-is, tag-part, text-part, number-word b 8 (omega arith)) refl
+    pub text-opens : r ≡ opens key (part 0 12 b) (part 0 12 b) (part 12 484 b) (part 496 16 b)
+    text-opens = er ∙ rw (nonce-is, tag-part, text-part) refl
 
-    pub open-text : r ≡ opens key n n o t → z ≡ openedTextOf key n n o t → eqb x i && (eqb s set && r) ≡ true → z ≡ cipher key (part 0 12 b) (part 12 484 b)
+    pub opened-text : (z : List ℕ) → z ≡ openedTextOf key n n o t → r ≡ true → z ≡ cipher key (part 0 12 b) (part 12 484 b)
     unfolding openedTextOf
-    open-text er ez ok =
-        let opens-so : opens key n n o t ≡ true = sym er ∙ both (eqb s set) r (both (eqb x i) _ ok .1) .1 in
-        ez ∙ rw opens-so (ap₂ (cipher key) nonce-is text-part)
+    opened-text z ez ok = ez ∙ rw (sym er ∙ ok) (ap₂ (cipher key) nonce-is text-part)
+
+-- a block: its index and number beside that
+module _ (key b : List ℕ) (set i x s : ℕ) (r : Bool) where
+  pub block-fits : length b ≡ 512 → r ≡ opens key (part 0 12 b) (part 0 12 b) (part 12 484 b) (part 496 16 b) → x ≡ wordAt b 8 → s ≡ setNumber b → eqb x i && (eqb s set && r) ≡ blockFits key set i b
+  unfolding blockFits setNumber part
+  block-fits lb er ex es = rw (ex, es, er, number-word b 8 (omega arith)) refl
+
+  pub block-text : (z : List ℕ) → (r ≡ true → z ≡ cipher key (part 0 12 b) (part 12 484 b)) → eqb x i && (eqb s set && r) ≡ true → z ≡ cipher key (part 0 12 b) (part 12 484 b)
+  block-text z f ok = f (both (eqb s set) r (both (eqb x i) _ ok .1) .1)
 
 length-opened : (key h : List ℕ) (i : ℕ) → 512 * i ≤ length h → length (openedText key h i) ≡ 484 * i
 unfolding openedText blockAt

@@ -5,7 +5,7 @@ ghost use mathlib.Core.Bool.{true, _&&_};
 ghost use Prim.Native.Nat.{_*_, _/_, _%_, _≤_};
 ghost use lib.Dec.{eqb, leb};
 ghost use lib.ListN.{length};
-ghost use Rattle.aead.specs.Aead.{cipher};
+ghost use Rattle.aead.specs.Aead.{cipher, opens};
 ghost use Rattle.content.specs.Content.{part};
 ghost use Rattle.half.specs.Half.{blockFits, firstFit, openedText, setNumber, whyNotOpened};
 ghost use Rattle.opening.specs.Examined.{refused as refusedFor, answerFor, examined};
@@ -19,10 +19,10 @@ fn load_number(b: &[u8]) -> u64
     slices::load(b, 0) as u64 + slices::load(b, 4) as u64 * 4294967296
 }
 
-// Whether b is block i of the set; where it is, its text is opened into out.
-fn open_block(key: &[u8; 32], number: u64, i: u32, b: &[u8], out: &mut [u8]) -> bool
+// Whether the tag of block b fits; where it does, its text is opened into out.
+fn open_text(key: &[u8; 32], b: &[u8], out: &mut [u8]) -> bool
     requires { ⌜ (length (now b) ≡ 512) × (length (now out) ≡ 484) ⌝ }
-    ensures { λ r. ⌜ r ≡ blockFits (now (key .entry)) number i (now (b .entry)) ⌝ }
+    ensures { λ r. ⌜ r ≡ opens (now (key .entry)) (part 0 12 (now (b .entry))) (part 0 12 (now (b .entry))) (part 12 484 (now (b .entry))) (part 496 16 (now (b .entry))) ⌝ }
     ensures { λ r. ⌜ (r ≡ true → now (out .exit) ≡ cipher (now (key .entry)) (part 0 12 (now (b .entry))) (part 12 484 (now (b .entry)))) ⌝ }
 {
     let mut nonce = [0u8; 12];
@@ -31,7 +31,16 @@ fn open_block(key: &[u8; 32], number: u64, i: u32, b: &[u8], out: &mut [u8]) -> 
     let mut tag = [0u8; 16];
     slices::copy(&mut tag, 0, &b[496..512]);
     slices::copy(out, 0, &b[12..496]);
-    let opens = aead::open(key, &nonce, &aad, out, &tag);
+    aead::open(key, &nonce, &aad, out, &tag)
+}
+
+// Whether b is block i of the set; where it is, its text is opened into out.
+fn open_block(key: &[u8; 32], number: u64, i: u32, b: &[u8], out: &mut [u8]) -> bool
+    requires { ⌜ (length (now b) ≡ 512) × (length (now out) ≡ 484) ⌝ }
+    ensures { λ r. ⌜ r ≡ blockFits (now (key .entry)) number i (now (b .entry)) ⌝ }
+    ensures { λ r. ⌜ (r ≡ true → now (out .exit) ≡ cipher (now (key .entry)) (part 0 12 (now (b .entry))) (part 12 484 (now (b .entry)))) ⌝ }
+{
+    let opens = open_text(key, b, out);
     let index = slices::load(b, 8);
     let set = load_number(b);
     (index == i) & ((set == number) & opens)
