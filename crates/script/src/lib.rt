@@ -2,8 +2,8 @@
 // numbers. For the programs that run test vectors and records of calls.
 //
 // No public function has a `requires`: what can't be read is refused, and a position past the end
-// counts as the end. The contracts say where a part of a text lies and how many bytes a field gives;
-// no contract can say what a program writes.
+// counts as the end. The contracts say where a part of a text lies. None says what a field stands for,
+// and none can say what a program writes: the programs' outputs are compared instead.
 mod read;
 mod write;
 
