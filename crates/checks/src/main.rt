@@ -5,13 +5,15 @@ mod run;
 use node::Correction;
 use node::Key;
 use script::ROOM;
-
-// One more than the longest script.
-const SIZE: usize = 65537;
+use script::Word;
 
 // So that a mistake shows as a difference in the output.
 fn bad_line(out: &mut [u8; ROOM], at: usize) -> usize {
     script::put_text(out, at, b"bad line")
+}
+
+fn word(line: &[u8], place: usize) -> Word {
+    script::read_word(script::field(line, place))
 }
 
 // A key, with the two seeds that it was made from. `ok`: they and the point were read.
@@ -26,15 +28,14 @@ struct Dealt {
 fn deal(line: &[u8], at0: usize, at1: usize, point_at: usize) -> Dealt {
     let mut b0 = [0u8; 32];
     let mut b1 = [0u8; 32];
-    let mut w = [0u32; 1];
     let ok = script::fill(script::field(line, at0), &mut b0)
-        & script::fill(script::field(line, at1), &mut b1)
-        & script::read_words(line, b' ', &[point_at], &mut w);
+        & script::fill(script::field(line, at1), &mut b1);
+    let point = word(line, point_at);
     let seed0 = chacha20::key_words(&b0);
     let seed1 = chacha20::key_words(&b1);
-    let key = keys::make(seed0, seed1, w[0]);
+    let key = keys::make(seed0, seed1, point.value);
     Dealt {
-        ok,
+        ok: ok & point.ok,
         seed0,
         seed1,
         key,
@@ -72,15 +73,15 @@ fn make_key(line: &[u8], out: &mut [u8; ROOM], at: usize) -> usize {
 
 // value PARTY SEED0 SEED1 POINT U
 fn value(line: &[u8], out: &mut [u8; ROOM], at: usize) -> usize {
-    let mut w = [0u32; 2];
     let d = deal(line, 2, 3, 4);
-    let ok = script::read_words(line, b' ', &[1, 5], &mut w);
-    if !d.ok | !ok | (w[0] > 1) {
+    let party = word(line, 1);
+    let u = word(line, 5);
+    if !(d.ok & party.ok & u.ok & (party.value <= 1)) {
         return bad_line(out, at);
     }
     let key = d.key;
-    let seed = if w[0] == 0 { d.seed0 } else { d.seed1 };
-    script::put_numbers(out, at, &[walk::value(key, seed, w[0], w[1])])
+    let seed = if party.value == 0 { d.seed0 } else { d.seed1 };
+    script::put_numbers(out, at, &[walk::value(key, seed, party.value, u.value)])
 }
 
 fn answer(line: &[u8], out: &mut [u8; ROOM], at: usize) -> usize {
@@ -97,7 +98,7 @@ fn answer(line: &[u8], out: &mut [u8; ROOM], at: usize) -> usize {
 }
 
 fn answers(text: &[u8]) {
-    let mut out = [0u8; ROOM];
+    let mut out = script::no_output();
     let mut at: usize = 0;
     let mut from: usize = 0;
     while from < text.len() {
@@ -112,11 +113,7 @@ fn answers(text: &[u8]) {
 }
 
 fn main() {
-    let mut text = [0u8; SIZE];
-    let n = io::read_full(0, &mut text);
-    if n == SIZE {
-        io::write_all(1, b"script too long\n");
-        return;
-    }
-    answers(&text[..n]);
+    let mut text = script::no_text();
+    let n = script::read_script(&mut text);
+    answers(script::script_of(&text, n));
 }

@@ -5,6 +5,7 @@ ghost use lib.ListN.{length};
 use crate::Dealt;
 use crate::bad_line;
 use crate::deal;
+use crate::word;
 use script::ROOM;
 
 const LENGTH: usize = 512;
@@ -12,29 +13,21 @@ const LENGTH: usize = 512;
 // The shares of both masks, one after the other: x0, x1, y0, y1.
 const MASKS: usize = 2048;
 
-// How many words stand at the start of w: none if the bytes are too many.
-fn load_all(bytes: &[u8], w: &mut [u32]) -> usize {
-    let n = bytes.len() / 4;
-    if n > w.len() {
-        return 0;
-    }
-    let mut i: usize = 0;
-    while i < n {
-        w[i] = slices::load(bytes, 4 * i);
-        i += 1;
-    }
-    n
+fn no_bytes() -> [u8; 8192] {
+    [0; 8192]
 }
 
-// The same of a line's field: none if it is refused.
+// The words of a line's field to the start of w. It answers how many there are: none if it is
+// refused.
 fn read_vector(line: &[u8], place: usize, w: &mut [u32]) -> usize {
-    let mut bytes = [0u8; 8192];
+    let mut bytes = no_bytes();
     let b = script::read_bytes(script::field(line, place), &mut bytes);
-    let count = b.count;
-    if count % 4 != 0 {
-        return 0;
+    script::load_words(script::first(&bytes, b.count), w);
+    if b.ok & (b.count % 4 == 0) {
+        b.count / 4
+    } else {
+        0
     }
-    load_all(&bytes[..count], w)
 }
 
 // The numbers of a line. `ok`: they were read.
@@ -48,15 +41,18 @@ struct Numbers {
 }
 
 fn read_numbers(line: &[u8]) -> Numbers {
-    let mut w = [0u32; 5];
-    let ok = script::read_words(line, b' ', &[1, 2, 6, 7, 8], &mut w);
+    let code = word(line, 1);
+    let t = word(line, 2);
+    let c0 = word(line, 6);
+    let r = word(line, 7);
+    let r0 = word(line, 8);
     Numbers {
-        ok,
-        code: w[0],
-        t: w[1],
-        c0: w[2],
-        r: w[3],
-        r0: w[4],
+        ok: code.ok & t.ok & c0.ok & r.ok & r0.ok,
+        code: code.value,
+        t: t.value,
+        c0: c0.value,
+        r: r.value,
+        r0: r0.value,
     }
 }
 

@@ -104,17 +104,11 @@ pub fn sealed(key: [u8; 32], number: u64, blocks: usize, plain: [u8; PLAIN]) -> 
     half
 }
 
-// The first `size` bytes, or all.
-pub fn first(half: &[u8], size: usize) -> &[u8] {
-    let n = slices::least(size, half.len());
-    &half[..n]
-}
-
 // Why the first `size` bytes are turned down at a box, 0 if they are not.
 pub fn refusal(b: Holder, half: [u8; HALF], size: usize) -> u32 {
     let key = b.key;
     let name = b.name;
-    let e = opening::examine(&key, name, b.party, b.last, first(&half, size));
+    let e = opening::examine(&key, name, b.party, b.last, script::first(&half, size));
     e.why
 }
 
@@ -131,7 +125,13 @@ pub fn reseal(d: Dealt) -> Resealed
     let key = b.key;
     let name = b.name;
     let half = d.half;
-    let e = opening::examine(&key, name, b.party, b.last, first(&half, 512 * d.blocks));
+    let e = opening::examine(
+        &key,
+        name,
+        b.party,
+        b.last,
+        script::first(&half, 512 * d.blocks),
+    );
     if e.why != 0 {
         return Resealed { why: e.why, half };
     }

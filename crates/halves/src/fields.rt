@@ -1,8 +1,6 @@
 // What the fields of a line say. One that can't be read stands for some number or bytes all the same,
 // so that a mistake shows as a difference in the output.
 ghost use Prim.Native.Nat.{_≤_};
-use script::Number;
-use script::Word;
 
 // half HALF
 // tag HALF
@@ -49,17 +47,11 @@ fn command_from(letter: u8, fields: usize) -> Command {
 }
 
 pub fn command_of(line: &[u8]) -> Command {
-    if line.len() == 0 {
-        return Command::None;
-    }
-    command_from(line[0], script::part_count(line, b' '))
+    command_from(script::first_byte(line), script::part_count(line, b' '))
 }
 
 pub fn word(line: &[u8], place: usize) -> u32 {
-    match script::read_word(script::field(line, place)) {
-        Word::Value(w) => w,
-        Word::NotAWord => 4294967295,
-    }
+    script::read_word(script::field(line, place)).value
 }
 
 pub fn number(line: &[u8], place: usize) -> usize {
@@ -71,10 +63,7 @@ pub fn byte(line: &[u8], place: usize) -> u8 {
 }
 
 fn set_number(line: &[u8], place: usize) -> u64 {
-    match script::read_number(script::field(line, place)) {
-        Number::Value(n) => n,
-        Number::NotANumber => 18446744073709551615,
-    }
+    script::read_number(script::field(line, place)).value
 }
 
 fn bytes_32(line: &[u8], place: usize) -> [u8; 32] {

@@ -12,13 +12,10 @@ use dealt::HALF;
 use fields::Command;
 use script::ROOM;
 
-// One more than the longest script.
-const SIZE: usize = 65537;
-
 fn put_half(half: [u8; HALF], blocks: usize, out: &mut [u8; ROOM], at: usize) -> usize
     requires { ⌜ blocks ≤ 16 ⌝ }
 {
-    script::put_hex(out, at, dealt::first(&half, 512 * blocks))
+    script::put_hex(out, at, script::first(&half, 512 * blocks))
 }
 
 // The tag that stands for a half: Poly1305's under the key of bytes 0 to 31.
@@ -30,7 +27,7 @@ fn put_tag(half: [u8; HALF], blocks: usize, out: &mut [u8; ROOM], at: usize) -> 
         b"000102030405060708090a0b0c0d0e0f101112131415161718191a1b1c1d1e1f",
         &mut key,
     );
-    let tag = poly1305::mac(&key, dealt::first(&half, 512 * blocks));
+    let tag = poly1305::mac(&key, script::first(&half, 512 * blocks));
     script::put_hex(out, at, &tag)
 }
 
@@ -100,7 +97,7 @@ fn answer(line: &[u8], out: &mut [u8; ROOM], at: usize) -> usize {
 }
 
 fn answers(text: &[u8]) {
-    let mut out = [0u8; ROOM];
+    let mut out = script::no_output();
     let mut at: usize = 0;
     let mut from: usize = 0;
     while from < text.len() {
@@ -115,11 +112,7 @@ fn answers(text: &[u8]) {
 }
 
 fn main() {
-    let mut text = [0u8; SIZE];
-    let n = io::read_full(0, &mut text);
-    if n == SIZE {
-        io::write_all(1, b"script too long\n");
-        return;
-    }
-    answers(&text[..n]);
+    let mut text = script::no_text();
+    let n = script::read_script(&mut text);
+    answers(script::script_of(&text, n));
 }

@@ -1,5 +1,4 @@
 // Writes what answers a line.
-use crate::joins;
 use replay_lines::lines;
 use replay_lines::lines::Line;
 use replay_lines::memory;
@@ -40,10 +39,55 @@ fn two_tags(b: &[u8; BYTES], l: Line, out: &mut [u8; ROOM], at: usize) -> usize 
     tag(b, OTHER, l.f7, out, next)
 }
 
+// host NAME LAST and the ten fields of join: the first C function.
+fn host_join(b: &[u8; BYTES], l: Line) -> u32 {
+    lock_c::lock_join(
+        memory::first(b, 1, l.f1),
+        l.f2,
+        memory::low(l.f3),
+        memory::first(b, 4, l.f4),
+        memory::low(l.f5),
+        l.f6,
+        memory::low(l.f7),
+        memory::low(l.f8),
+        memory::first(b, 9, l.f9),
+        memory::low(l.f10),
+        l.f11,
+        memory::low(l.f12),
+    )
+}
+
+// The second one.
+fn host_last(b: &[u8; BYTES], l: Line) -> u64 {
+    lock_c::lock_last(
+        memory::first(b, 1, l.f1),
+        l.f2,
+        memory::low(l.f3),
+        memory::first(b, 4, l.f4),
+        memory::low(l.f5),
+        l.f6,
+        memory::low(l.f7),
+        memory::low(l.f8),
+        memory::first(b, 9, l.f9),
+        memory::low(l.f10),
+        l.f11,
+        memory::low(l.f12),
+    )
+}
+
 fn hosted(b: &[u8; BYTES], l: Line, out: &mut [u8; ROOM], at: usize) -> usize {
-    let next = number(joins::host_join(b, l), out, at);
+    let next = number(host_join(b, l), out, at);
     let next = script::put_byte(out, next, b' ');
-    script::put_number(out, next, joins::host_last(b, l))
+    script::put_number(out, next, host_last(b, l))
+}
+
+// How many bytes a part's state has.
+fn state_size(part: u64) -> u64 {
+    match part {
+        lines::THE_DEALER => 88,
+        lines::THE_LOCK => 24,
+        _ => 9608,
+    }
 }
 
 // So that a mistake shows as a difference in the output.
@@ -68,8 +112,7 @@ pub fn answer(
         lines::PUT => script::put_text(out, at, b"put"),
         lines::HOST => hosted(b, l, out, at),
         lines::DEAL => two_tags(b, l, out, at),
-        // The state's bytes stand in slot 0, and f2 counts them.
-        lines::SHOW => tag(b, 0, l.f2, out, at),
+        lines::SHOW => tag(b, 0, state_size(l.part), out, at),
         lines::MASK => {
             let next = accepted(out, at);
             tag(b, 0, 4 * (l.f3 % 1024), out, next)

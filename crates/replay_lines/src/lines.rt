@@ -7,7 +7,6 @@ use crate::memory::MASKED;
 use crate::memory::NUMBERS;
 use crate::memory::SLOT;
 use crate::memory::WORDS;
-use script::Number;
 
 // The commands, in the order of the table in `read`.
 pub const DEALER: usize = 0;
@@ -45,10 +44,22 @@ pub const BAD_LINE: usize = 15;
 
 pub const COMMENT: usize = 16;
 
-// A line's command and its fields: a number, a place among the parts, or the count of bytes that
-// stand in the field's slot.
+// The parts, as `show` counts them; the boxes' numbers are 0 and 1.
+pub const CAMERA: u64 = 0;
+
+pub const OFFICE: u64 = 1;
+
+pub const THE_DEALER: u64 = 2;
+
+pub const THE_LOCK: u64 = 3;
+
+pub const NO_PART: u64 = 4;
+
+// A line's command, the part that it asks for something, and its fields: a number, a place among the
+// parts, or the count of bytes that stand in the field's slot.
 pub struct Line {
     pub command: usize,
+    pub part: u64,
     pub f1: u64,
     pub f2: u64,
     pub f3: u64,
@@ -95,12 +106,10 @@ fn most(kind: u8) -> u64 {
 }
 
 fn read_number(kind: u8, field: &[u8]) -> Value {
-    match script::read_number(field) {
-        Number::Value(n) => Value {
-            ok: n <= most(kind),
-            n,
-        },
-        Number::NotANumber => Value { ok: false, n: 0 },
+    let n = script::read_number(field);
+    Value {
+        ok: n.ok & (n.value <= most(kind)),
+        n: n.value,
     }
 }
 
@@ -108,24 +117,24 @@ fn read_number(kind: u8, field: &[u8]) -> Value {
 fn read_bytes(kind: u8, field: &[u8], b: &mut [u8; BYTES], slot: usize) -> Value {
     let mut bytes = [0u8; SLOT];
     let r = script::read_bytes(field, &mut bytes);
-    memory::lay(b, slot, 0, &bytes);
+    memory::lay(b, slot, &bytes);
     Value {
-        ok: !r.refused() & ((kind == b'B') | (r.count % 4 == 0)),
+        ok: r.ok & ((kind == b'B') | (r.count % 4 == 0)),
         n: memory::wide(r.count),
     }
 }
 
-// What a box sent last.
-fn read_sent(kind: u8, place: usize, b: &mut [u8; BYTES], n: [u64; NUMBERS], slot: usize) -> Value {
+// What a box sent last, or the box's place.
+fn read_box(kind: u8, place: usize, b: &mut [u8; BYTES], n: [u64; NUMBERS], slot: usize) -> Value {
     let from = place % 2;
+    if kind == b'v' {
+        memory::copy_slot(b, MASKED + from, slot);
+    }
     match kind {
-        b'v' => {
-            memory::copy_slot(b, MASKED + from, slot);
-            Value {
-                ok: true,
-                n: n[MASKED + from],
-            }
-        }
+        b'v' => Value {
+            ok: true,
+            n: n[MASKED + from],
+        },
         b'w' => Value {
             ok: true,
             n: n[WORDS + from],
@@ -151,7 +160,7 @@ fn read_field(
 ) -> Value {
     let place = place_of(field, b"camera office dealer lock");
     if place < 2 {
-        return read_sent(kind, place, b, n, slot);
+        return read_box(kind, place, b, n, slot);
     }
     match kind {
         b'B' | b'V' | b'v' => read_bytes(kind, field, b, slot),
@@ -163,9 +172,19 @@ fn read_field(
     }
 }
 
+fn part_of(command: usize, f1: u64) -> u64 {
+    match command {
+        DEALER | DEAL => THE_DEALER,
+        LOCK | JOIN => THE_LOCK,
+        HOST | BAD_LINE | COMMENT => NO_PART,
+        _ => f1,
+    }
+}
+
 fn line_of(command: usize, f: [u64; FIELDS]) -> Line {
     Line {
         command,
+        part: part_of(command, f[1]),
         f1: f[1],
         f2: f[2],
         f3: f[3],
@@ -190,33 +209,23 @@ fn read_fields(
     n: [u64; NUMBERS],
 ) -> Line {
     let mut f = [0u64; FIELDS];
-    let mut ok = kinds.len() + 1 == script::part_count(line, b' ');
-    let count = slices::least(kinds.len() + 1, FIELDS);
-    let mut i: usize = 1;
+    let count = slices::least(kinds.len(), FIELDS - 1);
+    let mut ok = count + 1 == script::part_count(line, b' ');
+    let mut i: usize = 0;
     while i < count {
-        let v = read_field(kinds[i - 1], script::field(line, i), b, n, i);
-        f[i] = v.n;
+        let v = read_field(kinds[i], script::field(line, i + 1), b, n, i + 1);
+        f[i + 1] = v.n;
         ok = ok & v.ok;
         i += 1;
     }
-    if !ok {
-        return line_of(BAD_LINE, f);
-    }
-    line_of(command, f)
-}
-
-fn is_comment(line: &[u8]) -> bool {
-    if line.len() == 0 {
-        return true;
-    }
-    line[0] == b'#'
+    line_of(if ok { command } else { BAD_LINE }, f)
 }
 
 // Reads a line. A letter is the kind of a field: B for bytes, V for a vector, N for a number below
 // 2^64, W for one below 2^32, R, M, J and K for one of at most 8704, 520, 15 and 3, X for a box, P
 // for a part, and v, w and a for a vector, a word and an answer, each of which may be a box's last.
 pub fn read(line: &[u8], b: &mut [u8; BYTES], n: [u64; NUMBERS]) -> Line {
-    if is_comment(line) {
+    if (line.len() == 0) | (script::first_byte(line) == b'#') {
         return line_of(COMMENT, [0; FIELDS]);
     }
     let command = place_of(

@@ -1,7 +1,6 @@
 // What the lines of a script share: slots of bytes, all in one array, and numbers. Arrays can be
 // lent, while a reference to a struct is not covered by the borrow checker.
 ghost use Prim.Native.Nat.{_+_, _≤_};
-ghost use lib.ListN.{length};
 
 // The size of a slot, 19 blocks: a box's state fits.
 pub const SLOT: usize = 9728;
@@ -12,8 +11,7 @@ pub const FIELDS: usize = 13;
 
 pub const OTHER: usize = 12;
 
-// Slots 13 to 20 hold the halves of the last four deals, newest first, the camera box's before the
-// office box's. Each is followed by its first block again.
+// Slots 13 to 20 hold the halves of the last four deals, the camera box's before the office box's.
 pub const HALVES: usize = 13;
 
 // Slots 21 and 22 hold the last masked vectors that the boxes sent.
@@ -23,12 +21,15 @@ pub const MASKED: usize = 21;
 pub const BYTES: usize = 223744;
 
 // The numbers at HALVES and MASKED are the counts of those slots' bytes, 0 before the first. Behind
-// them stand the last words and the last answers that the boxes sent.
+// them stand the last words and the last answers that the boxes sent, and which of the four deals is
+// the newest.
 pub const WORDS: usize = 23;
 
 pub const ANSWERS: usize = 25;
 
-pub const NUMBERS: usize = 27;
+pub const NEWEST: usize = 27;
+
+pub const NUMBERS: usize = 28;
 
 pub fn size(n: u64) -> usize {
     n as usize
@@ -55,24 +56,23 @@ pub fn first(b: &[u8; BYTES], slot: usize, n: u64) -> &[u8] {
     part(b, SLOT * (slot % 23), size(n))
 }
 
-// As many bytes as fit over those of a slot, from `at` on. It answers where the next go.
-pub fn lay(b: &mut [u8], slot: usize, at: usize, src: &[u8]) -> usize {
-    let from = slices::least(SLOT * (slot % 23) + at % SLOT, b.len());
-    let n = slices::least(src.len(), b.len() - from);
-    let mut i: usize = 0;
-    while i < n {
-        b[from + i] = src[i];
-        i += 1;
-    }
-    at % SLOT + n
-}
-
-fn copy_within(b: &mut [u8], from: usize, to: usize, n: usize)
-    requires { ⌜ (from + n ≤ length (now b)) × (to + n ≤ length (now b)) ⌝ }
+fn copy_within(b: &mut [u8; BYTES], from: usize, to: usize, n: usize)
+    requires { ⌜ (from + n ≤ 223744) × (to + n ≤ 223744) ⌝ }
 {
     let mut i: usize = 0;
     while i < n {
         b[to + i] = b[from + i];
+        i += 1;
+    }
+}
+
+// As many bytes as fit over those of a slot.
+pub fn lay(b: &mut [u8; BYTES], slot: usize, src: &[u8]) {
+    let from = SLOT * (slot % 23);
+    let n = slices::least(src.len(), SLOT);
+    let mut i: usize = 0;
+    while i < n {
+        b[from + i] = src[i];
         i += 1;
     }
 }

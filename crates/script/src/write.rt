@@ -6,14 +6,13 @@ ghost use Prim.Native.Nat.{_<_};
 // The buffer is an array and no slice, so that a caller has nothing to prove of its length.
 pub const ROOM: usize = 4096;
 
-fn write_first(bytes: &[u8], n: usize) {
-    let k = slices::least(n, bytes.len());
-    io::write_all(1, &bytes[..k]);
+pub fn no_output() -> [u8; ROOM] {
+    [0; ROOM]
 }
 
 // Writes out what stands before the position: the last call of a program.
 pub fn flush(out: &[u8; ROOM], at: usize) {
-    write_first(out, at);
+    io::write_all(1, crate::first(out, at));
 }
 
 pub fn put_byte(out: &mut [u8; ROOM], at: usize, b: u8) -> usize {

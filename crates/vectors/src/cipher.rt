@@ -1,20 +1,23 @@
 // The commands on ChaCha20 alone.
-use crate::MESSAGE;
 use crate::bad_line;
+use crate::no_message;
 use crate::read_keys;
+use crate::word;
 use script::ROOM;
-use script::Word;
 
 // The longest key stream, in words.
 const STREAM: usize = 600;
 
 // quarter A B C D
 pub fn quarter(line: &[u8], out: &mut [u8; ROOM], at: usize) -> usize {
-    let mut w = [0u32; 4];
-    if !script::read_words(line, b' ', &[1, 2, 3, 4], &mut w) {
+    let a = word(line, 1);
+    let b = word(line, 2);
+    let c = word(line, 3);
+    let d = word(line, 4);
+    if !(a.ok & b.ok & c.ok & d.ok) {
         return bad_line(out, at);
     }
-    let q = rounds::quarter_round(w[0], w[1], w[2], w[3]);
+    let q = rounds::quarter_round(a.value, b.value, c.value, d.value);
     script::put_numbers(out, at, &[q.a, q.b, q.c, q.d])
 }
 
@@ -45,67 +48,70 @@ pub fn block(line: &[u8], out: &mut [u8; ROOM], at: usize) -> usize {
     let mut key = [0u8; 32];
     let mut nonce = [0u8; 12];
     let ok = read_keys(line, 1, 3, &mut key, &mut nonce);
-    if !ok {
+    let counter = word(line, 2);
+    if !(ok & counter.ok) {
         return bad_line(out, at);
     }
-    let Word::Value(counter) = script::read_word(script::field(line, 2)) else {
-        return bad_line(out, at);
-    };
     let s = chacha20::block(
         chacha20::key_words(&key),
-        counter,
+        counter.value,
         chacha20::nonce_words(&nonce),
     );
     put_state(out, at, s)
 }
 
+fn no_stream() -> [u32; STREAM] {
+    [0; STREAM]
+}
+
 fn put_stream(
     out: &mut [u8; ROOM],
     at: usize,
-    key: [u32; 8],
-    nonce: [u32; 3],
+    key: &[u8; 32],
+    nonce: &[u8; 12],
     w: &mut [u32],
-    n: usize,
 ) -> usize {
-    if n > w.len() {
-        return bad_line(out, at);
-    }
-    let first = &mut w[..n];
-    keystream::stream(key, nonce, first);
-    script::put_words(out, at, first)
+    keystream::stream(chacha20::key_words(key), chacha20::nonce_words(nonce), w);
+    script::put_words(out, at, w)
+}
+
+fn size(w: u32) -> usize {
+    w as usize
 }
 
 // stream KEY NONCE N
 pub fn stream(line: &[u8], out: &mut [u8; ROOM], at: usize) -> usize {
     let mut key = [0u8; 32];
     let mut nonce = [0u8; 12];
-    let mut w = [0u32; STREAM];
+    let mut w = no_stream();
     let ok = read_keys(line, 1, 2, &mut key, &mut nonce);
-    if !ok {
+    let n = word(line, 3);
+    if !(ok & n.ok & (n.value <= 600)) {
         return bad_line(out, at);
     }
-    let Word::Value(n) = script::read_word(script::field(line, 3)) else {
-        return bad_line(out, at);
-    };
     put_stream(
         out,
         at,
-        chacha20::key_words(&key),
-        chacha20::nonce_words(&nonce),
-        &mut w,
-        n as usize,
+        &key,
+        &nonce,
+        script::first_words_mut(&mut w, size(n.value)),
     )
 }
 
 fn put_xor(
     out: &mut [u8; ROOM],
     at: usize,
-    key: [u32; 8],
+    key: &[u8; 32],
     counter: u32,
-    nonce: [u32; 3],
+    nonce: &[u8; 12],
     text: &mut [u8],
 ) -> usize {
-    keystream::xor(key, counter, nonce, text);
+    keystream::xor(
+        chacha20::key_words(key),
+        counter,
+        chacha20::nonce_words(nonce),
+        text,
+    );
     script::put_hex(out, at, text)
 }
 
@@ -113,22 +119,19 @@ fn put_xor(
 pub fn xor(line: &[u8], out: &mut [u8; ROOM], at: usize) -> usize {
     let mut key = [0u8; 32];
     let mut nonce = [0u8; 12];
-    let mut text = [0u8; MESSAGE];
+    let mut text = no_message();
     let ok = read_keys(line, 1, 3, &mut key, &mut nonce);
+    let counter = word(line, 2);
     let t = script::read_bytes(script::field(line, 4), &mut text);
-    if !ok | t.refused() {
+    if !(ok & counter.ok & t.ok) {
         return bad_line(out, at);
     }
-    let Word::Value(counter) = script::read_word(script::field(line, 2)) else {
-        return bad_line(out, at);
-    };
-    let n = t.count;
     put_xor(
         out,
         at,
-        chacha20::key_words(&key),
-        counter,
-        chacha20::nonce_words(&nonce),
-        &mut text[..n],
+        &key,
+        counter.value,
+        &nonce,
+        script::first_mut(&mut text, t.count),
     )
 }

@@ -4,12 +4,19 @@ mod cipher;
 mod sealing;
 
 use script::ROOM;
-
-// One more than the longest script.
-const SIZE: usize = 262145;
+use script::Word;
 
 // The longest message in bytes.
 pub const MESSAGE: usize = 4096;
+
+// Room for a message, from a function as `script::no_text`.
+fn no_message() -> [u8; MESSAGE] {
+    [0; MESSAGE]
+}
+
+fn word(line: &[u8], place: usize) -> Word {
+    script::read_word(script::field(line, place))
+}
 
 // Whether a line has a key and a nonce at two of its fields; they are then read.
 fn read_keys(
@@ -45,7 +52,7 @@ fn answer(line: &[u8], out: &mut [u8; ROOM], at: usize) -> usize {
 }
 
 fn run(text: &[u8]) {
-    let mut out = [0u8; ROOM];
+    let mut out = script::no_output();
     let mut at: usize = 0;
     let mut from: usize = 0;
     while from < text.len() {
@@ -60,11 +67,7 @@ fn run(text: &[u8]) {
 }
 
 fn main() {
-    let mut text = [0u8; SIZE];
-    let n = io::read_full(0, &mut text);
-    if n == SIZE {
-        io::write_all(1, b"script too long\n");
-        return;
-    }
-    run(&text[..n]);
+    let mut text = script::no_text();
+    let n = script::read_script(&mut text);
+    run(script::script_of(&text, n));
 }

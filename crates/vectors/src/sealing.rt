@@ -1,20 +1,20 @@
 // The commands on Poly1305, and on sealing and opening.
-use crate::MESSAGE;
 use crate::bad_line;
+use crate::no_message;
 use crate::read_keys;
 use script::ROOM;
 
 // poly KEY MESSAGE
 fn poly(line: &[u8], out: &mut [u8; ROOM], at: usize) -> usize {
     let mut key = [0u8; 32];
-    let mut text = [0u8; MESSAGE];
+    let mut text = no_message();
     let ok = script::fill(script::field(line, 1), &mut key);
     let t = script::read_bytes(script::field(line, 2), &mut text);
-    if !ok | t.refused() {
+    if !(ok & t.ok) {
         return bad_line(out, at);
     }
-    let n = t.count;
-    script::put_hex(out, at, &poly1305::mac(&key, &text[..n]))
+    let tag = poly1305::mac(&key, script::first(&text, t.count));
+    script::put_hex(out, at, &tag)
 }
 
 // polykey KEY NONCE
@@ -55,23 +55,21 @@ fn put_sealed(
 fn seal(line: &[u8], whole: bool, out: &mut [u8; ROOM], at: usize) -> usize {
     let mut key = [0u8; 32];
     let mut nonce = [0u8; 12];
-    let mut aad = [0u8; MESSAGE];
-    let mut text = [0u8; MESSAGE];
+    let mut aad = no_message();
+    let mut text = no_message();
     let ok = read_keys(line, 1, 2, &mut key, &mut nonce);
     let a = script::read_bytes(script::field(line, 3), &mut aad);
     let t = script::read_bytes(script::field(line, 4), &mut text);
-    if !ok | a.refused() | t.refused() {
+    if !(ok & a.ok & t.ok) {
         return bad_line(out, at);
     }
-    let aad_len = a.count;
-    let text_len = t.count;
     put_sealed(
         out,
         at,
         &key,
         &nonce,
-        &aad[..aad_len],
-        &mut text[..text_len],
+        script::first(&aad, a.count),
+        script::first_mut(&mut text, t.count),
         whole,
     )
 }
@@ -97,24 +95,22 @@ fn unseal(line: &[u8], out: &mut [u8; ROOM], at: usize) -> usize {
     let mut key = [0u8; 32];
     let mut nonce = [0u8; 12];
     let mut tag = [0u8; 16];
-    let mut aad = [0u8; MESSAGE];
-    let mut text = [0u8; MESSAGE];
+    let mut aad = no_message();
+    let mut text = no_message();
     let ok = read_keys(line, 1, 2, &mut key, &mut nonce)
         & script::fill(script::field(line, 5), &mut tag);
     let a = script::read_bytes(script::field(line, 3), &mut aad);
     let t = script::read_bytes(script::field(line, 4), &mut text);
-    if !ok | a.refused() | t.refused() {
+    if !(ok & a.ok & t.ok) {
         return bad_line(out, at);
     }
-    let aad_len = a.count;
-    let text_len = t.count;
     put_opened(
         out,
         at,
         &key,
         &nonce,
-        &aad[..aad_len],
-        &mut text[..text_len],
+        script::first(&aad, a.count),
+        script::first_mut(&mut text, t.count),
         &tag,
     )
 }

@@ -10,6 +10,9 @@ Inv-loop text out₀ at₀ from₀ out at from = Unit {0}
 abbrev μ-loop : tie.MeasureT-loop
 μ-loop text out₀ at₀ from₀ out at from = length text - from
 
+no-output-requires : tie.Need-no-output-requires Inv-loop μ-loop
+no-output-requires c κs = search needs
+
 loop-holds : tie.Need-loop-holds Inv-loop μ-loop
 loop-holds c = search needs
 
@@ -49,6 +52,7 @@ answers-spec =
     (tie.spec
     Inv-loop
     μ-loop
+    no-output-requires
     loop-holds
     next-line-requires
     sub-answer

@@ -1,6 +1,6 @@
 use borrow.Author.Needs.{needs}
-use Prim.Native.Nat.{_-_, _≤_}
 use lib.ListN.{length}
+use Prim.Native.Nat.{_-_, _≤_}
 use Rattle.replay.proofs.answers.Statement.{statement}
 use Rattle.replay.proofs.answers.Tie as tie
 
@@ -9,6 +9,12 @@ Inv-loop text out₀ b₀ n₀ door₀ at₀ from₀ place₀ out b n door at fr
 
 abbrev μ-loop : tie.MeasureT-loop
 μ-loop text out₀ b₀ n₀ door₀ at₀ from₀ place₀ out b n door at from place = length text - from
+
+no-output-requires : tie.Need-no-output-requires Inv-loop μ-loop
+no-output-requires c κs = search needs
+
+no-bytes-requires : tie.Need-no-bytes-requires Inv-loop μ-loop
+no-bytes-requires c κs = search needs
 
 closed-requires : tie.Need-closed-requires Inv-loop μ-loop
 closed-requires c κs = search needs
@@ -61,6 +67,8 @@ answers-spec =
     (tie.spec
     Inv-loop
     μ-loop
+    no-output-requires
+    no-bytes-requires
     closed-requires
     loop-holds
     add-place

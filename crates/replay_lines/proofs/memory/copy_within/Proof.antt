@@ -1,12 +1,10 @@
 use borrow.Author.Needs.{needs}
-use mathlib.Core.Path.{_≡_}
 use Prim.Native.Nat.{_-_}
-use lib.ListN.{length}
 use Rattle.replay_lines.proofs.memory.copy_within.Statement.{statement}
 use Rattle.replay_lines.proofs.memory.copy_within.Tie as tie
 
 abbrev Inv-loop : tie.InvT-loop
-Inv-loop b₀ from to n i₀ b i = length b ≡ length b₀
+Inv-loop b₀ from to n i₀ b i = Unit {0}
 
 abbrev μ-loop : tie.MeasureT-loop
 μ-loop b₀ from to n i₀ b i = n - i
@@ -17,14 +15,14 @@ loop-holds c = search needs
 add-b : tie.Need-add-b Inv-loop μ-loop
 add-b c = search needs
 
-slice-read-b : tie.Need-slice-read-b Inv-loop μ-loop
-slice-read-b c = search needs
+element-copy-out-b : tie.Need-element-copy-out-b Inv-loop μ-loop
+element-copy-out-b c = search needs
 
 add-b-2 : tie.Need-add-b-2 Inv-loop μ-loop
 add-b-2 c = search needs
 
-slice-write-b : tie.Need-slice-write-b Inv-loop μ-loop
-slice-write-b c = search needs
+element-write-b : tie.Need-element-write-b Inv-loop μ-loop
+element-write-b c = search needs
 
 add-i : tie.Need-add-i Inv-loop μ-loop
 add-i c = search needs
@@ -34,9 +32,6 @@ loop-less c = search needs
 
 loop-again : tie.Need-loop-again Inv-loop μ-loop
 loop-again c = search needs
-
-same-length : tie.Need-same-length Inv-loop μ-loop
-same-length c = search needs
 
 returns : tie.Need-returns Inv-loop μ-loop
 returns c = search needs
@@ -49,11 +44,10 @@ copy-within-spec =
     μ-loop
     loop-holds
     add-b
-    slice-read-b
+    element-copy-out-b
     add-b-2
-    slice-write-b
+    element-write-b
     add-i
     loop-less
     loop-again
-    same-length
     returns)

@@ -1,26 +1,15 @@
 use borrow.Author.Needs.{needs}
-use Prim.Native.Nat.{_-_, _<_, _^_}
 use lib.ListN.{length}
+use Prim.Native.Nat.{_-_, _<_, _^_}
 use mathlib.Core.Path.{_≡_}
-use native.Mathlib.Omega.{arith}
-use Rattle.io.proofs.Counting.{counts}
 use Rattle.script.proofs.read.generate.Statement.{statement}
 use Rattle.script.proofs.read.generate.Tie as tie
 
 abbrev Inv-loop : tie.InvT-loop
-Inv-loop n seed out₀ s₀ i₀ out s i = (length out ≡ length out₀) × (s < 2 ^ 32)
+Inv-loop seed out₀ s₀ i₀ out s i = (length out ≡ length out₀) × (s < 2 ^ 32)
 
 abbrev μ-loop : tie.MeasureT-loop
-μ-loop n seed out₀ s₀ i₀ out s i = n - i
-
-refuse-requires : tie.Need-refuse-requires Inv-loop μ-loop
-refuse-requires c κs = search needs
-
-same-length : tie.Need-same-length Inv-loop μ-loop
-same-length c = search needs
-
-returns : tie.Need-returns Inv-loop μ-loop
-returns c = search needs
+μ-loop seed out₀ s₀ i₀ out s i = length out₀ - i
 
 loop-holds : tie.Need-loop-holds Inv-loop μ-loop
 loop-holds c = search needs
@@ -43,11 +32,11 @@ loop-less c = search needs
 loop-again : tie.Need-loop-again Inv-loop μ-loop
 loop-again c = search needs
 
-same-length-2 : tie.Need-same-length-2 Inv-loop μ-loop
-same-length-2 c = search needs
+same-length : tie.Need-same-length Inv-loop μ-loop
+same-length c = search needs
 
-returns-2 : tie.Need-returns-2 Inv-loop μ-loop
-returns-2 c = counts _ _ (omega arith)
+returns : tie.Need-returns Inv-loop μ-loop
+returns c = search needs
 
 pub generate-spec : {M : Type 1} → statement M
 generate-spec =
@@ -55,9 +44,6 @@ generate-spec =
     (tie.spec
     Inv-loop
     μ-loop
-    refuse-requires
-    same-length
-    returns
     loop-holds
     next-state-requires
     cast-out
@@ -65,5 +51,5 @@ generate-spec =
     add-i
     loop-less
     loop-again
-    same-length-2
-    returns-2)
+    same-length
+    returns)

@@ -1,26 +1,15 @@
 use borrow.Author.Needs.{needs}
-use Prim.Native.Nat.{_-_, _<_, _^_}
 use lib.ListN.{length}
+use Prim.Native.Nat.{_-_, _<_, _^_}
 use mathlib.Core.Path.{_≡_}
-use native.Mathlib.Omega.{arith}
-use Rattle.io.proofs.Counting.{counts}
 use Rattle.script.proofs.read.generate_words.Statement.{statement}
 use Rattle.script.proofs.read.generate_words.Tie as tie
 
 abbrev Inv-loop : tie.InvT-loop
-Inv-loop n seed low mask out₀ s₀ i₀ out s i = (length out ≡ length out₀) × (s < 2 ^ 32)
+Inv-loop seed low mask out₀ n s₀ i₀ out s i = (length out ≡ length out₀) × (s < 2 ^ 32)
 
 abbrev μ-loop : tie.MeasureT-loop
-μ-loop n seed low mask out₀ s₀ i₀ out s i = n - i
-
-refuse-requires : tie.Need-refuse-requires Inv-loop μ-loop
-refuse-requires c κs = search needs
-
-same-length : tie.Need-same-length Inv-loop μ-loop
-same-length c = search needs
-
-returns : tie.Need-returns Inv-loop μ-loop
-returns c = search needs
+μ-loop seed low mask out₀ n s₀ i₀ out s i = n - i
 
 loop-holds : tie.Need-loop-holds Inv-loop μ-loop
 loop-holds c = search needs
@@ -46,14 +35,11 @@ loop-less c = search needs
 loop-again : tie.Need-loop-again Inv-loop μ-loop
 loop-again c = search needs
 
-mul-t8 : tie.Need-mul-t8 Inv-loop μ-loop
-mul-t8 c = search needs
+same-length : tie.Need-same-length Inv-loop μ-loop
+same-length c = search needs
 
-same-length-2 : tie.Need-same-length-2 Inv-loop μ-loop
-same-length-2 c = search needs
-
-returns-2 : tie.Need-returns-2 Inv-loop μ-loop
-returns-2 c = counts _ _ (omega arith)
+returns : tie.Need-returns Inv-loop μ-loop
+returns c = search needs
 
 pub generate-words-spec : {M : Type 1} → statement M
 generate-words-spec =
@@ -61,9 +47,6 @@ generate-words-spec =
     (tie.spec
     Inv-loop
     μ-loop
-    refuse-requires
-    same-length
-    returns
     loop-holds
     next-state-requires
     mul-store
@@ -72,6 +55,5 @@ generate-words-spec =
     add-i
     loop-less
     loop-again
-    mul-t8
-    same-length-2
-    returns-2)
+    same-length
+    returns)

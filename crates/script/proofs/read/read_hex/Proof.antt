@@ -1,35 +1,18 @@
 use borrow.Author.Needs.{needs}
-use Prim.Native.Nat.{_-_}
 use lib.ListN.{length}
+use Prim.Native.Nat.{_-_}
 use mathlib.Core.Path.{_≡_}
-use native.Mathlib.Omega.{arith}
-use Rattle.io.proofs.Counting.{counts}
 use Rattle.script.proofs.read.read_hex.Statement.{statement}
 use Rattle.script.proofs.read.read_hex.Tie as tie
 
 abbrev Inv-loop : tie.InvT-loop
-Inv-loop digits out₀ n i₀ out i = (length out ≡ length out₀)
+Inv-loop digits out₀ count n ok₀ i₀ out ok i = length out ≡ length out₀
 
 abbrev μ-loop : tie.MeasureT-loop
-μ-loop digits out₀ n i₀ out i = n - i
+μ-loop digits out₀ count n ok₀ i₀ out ok i = n - i
 
-refuse-requires : tie.Need-refuse-requires Inv-loop μ-loop
-refuse-requires c κs = search needs
-
-same-length : tie.Need-same-length Inv-loop μ-loop
-same-length c = search needs
-
-returns : tie.Need-returns Inv-loop μ-loop
-returns c = search needs
-
-refuse-requires-2 : tie.Need-refuse-requires-2 Inv-loop μ-loop
-refuse-requires-2 c κs = search needs
-
-same-length-2 : tie.Need-same-length-2 Inv-loop μ-loop
-same-length-2 c = search needs
-
-returns-2 : tie.Need-returns-2 Inv-loop μ-loop
-returns-2 c = search needs
+least-requires : tie.Need-least-requires Inv-loop μ-loop
+least-requires c κs = search needs
 
 loop-holds : tie.Need-loop-holds Inv-loop μ-loop
 loop-holds c = search needs
@@ -55,24 +38,6 @@ shared-slice-read-digit-2 c = search needs
 digit-requires-2 : tie.Need-digit-requires-2 Inv-loop μ-loop
 digit-requires-2 c κs = search needs
 
-refuse-requires-3 : tie.Need-refuse-requires-3 Inv-loop μ-loop
-refuse-requires-3 c κs = search needs
-
-same-length-3 : tie.Need-same-length-3 Inv-loop μ-loop
-same-length-3 c = search needs
-
-returns-3 : tie.Need-returns-3 Inv-loop μ-loop
-returns-3 c = search needs
-
-refuse-requires-4 : tie.Need-refuse-requires-4 Inv-loop μ-loop
-refuse-requires-4 c κs = search needs
-
-same-length-4 : tie.Need-same-length-4 Inv-loop μ-loop
-same-length-4 c = search needs
-
-returns-4 : tie.Need-returns-4 Inv-loop μ-loop
-returns-4 c = search needs
-
 mul-out : tie.Need-mul-out Inv-loop μ-loop
 mul-out c = search needs
 
@@ -91,11 +56,11 @@ loop-less c = search needs
 loop-again : tie.Need-loop-again Inv-loop μ-loop
 loop-again c = search needs
 
-same-length-5 : tie.Need-same-length-5 Inv-loop μ-loop
-same-length-5 c = search needs
+same-length : tie.Need-same-length Inv-loop μ-loop
+same-length c = search needs
 
-returns-5 : tie.Need-returns-5 Inv-loop μ-loop
-returns-5 c = counts _ _ (omega arith)
+returns : tie.Need-returns Inv-loop μ-loop
+returns c = search needs
 
 pub read-hex-spec : {M : Type 1} → statement M
 read-hex-spec =
@@ -103,12 +68,7 @@ read-hex-spec =
     (tie.spec
     Inv-loop
     μ-loop
-    refuse-requires
-    same-length
-    returns
-    refuse-requires-2
-    same-length-2
-    returns-2
+    least-requires
     loop-holds
     mul-digit
     shared-slice-read-digit
@@ -117,17 +77,11 @@ read-hex-spec =
     add-digit
     shared-slice-read-digit-2
     digit-requires-2
-    refuse-requires-3
-    same-length-3
-    returns-3
-    refuse-requires-4
-    same-length-4
-    returns-4
     mul-out
     add-out
     slice-write-out
     add-i
     loop-less
     loop-again
-    same-length-5
-    returns-5)
+    same-length
+    returns)

@@ -1,4 +1,5 @@
 // A box's start and its calls.
+use crate::states;
 use messages::Label;
 use party::Party;
 use party::PartyAnswer;
@@ -12,30 +13,16 @@ const LONGEST: usize = 2432;
 
 const ROOM: usize = 520;
 
-fn load_all(bytes: &[u8], w: &mut [u32]) {
-    let n = slices::least(bytes.len() / 4, w.len());
-    let mut i: usize = 0;
-    while i < n {
-        w[i] = slices::load(bytes, 4 * i);
-        i += 1;
-    }
-}
-
 // All words of a slot.
 fn vector(b: &[u8; BYTES], slot: usize) -> [u32; LONGEST] {
     let mut w = [0u32; LONGEST];
-    load_all(memory::first(b, slot, 9728), &mut w);
+    script::load_words(memory::first(b, slot, 9728), &mut w);
     w
 }
 
-fn first_part(w: &[u32], n: usize) -> &[u32] {
-    let end = slices::least(n, w.len());
-    &w[0..end]
-}
-
-// The words of the first n bytes.
-fn first_words(w: &[u32; LONGEST], n: u64) -> &[u32] {
-    first_part(w, memory::size(n / 4))
+// Call 2's buffer before the call.
+fn no_masked() -> [u32; ROOM] {
+    [2863311530; ROOM]
 }
 
 pub fn label(kind: u64, sender: u64, number: u64) -> Label {
@@ -71,9 +58,11 @@ fn lay_masked(b: &mut [u8; BYTES], masked: [u32; ROOM]) {
 // mask BOX VECTOR ROOM. The buffer goes to slot 0.
 fn mask(p: Party, b: &mut [u8; BYTES], l: Line) -> PartyAnswer {
     let w = vector(b, 2);
-    let mut masked = [2863311530u32; ROOM];
-    let room = slices::least(memory::size(l.f3), ROOM);
-    let a = p.mask(first_words(&w, l.f2), &mut masked[0..room]);
+    let mut masked = no_masked();
+    let a = p.mask(
+        script::first_words(&w, memory::size(l.f2 / 4)),
+        script::first_words_mut(&mut masked, memory::size(l.f3)),
+    );
     lay_masked(b, masked);
     a
 }
@@ -84,7 +73,7 @@ fn take(p: Party, b: &[u8; BYTES], l: Line) -> PartyAnswer {
     p.take(
         label(l.f2, l.f4, l.f5),
         memory::first(b, 3, l.f3),
-        first_words(&w, l.f6),
+        script::first_words(&w, memory::size(l.f6 / 4)),
     )
 }
 
@@ -97,22 +86,35 @@ fn finish(p: Party, b: &[u8; BYTES], l: Line) -> PartyAnswer {
     )
 }
 
-// put BOX PHASE PARTY CODE L
-fn put(p: Party, phase: u32, party: u32, code: u32, n: usize) -> PartyAnswer {
-    let mut next = p;
-    next.phase = phase;
-    next.party = party;
-    next.set.code = code;
-    next.set.n = n;
+// A box that answers nothing.
+fn as_it_is(p: Party) -> PartyAnswer {
     PartyAnswer {
         why: 0,
-        party: next,
+        party: p,
         word: 0,
     }
 }
 
+// put BOX PHASE PARTY CODE L
+fn put(p: Party, l: Line) -> PartyAnswer {
+    let code = memory::low(l.f4);
+    let n = memory::size(l.f5);
+    let mut next = p;
+    next.phase = memory::low(l.f2);
+    next.party = memory::low(l.f3);
+    next.set.code = code;
+    next.set.n = n;
+    as_it_is(next)
+}
+
+// show BOX: the state's bytes go to slot 0.
+fn show(p: Party, b: &mut [u8; BYTES]) -> PartyAnswer {
+    states::lay_party(b, p);
+    as_it_is(p)
+}
+
 // What a box is asked. The bytes of a load stand in slot 0, and f4 counts them.
-pub fn call(p: Party, b: &mut [u8; BYTES], l: Line) -> PartyAnswer {
+fn asked(p: Party, b: &mut [u8; BYTES], l: Line) -> PartyAnswer {
     let command = l.command;
     match command {
         lines::PARTY => start(p, b, l),
@@ -120,13 +122,16 @@ pub fn call(p: Party, b: &mut [u8; BYTES], l: Line) -> PartyAnswer {
         lines::TAKE => take(p, b, l),
         lines::FINISH => finish(p, b, l),
         lines::DROP => p.drop(),
-        lines::PUT => put(
-            p,
-            memory::low(l.f2),
-            memory::low(l.f3),
-            memory::low(l.f4),
-            memory::size(l.f5),
-        ),
+        lines::PUT => put(p, l),
+        lines::SHOW => show(p, b),
         _ => p.load(memory::first(b, 0, l.f4)),
+    }
+}
+
+pub fn call(p: Party, place: u64, b: &mut [u8; BYTES], l: Line) -> PartyAnswer {
+    if l.part == place {
+        asked(p, b, l)
+    } else {
+        as_it_is(p)
     }
 }

@@ -1,12 +1,12 @@
 use borrow.Author.Needs.{needs}
-use mathlib.Core.Path.{_≡_}
-use Prim.Native.Nat.{_-_}
 use lib.ListN.{length}
-use Rattle.replay.proofs.boxes.load_all.Statement.{statement}
-use Rattle.replay.proofs.boxes.load_all.Tie as tie
+use Prim.Native.Nat.{_-_, _≤_}
+use mathlib.Core.Path.{_≡_}
+use Rattle.script.proofs.read.load_words.Statement.{statement}
+use Rattle.script.proofs.read.load_words.Tie as tie
 
 abbrev Inv-loop : tie.InvT-loop
-Inv-loop bytes w₀ n i₀ w i = length w ≡ length w₀
+Inv-loop bytes w₀ n i₀ w i = (length w ≡ length w₀) × (i ≤ n)
 
 abbrev μ-loop : tie.MeasureT-loop
 μ-loop bytes w₀ n i₀ w i = n - i
@@ -44,8 +44,8 @@ same-length c = search needs
 returns : tie.Need-returns Inv-loop μ-loop
 returns c = search needs
 
-pub load-all-spec : {M : Type 1} → statement M
-load-all-spec =
+pub load-words-spec : {M : Type 1} → statement M
+load-words-spec =
     tie.close
     (tie.spec
     Inv-loop
