@@ -51,7 +51,8 @@ pub fn command_of(line: &[u8]) -> Command {
 }
 
 pub fn word(line: &[u8], place: usize) -> u32 {
-    script::read_word(script::field(line, place)).value
+    let w = script::read_word(script::field(line, place));
+    if w.ok { w.value } else { 4294967295 }
 }
 
 pub fn number(line: &[u8], place: usize) -> usize {
@@ -63,7 +64,8 @@ pub fn byte(line: &[u8], place: usize) -> u8 {
 }
 
 fn set_number(line: &[u8], place: usize) -> u64 {
-    script::read_number(script::field(line, place)).value
+    let n = script::read_number(script::field(line, place));
+    if n.ok { n.value } else { 18446744073709551615 }
 }
 
 fn bytes_32(line: &[u8], place: usize) -> [u8; 32] {
