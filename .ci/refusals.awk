@@ -14,7 +14,7 @@ match($0, /\.antt:[0-9]+:[0-9]+: error: `[^`]*`: /) {
     of_function = sub(/\/Proof$/, "", file)
     gsub("/", of_function ? "::" : ".", file)
     at = of_function ? file : file "." declaration
-    if (/can be named from here/) misshapen[at] = 1
+    if (/can be named from here|has no field `|expected type `tie\.Need-/) misshapen[at] = 1
     else if (!/was not admitted/ && !(of_function && declaration ~ /-spec$/)) broken[at] = 1
 }
 

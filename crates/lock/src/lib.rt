@@ -85,20 +85,12 @@ fn why_not_join(
 ) -> u32
     ensures { λ r. ⌜ r ≡ whyNotJoin lock label0 (now (name0 .entry)) answer0 label1 (now (name1 .entry)) answer1 ⌝ }
 {
-    if !((name0.len() == 16) & (name1.len() == 16)) {
-        return 4;
-    }
     let door = lock.name;
     let first = messages::expected(2, door, 0, label0, name0);
     let second = messages::expected(2, door, 1, label1, name1);
-    if !(first & second) {
-        return 6;
-    }
-    if !((lock.last < label0.number) & (label1.number == label0.number)) {
-        return 7;
-    }
-    if !(words::add(answer0, answer1) <= 1) {
-        return 12;
-    }
-    0
+    let sum = words::add(answer0, answer1);
+    let lengths = (name0.len() == 16) & (name1.len() == 16);
+    let labels = first & second;
+    let numbers = (lock.last < label0.number) & (label1.number == label0.number);
+    messages::first_refusal(lengths, 4, labels, 6, numbers, 7, sum <= 1, 12)
 }

@@ -2,7 +2,7 @@
 ghost use mathlib.Core.Path.{_≡_};
 ghost use Prim.Native.Nat.{_≤_};
 ghost use lib.ListN.{length};
-ghost use Rattle.messages.specs.Messages.{printable as printableOf, nameFits, padded as paddedOf, expected as expectedOf};
+ghost use Rattle.messages.specs.Messages.{unless, printable as printableOf, nameFits, padded as paddedOf, expected as expectedOf};
 
 // What a message carries beside its name and its content.
 #[repr(C)]
@@ -10,6 +10,25 @@ pub struct Label {
     pub kind: u32,
     pub sender: u32,
     pub number: u64,
+}
+
+// The number of the first test that fails, or 0 where none does.
+pub fn first_refusal(a: bool, i: u32, b: bool, j: u32, c: bool, k: u32, d: bool, l: u32) -> u32
+    ensures { λ r. ⌜ r ≡ unless a i (unless b j (unless c k (unless d l 0))) ⌝ }
+{
+    if !a {
+        return i;
+    }
+    if !b {
+        return j;
+    }
+    if !c {
+        return k;
+    }
+    if !d {
+        return l;
+    }
+    0
 }
 
 // Whether every byte lies from 32 to 126.

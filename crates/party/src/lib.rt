@@ -109,26 +109,6 @@ fn why_not_mask(turn: bool, n: usize, code: u32, v: &[u32], room: usize) -> u32
     0
 }
 
-// The refusals of calls 3 and 4, from what decides them: whether the state and the turn, the lengths
-// and the label fit, the message's set number and the open one.
-fn why_not_message(turn: bool, lengths: bool, fits: bool, number: u64, current: u64) -> u32
-    ensures { λ r. ⌜ r ≡ unless turn 3 (unless lengths 4 (unless fits 6 (unless (eqb number current) 7 0))) ⌝ }
-{
-    if !turn {
-        return 3;
-    }
-    if !lengths {
-        return 4;
-    }
-    if !fits {
-        return 6;
-    }
-    if !(number == current) {
-        return 7;
-    }
-    0
-}
-
 // The other party.
 fn other(party: u32) -> u32
     ensures { λ r. ⌜ r ≡ 1 - party ⌝ }
@@ -268,7 +248,8 @@ impl Party {
         let lengths = (name.len() == 16) & (v.len() == n);
         let door = self.name;
         let fits = messages::expected(0, door, other(self.party), label, name);
-        let why = why_not_message(turn, lengths, fits, label.number, self.set.number);
+        let number = label.number == self.set.number;
+        let why = messages::first_refusal(turn, 3, lengths, 4, fits, 6, number, 7);
         if why != 0 {
             return PartyAnswer {
                 why,
@@ -299,7 +280,8 @@ impl Party {
             & state_fits(self.party, self.phase, self.set.code, self.set.n);
         let door = self.name;
         let fits = messages::expected(1, door, other(self.party), label, name);
-        let why = why_not_message(turn, name.len() == 16, fits, label.number, self.set.number);
+        let number = label.number == self.set.number;
+        let why = messages::first_refusal(turn, 3, name.len() == 16, 4, fits, 6, number, 7);
         if why != 0 {
             return PartyAnswer {
                 why,

@@ -1,12 +1,11 @@
 // Answers a script of calls on a door's four parts, a line for each line (docs/REPLAY.md), so that a
 // host's log can be run again. The output is compared with a second implementation's.
-mod kept;
-mod put;
-
+use replay_lines::kept;
 use replay_lines::lines;
 use replay_lines::lines::Line;
 use replay_lines::memory::BYTES;
 use replay_lines::memory::NUMBERS;
+use replay_lines::put;
 use script::ROOM;
 
 // From a function, as `script::no_text`.

@@ -28,9 +28,15 @@ add-requires-2 c κs = search needs
 returns : tie.Need-returns
 unfolding answer
 returns c =
+    let at-only = c .before in
+    let at-below-half = at-only .before in
+    let at-sub = at-below-half .before in
+    let at-values = at-sub .before in
+    let at-add = at-values .before in
+    let start = at-add .before in
     c .add2 .ensures
-    ∙ ap₂ add (c .before .before .before .sub .ensures ∙ ap₂ sub (c .before .before .before .before .values .ensures .0 ∙ ap (valueAt (c .before .before .before .before .before .before .args .party) (c .before .before .before .before .before .before .args .key) (c .before .before .before .before .before .before .args .seed)) (c .before .before .before .before .before .add .ensures)) (c .before .before .before .before .values .ensures .1))
-    (c .before .only .ensures ∙ ap (only (odd (c .before .before .before .before .before .before .args .party))) (c .before .before .below-half .ensures))
+    ∙ ap₂ add (at-sub .sub .ensures ∙ ap₂ sub (at-values .values .ensures .0 ∙ ap (valueAt (start .args .party) (start .args .key) (start .args .seed)) (at-add .add .ensures)) (at-values .values .ensures .1))
+    (at-only .only .ensures ∙ ap (only (odd (start .args .party))) (at-below-half .below-half .ensures))
 
 pub answer-spec : {M : Type 1} → statement M
 answer-spec =

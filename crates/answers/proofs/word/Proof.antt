@@ -20,7 +20,11 @@ add-requires-2 c κs = search needs
 returns : tie.Need-returns
 unfolding word
 returns c =
-    c .add2 .ensures ∙ ap (λ y. add y (c .before .before .before .before .args .r)) (c .before .add .ensures ∙ ap (λ y. add y (c .before .before .before .before .args .own)) (c .before .before .mul .ensures ∙ ap (λ y. mul y (c .before .before .before .before .args .share)) (c .before .before .before .k .ensures)))
+    let at-add = c .before in
+    let at-mul = at-add .before in
+    let at-k = at-mul .before in
+    let start = at-k .before in
+    c .add2 .ensures ∙ ap (λ y. add y (start .args .r)) (at-add .add .ensures ∙ ap (λ y. add y (start .args .own)) (at-mul .mul .ensures ∙ ap (λ y. mul y (start .args .share)) (at-k .k .ensures)))
 
 pub word-spec : {M : Type 1} → statement M
 word-spec = tie.close (tie.spec k-requires mul-requires add-requires add-requires-2 returns)

@@ -18,7 +18,12 @@ same-length : tie.Need-same-length
 same-length c = search needs
 
 returns : tie.Need-returns
-returns c = c .before .before .stream .ensures ∙ ap₂ (λ k n. stream k n (length (c .before .before .before .before .before .before .before .args .out .now))) (c .before .before .before .before .before .key-words .ensures) (c .before .before .before .before .nonce-words .ensures)
+returns c =
+    let at-stream = c .before .before in
+    let at-nonce-words = at-stream .before .before in
+    let at-key-words = at-nonce-words .before in
+    let start = at-key-words .before .before in
+    at-stream .stream .ensures ∙ ap₂ (λ k n. stream k n (length (start .args .out .now))) (at-key-words .key-words .ensures) (at-nonce-words .nonce-words .ensures)
 
 pub cipher-stream-spec : {M : Type 1} → statement M
 cipher-stream-spec =

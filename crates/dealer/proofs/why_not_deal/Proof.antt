@@ -20,19 +20,46 @@ mul-size : tie.Need-mul-size
 mul-size c = omega (arith, few (c .before .before .before .before .args .long) (c .before .before .before .before .args .n) (c .before .if2 .left) _ (c .blocks-of .ensures))
 
 returns-3 : tie.Need-returns-3
-returns-3 c = λ s seed el es. no-room s _ el es _ _ _ (c .before .before .before .before .is-code .ensures) (c .before .before .before .if1 .left) (c .before .before .if2 .left) _ (c .before .blocks-of .ensures) (c .if3 .taken)
+returns-3 c =
+    let at-blocks-of = c .before in
+    let at-if2 = at-blocks-of .before in
+    let at-if1 = at-if2 .before in
+    let at-is-code = at-if1 .before in
+    λ s seed el es. no-room s _ el es _ _ _ (at-is-code .is-code .ensures) (at-if1 .if1 .left) (at-if2 .if2 .left) _ (at-blocks-of .blocks-of .ensures) (c .if3 .taken)
 
 returns-4 : tie.Need-returns-4
-returns-4 c = λ s seed el es. stale s _ el es _ _ _ (c .before .before .before .before .before .is-code .ensures) (c .before .before .before .before .if1 .left) (c .before .before .before .if2 .left) _ (c .before .before .blocks-of .ensures) (c .before .if3 .left) (c .if4 .taken)
+returns-4 c =
+    let at-if3 = c .before in
+    let at-blocks-of = at-if3 .before in
+    let at-if2 = at-blocks-of .before in
+    let at-if1 = at-if2 .before in
+    let at-is-code = at-if1 .before in
+    λ s seed el es. stale s _ el es _ _ _ (at-is-code .is-code .ensures) (at-if1 .if1 .left) (at-if2 .if2 .left) _ (at-blocks-of .blocks-of .ensures) (at-if3 .if3 .left) (c .if4 .taken)
 
 threshold-fits-requires : tie.Need-threshold-fits-requires
 threshold-fits-requires c κs = search needs
 
 returns-5 : tie.Need-returns-5
-returns-5 c = λ s seed el es. out-of-range s _ el es _ _ _ (c .before .before .before .before .before .before .before .is-code .ensures) (c .before .before .before .before .before .before .if1 .left) (c .before .before .before .before .before .if2 .left) _ (c .before .before .before .before .blocks-of .ensures) (c .before .before .before .if3 .left) (c .before .before .if4 .left) _ (c .before .threshold-fits .ensures) (c .if5 .taken)
+returns-5 c =
+    let at-threshold-fits = c .before in
+    let at-if4 = at-threshold-fits .before in
+    let at-if3 = at-if4 .before in
+    let at-blocks-of = at-if3 .before in
+    let at-if2 = at-blocks-of .before in
+    let at-if1 = at-if2 .before in
+    let at-is-code = at-if1 .before in
+    λ s seed el es. out-of-range s _ el es _ _ _ (at-is-code .is-code .ensures) (at-if1 .if1 .left) (at-if2 .if2 .left) _ (at-blocks-of .blocks-of .ensures) (at-if3 .if3 .left) (at-if4 .if4 .left) _ (at-threshold-fits .threshold-fits .ensures) (c .if5 .taken)
 
 returns-6 : tie.Need-returns-6
-returns-6 c = λ s seed el es. deal-taken s _ el es _ _ _ (c .before .before .before .before .before .before .before .is-code .ensures) (c .before .before .before .before .before .before .if1 .left) (c .before .before .before .before .before .if2 .left) _ (c .before .before .before .before .blocks-of .ensures) (c .before .before .before .if3 .left) (c .before .before .if4 .left) _ (c .before .threshold-fits .ensures) (c .if5 .left)
+returns-6 c =
+    let at-threshold-fits = c .before in
+    let at-if4 = at-threshold-fits .before in
+    let at-if3 = at-if4 .before in
+    let at-blocks-of = at-if3 .before in
+    let at-if2 = at-blocks-of .before in
+    let at-if1 = at-if2 .before in
+    let at-is-code = at-if1 .before in
+    λ s seed el es. deal-taken s _ el es _ _ _ (at-is-code .is-code .ensures) (at-if1 .if1 .left) (at-if2 .if2 .left) _ (at-blocks-of .blocks-of .ensures) (at-if3 .if3 .left) (at-if4 .if4 .left) _ (at-threshold-fits .threshold-fits .ensures) (c .if5 .left)
 
 pub why-not-deal-spec : {M : Type 1} → statement M
 why-not-deal-spec =

@@ -16,10 +16,20 @@ equal-requires : tie.Need-equal-requires
 equal-requires c κs = search needs
 
 returns-3 : tie.Need-returns-3
-returns-3 c = one-key _ _ _ _ (c .before .before .before .before .name-fits .ensures) (c .before .before .before .if1 .left) (c .before .before .if2 .left) _ (c .before .equal .ensures) (c .if3 .taken)
+returns-3 c =
+    let at-equal = c .before in
+    let at-if2 = at-equal .before in
+    let at-if1 = at-if2 .before in
+    let at-name-fits = at-if1 .before in
+    one-key _ _ _ _ (at-name-fits .name-fits .ensures) (at-if1 .if1 .left) (at-if2 .if2 .left) _ (at-equal .equal .ensures) (c .if3 .taken)
 
 returns-4 : tie.Need-returns-4
-returns-4 c = start-taken _ _ _ _ (c .before .before .before .before .name-fits .ensures) (c .before .before .before .if1 .left) (c .before .before .if2 .left) _ (c .before .equal .ensures) (c .if3 .left)
+returns-4 c =
+    let at-equal = c .before in
+    let at-if2 = at-equal .before in
+    let at-if1 = at-if2 .before in
+    let at-name-fits = at-if1 .before in
+    start-taken _ _ _ _ (at-name-fits .name-fits .ensures) (at-if1 .if1 .left) (at-if2 .if2 .left) _ (at-equal .equal .ensures) (c .if3 .left)
 
 pub why-not-start-spec : {M : Type 1} → statement M
 why-not-start-spec =

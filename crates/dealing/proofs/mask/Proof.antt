@@ -39,7 +39,9 @@ add-vectors-requires c κs = search needs
 
 returns : tie.Need-returns
 returns c =
-    mask-law (c .before .before .before .before .before .before .args .w .now) _ _ (c .before .before .before .before .before .before .args .at) (c .before .before .before .before .before .before .args .n) refl (c .before .before .before .before .before .before .pre .0) (c .before .before .before .before .before .before .pre .1) (c .before .add-vectors .ensures)
+    let at-add-vectors = c .before in
+    let start = at-add-vectors .before .before .before .before .before in
+    mask-law (start .args .w .now) _ _ (start .args .at) (start .args .n) refl (start .pre .0) (start .pre .1) (at-add-vectors .add-vectors .ensures)
 
 pub mask-spec : {M : Type 1} → statement M
 mask-spec =

@@ -45,7 +45,14 @@ same-length : tie.Need-same-length
 same-length c = search needs
 
 returns : tie.Need-returns
-returns c = write-law (c .before .before .before .before .before .before .before .before .before .before .before .before .before .before .before .before .before .before .before .before .before .before .before .before .args .key .now) (c .before .before .before .before .before .before .before .before .before .before .before .before .before .before .before .before .before .before .before .before .before .header .result) (c .before .before .before .before .before .before .before .before .before .before .before .before .before .before .before .before .before .before .before .before .before .before .before .before .args .text .now) (c .before .before .before .before .before .before .before .before .before .before .before .before .before .before .before .before .before .before .before .before .before .before .before .before .args .out .now) (ap length (c .before .before .before .before .before .before .before .before .before .before .before .before .before .before .before .before .before .before .before .before .before .header .ensures) ∙ length-header _ _) (c .before .before .before .before .before .before .before .before .before .before .before .before .before .before .before .before .before .before .before .before .before .before .before .before .pre .0) (c .before .before .before .before .before .before .before .before .before .before .before .before .before .before .before .before .before .before .before .before .before .before .before .before .pre .1) (c .before .before .before .before .before .before .before .before .before .before .before .before .before .before .before .before .before .before .copy .last .0) (c .before .before .before .before .before .before .before .before .before .before .before .before .before .before .copy2 .last .0) (c .before .before .before .before .before .before .before .before .seal .last .1 .1 .1 .0) (c .before .before .copy3 .last .0) (c .before .before .before .before .before .before .before .before .seal .result) (c .before .before .before .before .before .before .before .before .before .before .before .before .before .before .before .before .before .before .copy .ensures) (c .before .before .before .before .before .before .before .before .before .before .before .before .before .before .copy2 .ensures) (c .before .before .before .before .before .before .before .before .seal .ensures .1) (c .before .before .before .before .before .before .before .before .seal .ensures .0) (c .before .before .copy3 .ensures) ∙ is-block (c .before .before .before .before .before .before .before .before .before .before .before .before .before .before .before .before .before .before .before .before .before .before .before .before .args .key .now) (c .before .before .before .before .before .before .before .before .before .before .before .before .before .before .before .before .before .before .before .before .before .header .result) (c .before .before .before .before .before .before .before .before .before .before .before .before .before .before .before .before .before .before .before .before .before .before .before .before .args .text .now) (c .before .before .before .before .before .before .before .before .before .before .before .before .before .before .before .before .before .before .before .before .before .before .before .before .args .out .now) (ap length (c .before .before .before .before .before .before .before .before .before .before .before .before .before .before .before .before .before .before .before .before .before .header .ensures) ∙ length-header _ _) (c .before .before .before .before .before .before .before .before .before .before .before .before .before .before .before .before .before .before .before .before .before .before .before .before .pre .0) (c .before .before .before .before .before .before .before .before .before .before .before .before .before .before .before .before .before .before .before .before .before .before .before .before .pre .1) _ _ (c .before .before .before .before .before .before .before .before .before .before .before .before .before .before .before .before .before .before .before .before .before .header .ensures)
+returns c =
+    let at-copy3 = c .before .before in
+    let at-seal = at-copy3 .before .before .before .before .before .before in
+    let at-copy2 = at-seal .before .before .before .before .before .before in
+    let at-copy = at-copy2 .before .before .before .before in
+    let at-header = at-copy .before .before .before in
+    let start = at-header .before .before .before in
+    write-law (start .args .key .now) (at-header .header .result) (start .args .text .now) (start .args .out .now) (ap length (at-header .header .ensures) ∙ length-header _ _) (start .pre .0) (start .pre .1) (at-copy .copy .last .0) (at-copy2 .copy2 .last .0) (at-seal .seal .last .1 .1 .1 .0) (at-copy3 .copy3 .last .0) (at-seal .seal .result) (at-copy .copy .ensures) (at-copy2 .copy2 .ensures) (at-seal .seal .ensures .1) (at-seal .seal .ensures .0) (at-copy3 .copy3 .ensures) ∙ is-block (start .args .key .now) (at-header .header .result) (start .args .text .now) (start .args .out .now) (ap length (at-header .header .ensures) ∙ length-header _ _) (start .pre .0) (start .pre .1) _ _ (at-header .header .ensures)
 
 pub write-block-spec : {M : Type 1} → statement M
 write-block-spec =

@@ -9,7 +9,9 @@ blocks-of-requires : tie.Need-blocks-of-requires
 blocks-of-requires c κs = search needs
 
 lay-out-requires : tie.Need-lay-out-requires
-lay-out-requires c κs = ((c .before .before .pre .0 .0, code-byte (c .before .before .args .s) (c .before .before .pre .1), c .before .before .pre .1 .most), flag-bytes (c .before .before .args .s) (c .before .before .pre .1))
+lay-out-requires c κs =
+    let start = c .before .before in
+    ((start .pre .0 .0, code-byte (start .args .s) (start .pre .1), start .pre .1 .most), flag-bytes (start .args .s) (start .pre .1))
 
 slice-aggregate-write-blocks : tie.Need-slice-aggregate-write-blocks
 slice-aggregate-write-blocks c = search needs

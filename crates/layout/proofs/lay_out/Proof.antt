@@ -13,7 +13,11 @@ joined-requires : tie.Need-joined-requires
 joined-requires c κs = search needs
 
 returns : tie.Need-returns
-returns c = fields-law (c .before .before .before .before .before .before .before .before .before .args .name) (c .before .before .before .before .before .before .before .before .before .args .party) (c .before .before .before .before .before .before .before .before .before .args .s) _ _ _ _ (c .before .before .head .ensures) (c .before .tail .ensures) (c .joined .ensures)
+returns c =
+    let at-tail = c .before in
+    let at-head = at-tail .before in
+    let start = at-head .before .before .before .before .before .before .before in
+    fields-law (start .args .name) (start .args .party) (start .args .s) _ _ _ _ (at-head .head .ensures) (at-tail .tail .ensures) (c .joined .ensures)
 
 pub lay-out-spec : {M : Type 1} → statement M
 lay-out-spec = tie.close (tie.spec head-requires tail-requires joined-requires returns)

@@ -73,7 +73,11 @@ add-t2-2 : tie.Need-add-t2-2
 add-t2-2 c = record { fits = sum0-fits (word2 _ (c .before .before .before .pre .l2)) (c .wide3 .ensures .1) }
 
 add-t2-3 : tie.Need-add-t2-3
-add-t2-3 c = record { fits = sum-fits (word2 _ (c .before .before .before .pre .l2)) (c .wide3 .ensures .1) (sum-fits (word1 _ (c .before .before .before .pre .l1)) (c .before .wide2 .ensures .1) (sum0-fits (word0 _ (c .before .before .before .pre .l0)) (c .before .before .wide .ensures .1))) }
+add-t2-3 c =
+    let at-wide2 = c .before in
+    let at-wide = at-wide2 .before in
+    let start = at-wide .before in
+    record { fits = sum-fits (word2 _ (start .pre .l2)) (c .wide3 .ensures .1) (sum-fits (word1 _ (start .pre .l1)) (at-wide2 .wide2 .ensures .1) (sum0-fits (word0 _ (start .pre .l0)) (at-wide .wide .ensures .1))) }
 
 array-read-t3 : tie.Need-array-read-t3
 array-read-t3 c = search needs
@@ -97,7 +101,12 @@ add-t3-2 : tie.Need-add-t3-2
 add-t3-2 c = record { fits = sum0-fits (word3 _ (c .before .before .before .before .pre .l3)) (c .wide4 .ensures .1) }
 
 add-t3-3 : tie.Need-add-t3-3
-add-t3-3 c = record { fits = sum-fits (word3 _ (c .before .before .before .before .pre .l3)) (c .wide4 .ensures .1) (sum-fits (word2 _ (c .before .before .before .before .pre .l2)) (c .before .wide3 .ensures .1) (sum-fits (word1 _ (c .before .before .before .before .pre .l1)) (c .before .before .wide2 .ensures .1) (sum0-fits (word0 _ (c .before .before .before .before .pre .l0)) (c .before .before .before .wide .ensures .1)))) }
+add-t3-3 c =
+    let at-wide3 = c .before in
+    let at-wide2 = at-wide3 .before in
+    let at-wide = at-wide2 .before in
+    let start = at-wide .before in
+    record { fits = sum-fits (word3 _ (start .pre .l3)) (c .wide4 .ensures .1) (sum-fits (word2 _ (start .pre .l2)) (at-wide3 .wide3 .ensures .1) (sum-fits (word1 _ (start .pre .l1)) (at-wide2 .wide2 .ensures .1) (sum0-fits (word0 _ (start .pre .l0)) (at-wide .wide .ensures .1)))) }
 
 cast-t21 : tie.Need-cast-t21
 cast-t21 c = record { fits = mod-lt _ (lit< tt) }

@@ -24,10 +24,14 @@ add-requires-2 c κs = search needs
 returns : tie.Need-returns
 unfolding taken nextSeed nextFlag asWalk unpacked child
 returns c =
+    let at-only = c .before in
+    let at-add = at-only .before in
+    let at-next-flag = at-add .before in
+    let at-corrected = at-next-flag .before in
     λ i. record {
-      seed = (c .before .before .before .before .corrected .ensures) i;
-      flag = (c .before .before .before .next-flag .ensures) i;
-      total = (c .add2 .ensures ∙ ap₂ add (c .before .before .add .ensures) (c .before .only .ensures)) i;
+      seed = (at-corrected .corrected .ensures) i;
+      flag = (at-next-flag .next-flag .ensures) i;
+      total = (c .add2 .ensures ∙ ap₂ add (at-add .add .ensures) (at-only .only .ensures)) i;
     }
 
 pub taken-spec : {M : Type 1} → statement M

@@ -13,7 +13,11 @@ same-length : tie.Need-same-length
 same-length c = search needs
 
 returns : tie.Need-returns
-returns c = whole-10 (c .before .before .before .before .before .before .before .before .args .key .now) (c .before .before .before .before .before .before .before .before .args .name) (c .before .before .before .before .before .before .before .before .args .h .now) (c .before .before .before .before .before .before .before .before .args .party) (c .before .before .before .before .open-blocks .result) (c .before .before .before .before .open-blocks .ensures .0) _ (c .before .if1 .taken) (c .refused .ensures)
+returns c =
+    let at-if1 = c .before in
+    let at-open-blocks = at-if1 .before .before .before in
+    let start = at-open-blocks .before .before .before .before in
+    whole-10 (start .args .key .now) (start .args .name) (start .args .h .now) (start .args .party) (at-open-blocks .open-blocks .result) (at-open-blocks .open-blocks .ensures .0) _ (at-if1 .if1 .taken) (c .refused .ensures)
 
 content-fits-requires : tie.Need-content-fits-requires
 content-fits-requires c κs = search needs
@@ -25,7 +29,13 @@ same-length-2 : tie.Need-same-length-2
 same-length-2 c = search needs
 
 returns-2 : tie.Need-returns-2
-returns-2 c = whole-11 (c .before .before .before .before .before .before .before .before .before .before .before .args .key .now) (c .before .before .before .before .before .before .before .before .before .before .before .args .name) (c .before .before .before .before .before .before .before .before .before .before .before .args .h .now) (c .before .before .before .before .before .before .before .before .before .before .before .args .party) (c .before .before .before .before .before .before .before .open-blocks .result) (c .before .before .before .before .before .before .before .open-blocks .ensures .0) (c .before .before .before .before .if1 .left) _ (c .before .before .before .before .before .before .before .open-blocks .ensures .1) (c .before .before .content-fits .result) (c .before .before .content-fits .ensures) _ (c .before .if2 .taken) (c .refused2 .ensures)
+returns-2 c =
+    let at-if2 = c .before in
+    let at-content-fits = at-if2 .before in
+    let at-if1 = at-content-fits .before .before in
+    let at-open-blocks = at-if1 .before .before .before in
+    let start = at-open-blocks .before .before .before .before in
+    whole-11 (start .args .key .now) (start .args .name) (start .args .h .now) (start .args .party) (at-open-blocks .open-blocks .result) (at-open-blocks .open-blocks .ensures .0) (at-if1 .if1 .left) _ (at-open-blocks .open-blocks .ensures .1) (at-content-fits .content-fits .result) (at-content-fits .content-fits .ensures) _ (at-if2 .if2 .taken) (c .refused2 .ensures)
 
 read-set-requires : tie.Need-read-set-requires
 read-set-requires c κs = whole-reads (c .before .before .before .before .before .before .before .before .before .before .before .args .key .now) (c .before .before .before .before .before .before .before .before .before .before .before .args .name) (c .before .before .before .before .before .before .before .before .before .before .before .args .h .now) (c .before .before .before .before .before .before .before .before .before .before .before .args .party) (c .before .before .before .before .before .before .before .open-blocks .result) (c .before .before .before .before .before .before .before .open-blocks .ensures .0) (c .before .before .before .before .if1 .left) _ (c .before .before .before .before .before .before .before .open-blocks .ensures .1) (c .before .before .content-fits .result) (c .before .before .content-fits .ensures) (c .before .if2 .left) (search needs)
@@ -34,7 +44,13 @@ same-length-3 : tie.Need-same-length-3
 same-length-3 c = search needs
 
 returns-3 : tie.Need-returns-3
-returns-3 c = whole-0 (c .before .before .before .before .before .before .before .before .before .before .before .before .args .key .now) (c .before .before .before .before .before .before .before .before .before .before .before .before .args .name) (c .before .before .before .before .before .before .before .before .before .before .before .before .args .h .now) (c .before .before .before .before .before .before .before .before .before .before .before .before .args .party) (c .before .before .before .before .before .before .before .before .open-blocks .result) (c .before .before .before .before .before .before .before .before .open-blocks .ensures .0) (c .before .before .before .before .before .if1 .left) _ (c .before .before .before .before .before .before .before .before .open-blocks .ensures .1) (c .before .before .before .content-fits .result) (c .before .before .before .content-fits .ensures) _ _ (c .before .before .if2 .left) (c .before .before .before .before .before .before .before .before .before .before .before .before .pre .2) (c .read-set .ensures)
+returns-3 c =
+    let at-if2 = c .before .before in
+    let at-content-fits = at-if2 .before in
+    let at-if1 = at-content-fits .before .before in
+    let at-open-blocks = at-if1 .before .before .before in
+    let start = at-open-blocks .before .before .before .before in
+    whole-0 (start .args .key .now) (start .args .name) (start .args .h .now) (start .args .party) (at-open-blocks .open-blocks .result) (at-open-blocks .open-blocks .ensures .0) (at-if1 .if1 .left) _ (at-open-blocks .open-blocks .ensures .1) (at-content-fits .content-fits .result) (at-content-fits .content-fits .ensures) _ _ (at-if2 .if2 .left) (start .pre .2) (c .read-set .ensures)
 
 pub open-whole-spec : {M : Type 1} → statement M
 open-whole-spec =

@@ -17,10 +17,20 @@ all-in-range-requires : tie.Need-all-in-range-requires
 all-in-range-requires c κs = search needs
 
 returns-4 : tie.Need-returns-4
-returns-4 c = goes-on _ _ _ (c .before .before .before .before .if1 .left) (goes-on _ _ _ (c .before .before .before .if2 .left) (goes-on _ _ _ (c .before .before .if3 .left) (turned-down _ _ _ (rw (c .before .all-in-range .ensures) at (c .if4 .taken)))))
+returns-4 c =
+    let at-all-in-range = c .before in
+    let at-if3 = at-all-in-range .before in
+    let at-if2 = at-if3 .before in
+    let at-if1 = at-if2 .before in
+    goes-on _ _ _ (at-if1 .if1 .left) (goes-on _ _ _ (at-if2 .if2 .left) (goes-on _ _ _ (at-if3 .if3 .left) (turned-down _ _ _ (rw (at-all-in-range .all-in-range .ensures) at (c .if4 .taken)))))
 
 returns-5 : tie.Need-returns-5
-returns-5 c = goes-on _ _ _ (c .before .before .before .before .if1 .left) (goes-on _ _ _ (c .before .before .before .if2 .left) (goes-on _ _ _ (c .before .before .if3 .left) (goes-on _ _ _ (rw (c .before .all-in-range .ensures) at (c .if4 .left)) (refl))))
+returns-5 c =
+    let at-all-in-range = c .before in
+    let at-if3 = at-all-in-range .before in
+    let at-if2 = at-if3 .before in
+    let at-if1 = at-if2 .before in
+    goes-on _ _ _ (at-if1 .if1 .left) (goes-on _ _ _ (at-if2 .if2 .left) (goes-on _ _ _ (at-if3 .if3 .left) (goes-on _ _ _ (rw (at-all-in-range .all-in-range .ensures) at (c .if4 .left)) (refl))))
 
 pub why-not-mask-spec : {M : Type 1} → statement M
 why-not-mask-spec =

@@ -31,7 +31,11 @@ byte-requires : tie.Need-byte-requires
 byte-requires c κs = search needs
 
 returns : tie.Need-returns
-returns c = correction-in-law (c .before .before .before .before .before .args .f .now) _ (c .before .before .before .before .before .args .i) _ _ (c .before .before .seed-in .ensures) (c .before .load .ensures) (c .byte .ensures .0)
+returns c =
+    let at-load = c .before in
+    let at-seed-in = at-load .before in
+    let start = at-seed-in .before .before .before in
+    correction-in-law (start .args .f .now) _ (start .args .i) _ _ (at-seed-in .seed-in .ensures) (at-load .load .ensures) (c .byte .ensures .0)
 
 pub correction-in-spec : {M : Type 1} → statement M
 correction-in-spec =

@@ -121,8 +121,18 @@ seed-in-requires c κs = search needs
 
 returns : tie.Need-returns
 returns c =
-    set-law _ (c .before .before .before .before .before .before .before .before .before .before .before .before .before .before .before .before .args .b .now) _ _ _ _ _ _ _ _ _ _ (c .before .before .before .before .before .before .before .before .before .before .before .before .before .before .length-in .ensures .0) (c .before .before .before .before .before .before .before .before .before .before .byte .ensures .0)
-    (c .before .before .before .before .before .before .before .before .vector .ensures) (c .before .before .before .before .before .before .vector2 .ensures) (c .before .before .before .before .vector3 .ensures) (c .before .before .before .load2 .ensures) (c .before .before .load3 .ensures) (c .seed-in .ensures) (c .before .before .before .before .before .before .before .before .before .before .before .before .corrections-in .ensures) (c .before .before .before .before .before .before .before .before .before .before .before .load .ensures)
+    let at-load3 = c .before .before in
+    let at-load2 = at-load3 .before in
+    let at-vector3 = at-load2 .before in
+    let at-vector2 = at-vector3 .before .before in
+    let at-vector = at-vector2 .before .before in
+    let at-byte = at-vector .before .before in
+    let at-load = at-byte .before in
+    let at-corrections-in = at-load .before in
+    let at-length-in = at-corrections-in .before .before in
+    let start = at-length-in .before .before in
+    set-law _ (start .args .b .now) _ _ _ _ _ _ _ _ _ _ (at-length-in .length-in .ensures .0) (at-byte .byte .ensures .0)
+    (at-vector .vector .ensures) (at-vector2 .vector2 .ensures) (at-vector3 .vector3 .ensures) (at-load2 .load2 .ensures) (at-load3 .load3 .ensures) (c .seed-in .ensures) (at-corrections-in .corrections-in .ensures) (at-load .load .ensures)
 
 pub read-set-spec : {M : Type 1} → statement M
 read-set-spec =

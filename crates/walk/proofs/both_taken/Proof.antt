@@ -19,10 +19,15 @@ taken-requires-2 : tie.Need-taken-requires-2
 taken-requires-2 c κs = search needs
 
 returns : tie.Need-returns
-returns c = (
-  from-start _ _ _ _ (c .before .before .before .before .before .before .before .before .before .args .w .a .seed) _ _ _ (c .before .before .before .before .before .before .before .before .before .args .d) (c .before .before .before .before .start .ensures) (c .before .before .two-blocks .ensures .0) (c .before .taken .ensures),
-  from-start _ _ _ _ (c .before .before .before .before .before .before .before .before .before .args .w .b .seed) _ _ _ (c .before .before .before .before .before .before .before .before .before .args .e) (c .before .before .before .start2 .ensures) (c .before .before .two-blocks .ensures .1) (c .taken2 .ensures),
-)
+returns c =
+    let at-taken = c .before in
+    let at-two-blocks = at-taken .before in
+    let at-start2 = at-two-blocks .before in
+    let at-start = at-start2 .before in
+    let start = at-start .before .before .before .before .before in (
+      from-start _ _ _ _ (start .args .w .a .seed) _ _ _ (start .args .d) (at-start .start .ensures) (at-two-blocks .two-blocks .ensures .0) (at-taken .taken .ensures),
+      from-start _ _ _ _ (start .args .w .b .seed) _ _ _ (start .args .e) (at-start2 .start2 .ensures) (at-two-blocks .two-blocks .ensures .1) (c .taken2 .ensures),
+    )
 
 pub both-taken-spec : {M : Type 1} → statement M
 both-taken-spec =

@@ -25,7 +25,11 @@ by-sign-requires c κs = search needs
 returns : tie.Need-returns
 unfolding total first asWalk
 returns c =
-    c .by-sign .ensures ∙ ap (bySign (odd (c .before .before .before .before .before .args .party))) (c .before .add2 .ensures ∙ ap₂ add (c .before .before .before .add .ensures) (c .before .before .only .ensures))
+    let at-add2 = c .before in
+    let at-only = at-add2 .before in
+    let at-add = at-only .before in
+    let start = at-add .before .before in
+    c .by-sign .ensures ∙ ap (bySign (odd (start .args .party))) (at-add2 .add2 .ensures ∙ ap₂ add (at-add .add .ensures) (at-only .only .ensures))
 
 pub finished-spec : {M : Type 1} → statement M
 finished-spec =

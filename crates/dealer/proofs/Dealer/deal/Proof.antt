@@ -15,7 +15,10 @@ returns c =
 
 write-halves-requires : tie.Need-write-halves-requires
 write-halves-requires c κs =
-    none (c .before .before .before .why-not-deal .ensures (c .before .before .before .before .before .before .before .args .self) (c .before .before .before .before .before .before .before .args .seed .now) refl refl) (c .before .before .if1 .left)
+    let at-if1 = c .before .before in
+    let at-why-not-deal = at-if1 .before in
+    let start = at-why-not-deal .before .before .before .before in
+    none (at-why-not-deal .why-not-deal .ensures (start .args .self) (start .args .seed .now) refl refl) (at-if1 .if1 .left)
 
 same-length : tie.Need-same-length
 same-length c = search needs

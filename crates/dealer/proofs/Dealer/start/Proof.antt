@@ -28,7 +28,12 @@ bytes-32-requires-2 c κs =
     omega (arith, keys .long-0, keys .long-1)
 
 returns-2 : tie.Need-returns-2
-returns-2 c = started _ _ _ _ _ (c .before .before .before .before .why-not-start .ensures) _ _ _ (c .before .before .before .if1 .left) (c .before .before .padded .ensures) (c .before .bytes-32 .ensures) (c .bytes-322 .ensures)
+returns-2 c =
+    let at-bytes-32 = c .before in
+    let at-padded = at-bytes-32 .before in
+    let at-if1 = at-padded .before in
+    let at-why-not-start = at-if1 .before in
+    started _ _ _ _ _ (at-why-not-start .why-not-start .ensures) _ _ _ (at-if1 .if1 .left) (at-padded .padded .ensures) (at-bytes-32 .bytes-32 .ensures) (c .bytes-322 .ensures)
 
 pub start-spec : {M : Type 1} → statement M
 start-spec =

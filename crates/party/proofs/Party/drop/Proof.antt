@@ -13,7 +13,11 @@ idle-requires : tie.Need-idle-requires
 idle-requires c κs = search needs
 
 returns-2 : tie.Need-returns-2
-returns-2 c = drop-taken (c .before .before .before .before .before .before .args .self) (c .before .before .before .before .state-fits .result) (c .before .before .before .before .state-fits .ensures) _ (c .before .before .before .if1 .left) (c .idle .ensures)
+returns-2 c =
+    let at-if1 = c .before .before .before in
+    let at-state-fits = at-if1 .before in
+    let start = at-state-fits .before .before in
+    drop-taken (start .args .self) (at-state-fits .state-fits .result) (at-state-fits .state-fits .ensures) _ (at-if1 .if1 .left) (c .idle .ensures)
 
 pub drop-spec : {M : Type 1} → statement M
 drop-spec = tie.close (tie.spec state-fits-requires returns idle-requires returns-2)

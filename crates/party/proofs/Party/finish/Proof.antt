@@ -12,11 +12,17 @@ other-requires c κs = search needs
 expected-requires : tie.Need-expected-requires
 expected-requires c κs = search needs
 
-why-not-message-requires : tie.Need-why-not-message-requires
-why-not-message-requires c κs = search needs
+first-refusal-requires : tie.Need-first-refusal-requires
+first-refusal-requires c κs = search needs
 
 returns : tie.Need-returns
-returns c = finish-refused (c .before .before .before .before .before .before .before .before .args .self) (c .before .before .before .before .before .state-fits .result) (c .before .before .before .before .before .state-fits .ensures) (c .before .before .before .before .before .before .before .before .args .label) (c .before .before .before .before .before .before .before .before .args .name .now) (c .before .before .before .before .before .before .before .before .args .word) (c .before .before .expected .result) (c .before .before .before .other .result) (c .before .before .before .other .ensures) (c .before .before .expected .ensures) (c .before .why-not-message .result) (c .before .why-not-message .ensures) (c .if1 .taken)
+returns c =
+    let at-first-refusal = c .before in
+    let at-expected = at-first-refusal .before .before .before in
+    let at-other = at-expected .before in
+    let at-state-fits = at-other .before .before in
+    let start = at-state-fits .before .before .before in
+    finish-refused (start .args .self) (at-state-fits .state-fits .result) (at-state-fits .state-fits .ensures) (start .args .label) (start .args .name .now) (start .args .word) (at-expected .expected .result) (at-other .other .result) (at-other .other .ensures) (at-expected .expected .ensures) (at-first-refusal .first-refusal .result) (at-first-refusal .first-refusal .ensures) (c .if1 .taken)
 
 add-requires : tie.Need-add-requires
 add-requires c κs = search needs
@@ -28,7 +34,16 @@ idle-requires : tie.Need-idle-requires
 idle-requires c κs = search needs
 
 returns-2 : tie.Need-returns-2
-returns-2 c = finish-taken (c .before .before .before .before .before .before .before .before .before .before .before .before .before .before .args .self) (c .before .before .before .before .before .before .before .before .before .before .before .state-fits .result) (c .before .before .before .before .before .before .before .before .before .before .before .state-fits .ensures) (c .before .before .before .before .before .before .before .before .before .before .before .before .before .before .args .label) (c .before .before .before .before .before .before .before .before .before .before .before .before .before .before .args .name .now) (c .before .before .before .before .before .before .before .before .before .before .before .before .before .before .args .word) (c .before .before .before .before .before .before .before .before .expected .result) (c .before .before .before .before .before .before .before .before .before .other .result) (c .before .before .before .before .before .before .before .before .before .other .ensures) (c .before .before .before .before .before .before .before .before .expected .ensures) (c .before .before .before .before .before .before .before .why-not-message .result) (c .before .before .before .before .before .before .before .why-not-message .ensures) _ _ _ (c .before .before .before .before .before .before .if1 .left) (c .idle .ensures) (c .before .before .before .add .ensures) (c .before .before .answer .ensures)
+returns-2 c =
+    let at-answer = c .before .before in
+    let at-add = at-answer .before in
+    let at-if1 = at-add .before .before .before in
+    let at-first-refusal = at-if1 .before in
+    let at-expected = at-first-refusal .before .before .before in
+    let at-other = at-expected .before in
+    let at-state-fits = at-other .before .before in
+    let start = at-state-fits .before .before .before in
+    finish-taken (start .args .self) (at-state-fits .state-fits .result) (at-state-fits .state-fits .ensures) (start .args .label) (start .args .name .now) (start .args .word) (at-expected .expected .result) (at-other .other .result) (at-other .other .ensures) (at-expected .expected .ensures) (at-first-refusal .first-refusal .result) (at-first-refusal .first-refusal .ensures) _ _ _ (at-if1 .if1 .left) (c .idle .ensures) (at-add .add .ensures) (at-answer .answer .ensures)
 
 pub finish-spec : {M : Type 1} → statement M
 finish-spec =
@@ -37,7 +52,7 @@ finish-spec =
     state-fits-requires
     other-requires
     expected-requires
-    why-not-message-requires
+    first-refusal-requires
     returns
     add-requires
     answer-requires

@@ -13,13 +13,24 @@ examine-requires : tie.Need-examine-requires
 examine-requires c κs = search needs
 
 returns-2 : tie.Need-returns-2
-returns-2 c = load-refused (c .before .before .before .before .before .before .before .before .before .before .args .self) (c .before .before .before .before .before .before .before .state-fits .result) (c .before .before .before .before .before .before .before .state-fits .ensures) (c .before .before .before .before .before .before .before .before .before .before .args .h .now) (c .before .before .before .before .before .before .if1 .left) (c .before .before .examine .result) (c .before .before .examine .ensures) (c .if2 .taken)
+returns-2 c =
+    let at-examine = c .before .before in
+    let at-if1 = at-examine .before .before .before .before in
+    let at-state-fits = at-if1 .before in
+    let start = at-state-fits .before .before .before in
+    load-refused (start .args .self) (at-state-fits .state-fits .result) (at-state-fits .state-fits .ensures) (start .args .h .now) (at-if1 .if1 .left) (at-examine .examine .result) (at-examine .examine .ensures) (c .if2 .taken)
 
 idle-requires : tie.Need-idle-requires
 idle-requires c κs = search needs
 
 returns-3 : tie.Need-returns-3
-returns-3 c = load-taken (c .before .before .before .before .before .before .before .before .before .before .before .before .args .self) (c .before .before .before .before .before .before .before .before .before .state-fits .result) (c .before .before .before .before .before .before .before .before .before .state-fits .ensures) (c .before .before .before .before .before .before .before .before .before .before .before .before .args .h .now) (c .before .before .before .before .before .before .before .before .if1 .left) (c .before .before .before .before .examine .result) (c .before .before .before .before .examine .ensures) (c .idle .result) (c .before .before .if2 .left) (c .idle .ensures)
+returns-3 c =
+    let at-if2 = c .before .before in
+    let at-examine = at-if2 .before .before in
+    let at-if1 = at-examine .before .before .before .before in
+    let at-state-fits = at-if1 .before in
+    let start = at-state-fits .before .before .before in
+    load-taken (start .args .self) (at-state-fits .state-fits .result) (at-state-fits .state-fits .ensures) (start .args .h .now) (at-if1 .if1 .left) (at-examine .examine .result) (at-examine .examine .ensures) (c .idle .result) (at-if2 .if2 .left) (c .idle .ensures)
 
 pub load-spec : {M : Type 1} → statement M
 load-spec =

@@ -11,7 +11,11 @@ why-not-mask-requires : tie.Need-why-not-mask-requires
 why-not-mask-requires c κs = search needs
 
 returns : tie.Need-returns
-returns c = (mask-refused (c .before .before .before .before .before .before .args .self) (c .before .before .state-fits .result) (c .before .before .state-fits .ensures) (c .before .before .before .before .before .before .args .v .now) (c .before .before .before .before .before .before .args .out .now) (c .before .why-not-mask .result) (c .before .why-not-mask .ensures) (c .if1 .taken), out-refused (c .before .before .before .before .before .before .args .self) (c .before .before .state-fits .result) (c .before .before .state-fits .ensures) (c .before .before .before .before .before .before .args .v .now) (c .before .before .before .before .before .before .args .out .now) (c .before .why-not-mask .result) (c .before .why-not-mask .ensures) (c .if1 .taken))
+returns c =
+    let at-why-not-mask = c .before in
+    let at-state-fits = at-why-not-mask .before in
+    let start = at-state-fits .before .before .before .before in
+    (mask-refused (start .args .self) (at-state-fits .state-fits .result) (at-state-fits .state-fits .ensures) (start .args .v .now) (start .args .out .now) (at-why-not-mask .why-not-mask .result) (at-why-not-mask .why-not-mask .ensures) (c .if1 .taken), out-refused (start .args .self) (at-state-fits .state-fits .result) (at-state-fits .state-fits .ensures) (start .args .v .now) (start .args .out .now) (at-why-not-mask .why-not-mask .result) (at-why-not-mask .why-not-mask .ensures) (c .if1 .taken))
 
 write-masked-requires : tie.Need-write-masked-requires
 write-masked-requires c κs = let f = mask-fits (c .before .before .before .before .before .before .before .before .args .self) (c .before .before .before .before .state-fits .result) (c .before .before .before .before .state-fits .ensures) (c .before .before .before .before .before .before .before .before .args .v .now) (c .before .before .before .before .before .before .before .before .args .out .now) (c .before .before .before .why-not-mask .result) (c .before .before .before .why-not-mask .ensures) (c .before .before .if1 .left) in (f .0, omega (arith, f .1), f .2)
@@ -26,7 +30,14 @@ same-length : tie.Need-same-length
 same-length c = search needs
 
 returns-2 : tie.Need-returns-2
-returns-2 c = (mask-taken (c .before .before .before .before .before .before .before .before .before .before .before .before .before .args .self) (c .before .before .before .before .before .before .before .before .before .state-fits .result) (c .before .before .before .before .before .before .before .before .before .state-fits .ensures) (c .before .before .before .before .before .before .before .before .before .before .before .before .before .args .v .now) (c .before .before .before .before .before .before .before .before .before .before .before .before .before .args .out .now) (c .before .before .before .before .before .before .before .before .why-not-mask .result) (c .before .before .before .before .before .before .before .before .why-not-mask .ensures) _ _ (c .before .before .before .before .before .before .before .if1 .left) (c .before .masked-array .ensures) (c .own .ensures), out-taken (c .before .before .before .before .before .before .before .before .before .before .before .before .before .args .self) (c .before .before .before .before .before .before .before .before .before .state-fits .result) (c .before .before .before .before .before .before .before .before .before .state-fits .ensures) (c .before .before .before .before .before .before .before .before .before .before .before .before .before .args .v .now) (c .before .before .before .before .before .before .before .before .before .before .before .before .before .args .out .now) (c .before .before .before .before .before .before .before .before .why-not-mask .result) (c .before .before .before .before .before .before .before .before .why-not-mask .ensures) _ (c .before .before .before .before .before .before .before .if1 .left) (c .before .before .before .before .write-masked .ensures))
+returns-2 c =
+    let at-masked-array = c .before in
+    let at-write-masked = at-masked-array .before .before .before in
+    let at-if1 = at-write-masked .before .before .before in
+    let at-why-not-mask = at-if1 .before in
+    let at-state-fits = at-why-not-mask .before in
+    let start = at-state-fits .before .before .before .before in
+    (mask-taken (start .args .self) (at-state-fits .state-fits .result) (at-state-fits .state-fits .ensures) (start .args .v .now) (start .args .out .now) (at-why-not-mask .why-not-mask .result) (at-why-not-mask .why-not-mask .ensures) _ _ (at-if1 .if1 .left) (at-masked-array .masked-array .ensures) (c .own .ensures), out-taken (start .args .self) (at-state-fits .state-fits .result) (at-state-fits .state-fits .ensures) (start .args .v .now) (start .args .out .now) (at-why-not-mask .why-not-mask .result) (at-why-not-mask .why-not-mask .ensures) _ (at-if1 .if1 .left) (at-write-masked .write-masked .ensures))
 
 pub mask-spec : {M : Type 1} → statement M
 mask-spec =

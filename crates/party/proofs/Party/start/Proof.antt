@@ -10,19 +10,36 @@ idle-requires : tie.Need-idle-requires
 idle-requires c κs = search needs
 
 returns : tie.Need-returns
-returns c = start-refused (c .before .before .before .before .before .args .name .now) (c .before .before .before .before .before .args .party) (c .before .before .before .before .before .args .key .now) (c .before .before .before .before .before .args .floor) (c .before .before .why-not-start .result) (c .before .before .why-not-start .ensures) _ (c .before .if1 .taken) (c .idle .ensures)
+returns c =
+    let at-if1 = c .before in
+    let at-why-not-start = at-if1 .before in
+    let start = at-why-not-start .before .before .before in
+    start-refused (start .args .name .now) (start .args .party) (start .args .key .now) (start .args .floor) (at-why-not-start .why-not-start .result) (at-why-not-start .why-not-start .ensures) _ (at-if1 .if1 .taken) (c .idle .ensures)
 
 padded-requires : tie.Need-padded-requires
-padded-requires c κs = start-fits (c .before .before .before .before .args .name .now) (c .before .before .before .before .args .party) (c .before .before .before .before .args .key .now) (c .before .before .before .before .args .floor) (c .before .why-not-start .result) (c .before .why-not-start .ensures) (c .if1 .left) .0
+padded-requires c κs =
+    let at-why-not-start = c .before in
+    let start = at-why-not-start .before .before .before in
+    start-fits (start .args .name .now) (start .args .party) (start .args .key .now) (start .args .floor) (at-why-not-start .why-not-start .result) (at-why-not-start .why-not-start .ensures) (c .if1 .left) .0
 
 bytes-32-requires : tie.Need-bytes-32-requires
-bytes-32-requires c κs = start-fits (c .before .before .before .before .before .args .name .now) (c .before .before .before .before .before .args .party) (c .before .before .before .before .before .args .key .now) (c .before .before .before .before .before .args .floor) (c .before .before .why-not-start .result) (c .before .before .why-not-start .ensures) (c .before .if1 .left) .1
+bytes-32-requires c κs =
+    let at-if1 = c .before in
+    let at-why-not-start = at-if1 .before in
+    let start = at-why-not-start .before .before .before in
+    start-fits (start .args .name .now) (start .args .party) (start .args .key .now) (start .args .floor) (at-why-not-start .why-not-start .result) (at-why-not-start .why-not-start .ensures) (at-if1 .if1 .left) .1
 
 idle-requires-2 : tie.Need-idle-requires-2
 idle-requires-2 c κs = search needs
 
 returns-2 : tie.Need-returns-2
-returns-2 c = started (c .before .before .before .before .before .before .before .args .name .now) (c .before .before .before .before .before .before .before .args .party) (c .before .before .before .before .before .before .before .args .key .now) (c .before .before .before .before .before .before .before .args .floor) (c .before .before .before .before .why-not-start .result) (c .before .before .before .before .why-not-start .ensures) _ _ _ (c .before .before .before .if1 .left) (c .before .before .padded .ensures) (c .before .bytes-32 .ensures) (c .idle2 .ensures)
+returns-2 c =
+    let at-bytes-32 = c .before in
+    let at-padded = at-bytes-32 .before in
+    let at-if1 = at-padded .before in
+    let at-why-not-start = at-if1 .before in
+    let start = at-why-not-start .before .before .before in
+    started (start .args .name .now) (start .args .party) (start .args .key .now) (start .args .floor) (at-why-not-start .why-not-start .result) (at-why-not-start .why-not-start .ensures) _ _ _ (at-if1 .if1 .left) (at-padded .padded .ensures) (at-bytes-32 .bytes-32 .ensures) (c .idle2 .ensures)
 
 pub start-spec : {M : Type 1} → statement M
 start-spec =

@@ -12,20 +12,41 @@ other-requires c κs = search needs
 expected-requires : tie.Need-expected-requires
 expected-requires c κs = search needs
 
-why-not-message-requires : tie.Need-why-not-message-requires
-why-not-message-requires c κs = search needs
+first-refusal-requires : tie.Need-first-refusal-requires
+first-refusal-requires c κs = search needs
 
 returns : tie.Need-returns
-returns c = take-refused (c .before .before .before .before .before .before .before .before .before .args .self) (c .before .before .before .before .before .state-fits .result) (c .before .before .before .before .before .state-fits .ensures) (c .before .before .before .before .before .before .before .before .before .args .label) (c .before .before .before .before .before .before .before .before .before .args .name .now) (c .before .before .before .before .before .before .before .before .before .args .v .now) (c .before .before .expected .result) (c .before .before .before .other .result) (c .before .before .before .other .ensures) (c .before .before .expected .ensures) (c .before .why-not-message .result) (c .before .why-not-message .ensures) (c .if1 .taken)
+returns c =
+    let at-first-refusal = c .before in
+    let at-expected = at-first-refusal .before .before .before in
+    let at-other = at-expected .before in
+    let at-state-fits = at-other .before .before in
+    let start = at-state-fits .before .before .before .before in
+    take-refused (start .args .self) (at-state-fits .state-fits .result) (at-state-fits .state-fits .ensures) (start .args .label) (start .args .name .now) (start .args .v .now) (at-expected .expected .result) (at-other .other .result) (at-other .other .ensures) (at-expected .expected .ensures) (at-first-refusal .first-refusal .result) (at-first-refusal .first-refusal .ensures) (c .if1 .taken)
 
 box-share-requires : tie.Need-box-share-requires
-box-share-requires c κs = take-fits (c .before .before .before .before .before .before .before .before .before .before .before .before .args .self) (c .before .before .before .before .before .before .before .before .state-fits .result) (c .before .before .before .before .before .before .before .before .state-fits .ensures) (c .before .before .before .before .before .before .before .before .before .before .before .before .args .label) (c .before .before .before .before .before .before .before .before .before .before .before .before .args .name .now) (c .before .before .before .before .before .before .before .before .before .before .before .before .args .v .now) (c .before .before .before .before .before .expected .result) (c .before .before .before .before .before .before .other .result) (c .before .before .before .before .before .before .other .ensures) (c .before .before .before .before .before .expected .ensures) (c .before .before .before .before .why-not-message .result) (c .before .before .before .before .why-not-message .ensures) (c .before .before .before .if1 .left)
+box-share-requires c κs =
+    let at-if1 = c .before .before .before in
+    let at-first-refusal = at-if1 .before in
+    let at-expected = at-first-refusal .before .before .before in
+    let at-other = at-expected .before in
+    let at-state-fits = at-other .before .before in
+    let start = at-state-fits .before .before .before .before in
+    take-fits (start .args .self) (at-state-fits .state-fits .result) (at-state-fits .state-fits .ensures) (start .args .label) (start .args .name .now) (start .args .v .now) (at-expected .expected .result) (at-other .other .result) (at-other .other .ensures) (at-expected .expected .ensures) (at-first-refusal .first-refusal .result) (at-first-refusal .first-refusal .ensures) (at-if1 .if1 .left)
 
 word-requires : tie.Need-word-requires
 word-requires c κs = search needs
 
 returns-2 : tie.Need-returns-2
-returns-2 c = take-taken (c .before .before .before .before .before .before .before .before .before .before .before .before .before .before .args .self) (c .before .before .before .before .before .before .before .before .before .before .state-fits .result) (c .before .before .before .before .before .before .before .before .before .before .state-fits .ensures) (c .before .before .before .before .before .before .before .before .before .before .before .before .before .before .args .label) (c .before .before .before .before .before .before .before .before .before .before .before .before .before .before .args .name .now) (c .before .before .before .before .before .before .before .before .before .before .before .before .before .before .args .v .now) (c .before .before .before .before .before .before .before .expected .result) (c .before .before .before .before .before .before .before .before .other .result) (c .before .before .before .before .before .before .before .before .other .ensures) (c .before .before .before .before .before .before .before .expected .ensures) (c .before .before .before .before .before .before .why-not-message .result) (c .before .before .before .before .before .before .why-not-message .ensures) _ _ (c .before .before .before .before .before .if1 .left) (c .before .box-share .ensures) (c .word .ensures)
+returns-2 c =
+    let at-box-share = c .before in
+    let at-if1 = at-box-share .before .before .before .before in
+    let at-first-refusal = at-if1 .before in
+    let at-expected = at-first-refusal .before .before .before in
+    let at-other = at-expected .before in
+    let at-state-fits = at-other .before .before in
+    let start = at-state-fits .before .before .before .before in
+    take-taken (start .args .self) (at-state-fits .state-fits .result) (at-state-fits .state-fits .ensures) (start .args .label) (start .args .name .now) (start .args .v .now) (at-expected .expected .result) (at-other .other .result) (at-other .other .ensures) (at-expected .expected .ensures) (at-first-refusal .first-refusal .result) (at-first-refusal .first-refusal .ensures) _ _ (at-if1 .if1 .left) (at-box-share .box-share .ensures) (c .word .ensures)
 
 pub take-spec : {M : Type 1} → statement M
 take-spec =
@@ -34,7 +55,7 @@ take-spec =
     state-fits-requires
     other-requires
     expected-requires
-    why-not-message-requires
+    first-refusal-requires
     returns
     box-share-requires
     word-requires

@@ -1,7 +1,7 @@
 use mathlib.Core.Path.{refl}
 use Rattle.messages.specs.Laws.{turned-down, goes-on}
-use Rattle.party.proofs.why_not_message.Statement.{statement}
-use Rattle.party.proofs.why_not_message.Tie as tie
+use Rattle.messages.proofs.first_refusal.Statement.{statement}
+use Rattle.messages.proofs.first_refusal.Tie as tie
 
 returns : tie.Need-returns
 returns c = turned-down _ _ _ (c .if1 .taken)
@@ -16,7 +16,7 @@ returns-4 : tie.Need-returns-4
 returns-4 c = goes-on _ _ _ (c .before .before .before .if1 .left) (goes-on _ _ _ (c .before .before .if2 .left) (goes-on _ _ _ (c .before .if3 .left) (turned-down _ _ _ (c .if4 .taken))))
 
 returns-5 : tie.Need-returns-5
-returns-5 c = goes-on _ _ _ (c .before .before .before .if1 .left) (goes-on _ _ _ (c .before .before .if2 .left) (goes-on _ _ _ (c .before .if3 .left) (goes-on _ _ _ (c .if4 .left) (refl))))
+returns-5 c = goes-on _ _ _ (c .before .before .before .if1 .left) (goes-on _ _ _ (c .before .before .if2 .left) (goes-on _ _ _ (c .before .if3 .left) (goes-on _ _ _ (c .if4 .left) refl)))
 
-pub why-not-message-spec : {M : Type 1} → statement M
-why-not-message-spec = tie.close (tie.spec returns returns-2 returns-3 returns-4 returns-5)
+pub first-refusal-spec : {M : Type 1} → statement M
+first-refusal-spec = tie.close (tie.spec returns returns-2 returns-3 returns-4 returns-5)

@@ -1,9 +1,9 @@
 // Writes what answers a line.
-use replay_lines::lines;
-use replay_lines::lines::Line;
-use replay_lines::memory;
-use replay_lines::memory::BYTES;
-use replay_lines::memory::OTHER;
+use crate::lines;
+use crate::lines::Line;
+use crate::memory;
+use crate::memory::BYTES;
+use crate::memory::OTHER;
 use script::ROOM;
 
 // Poly1305's key for a tag that stands for long bytes: the bytes 0 to 31.

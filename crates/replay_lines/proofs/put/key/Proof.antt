@@ -1,7 +1,7 @@
 use borrow.Author.Needs.{needs}
 use Prim.Native.Nat.{_-_}
-use Rattle.replay.proofs.put.key.Statement.{statement}
-use Rattle.replay.proofs.put.key.Tie as tie
+use Rattle.replay_lines.proofs.put.key.Statement.{statement}
+use Rattle.replay_lines.proofs.put.key.Tie as tie
 
 abbrev Inv-loop : tie.InvT-loop
 Inv-loop k₀ i₀ k i = Unit {0}

@@ -1,17 +1,17 @@
 // What earlier calls wrote or sent: the halves of the last four deals, masked vectors, words and
 // answers; and the loads of these halves.
 ghost use Prim.Native.Nat.{_<_};
-use replay_lines::lines;
-use replay_lines::lines::Line;
-use replay_lines::memory;
-use replay_lines::memory::ANSWERS;
-use replay_lines::memory::BYTES;
-use replay_lines::memory::HALVES;
-use replay_lines::memory::MASKED;
-use replay_lines::memory::NEWEST;
-use replay_lines::memory::NUMBERS;
-use replay_lines::memory::OTHER;
-use replay_lines::memory::WORDS;
+use crate::lines;
+use crate::lines::Line;
+use crate::memory;
+use crate::memory::ANSWERS;
+use crate::memory::BYTES;
+use crate::memory::HALVES;
+use crate::memory::MASKED;
+use crate::memory::NEWEST;
+use crate::memory::NUMBERS;
+use crate::memory::OTHER;
+use crate::memory::WORDS;
 
 // The slot of the half that the k-th deal before the newest wrote for a box.
 fn half_slot(newest: u64, k: u64, place: u64) -> usize
