@@ -5,15 +5,11 @@ mod run;
 use node::Correction;
 use node::Key;
 use script::ROOM;
-use script::Word;
+use script::word_at;
 
 // So that a mistake shows as a difference in the output.
 fn bad_line(out: &mut [u8; ROOM], at: usize) -> usize {
     script::put_text(out, at, b"bad line")
-}
-
-fn word(line: &[u8], place: usize) -> Word {
-    script::read_word(script::field(line, place))
 }
 
 // A key, with the two seeds that it was made from. `ok`: they and the point were read.
@@ -30,7 +26,7 @@ fn deal(line: &[u8], at0: usize, at1: usize, point_at: usize) -> Dealt {
     let mut b1 = [0u8; 32];
     let ok = script::fill(script::field(line, at0), &mut b0)
         & script::fill(script::field(line, at1), &mut b1);
-    let point = word(line, point_at);
+    let point = word_at(line, point_at);
     let seed0 = chacha20::key_words(&b0);
     let seed1 = chacha20::key_words(&b1);
     let key = keys::make(seed0, seed1, point.value);
@@ -74,8 +70,8 @@ fn make_key(line: &[u8], out: &mut [u8; ROOM], at: usize) -> usize {
 // value PARTY SEED0 SEED1 POINT U
 fn value(line: &[u8], out: &mut [u8; ROOM], at: usize) -> usize {
     let d = deal(line, 2, 3, 4);
-    let party = word(line, 1);
-    let u = word(line, 5);
+    let party = word_at(line, 1);
+    let u = word_at(line, 5);
     if !(d.ok & party.ok & u.ok & (party.value <= 1)) {
         return bad_line(out, at);
     }

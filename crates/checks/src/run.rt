@@ -5,8 +5,8 @@ ghost use lib.ListN.{length};
 use crate::Dealt;
 use crate::bad_line;
 use crate::deal;
-use crate::word;
 use script::ROOM;
+use script::word_at;
 
 const LENGTH: usize = 512;
 
@@ -41,11 +41,11 @@ struct Numbers {
 }
 
 fn read_numbers(line: &[u8]) -> Numbers {
-    let code = word(line, 1);
-    let t = word(line, 2);
-    let c0 = word(line, 6);
-    let r = word(line, 7);
-    let r0 = word(line, 8);
+    let code = word_at(line, 1);
+    let t = word_at(line, 2);
+    let c0 = word_at(line, 6);
+    let r = word_at(line, 7);
+    let r0 = word_at(line, 8);
     Numbers {
         ok: code.ok & t.ok & c0.ok & r.ok & r0.ok,
         code: code.value,

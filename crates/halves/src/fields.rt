@@ -51,7 +51,7 @@ pub fn command_of(line: &[u8]) -> Command {
 }
 
 pub fn word(line: &[u8], place: usize) -> u32 {
-    let w = script::read_word(script::field(line, place));
+    let w = script::word_at(line, place);
     if w.ok { w.value } else { 4294967295 }
 }
 

@@ -144,6 +144,11 @@ pub fn field(line: &[u8], n: usize) -> &[u8] {
     part(line, b' ', n)
 }
 
+// A field that is to be a word.
+pub fn word_at(line: &[u8], n: usize) -> Word {
+    read_word(field(line, n))
+}
+
 // Whether a line has the command's name, and as many fields in all.
 pub fn is_command(line: &[u8], name: &[u8], fields: usize) -> bool {
     if part_count(line, b' ') != fields {

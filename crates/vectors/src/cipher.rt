@@ -2,18 +2,18 @@
 use crate::bad_line;
 use crate::no_message;
 use crate::read_keys;
-use crate::word;
 use script::ROOM;
+use script::word_at;
 
 // The longest key stream, in words.
 const STREAM: usize = 600;
 
 // quarter A B C D
 pub fn quarter(line: &[u8], out: &mut [u8; ROOM], at: usize) -> usize {
-    let a = word(line, 1);
-    let b = word(line, 2);
-    let c = word(line, 3);
-    let d = word(line, 4);
+    let a = word_at(line, 1);
+    let b = word_at(line, 2);
+    let c = word_at(line, 3);
+    let d = word_at(line, 4);
     if !(a.ok & b.ok & c.ok & d.ok) {
         return bad_line(out, at);
     }
@@ -48,7 +48,7 @@ pub fn block(line: &[u8], out: &mut [u8; ROOM], at: usize) -> usize {
     let mut key = [0u8; 32];
     let mut nonce = [0u8; 12];
     let ok = read_keys(line, 1, 3, &mut key, &mut nonce);
-    let counter = word(line, 2);
+    let counter = word_at(line, 2);
     if !(ok & counter.ok) {
         return bad_line(out, at);
     }
@@ -85,7 +85,7 @@ pub fn stream(line: &[u8], out: &mut [u8; ROOM], at: usize) -> usize {
     let mut nonce = [0u8; 12];
     let mut w = no_stream();
     let ok = read_keys(line, 1, 2, &mut key, &mut nonce);
-    let n = word(line, 3);
+    let n = word_at(line, 3);
     if !(ok & n.ok & (n.value <= 600)) {
         return bad_line(out, at);
     }
@@ -121,7 +121,7 @@ pub fn xor(line: &[u8], out: &mut [u8; ROOM], at: usize) -> usize {
     let mut nonce = [0u8; 12];
     let mut text = no_message();
     let ok = read_keys(line, 1, 3, &mut key, &mut nonce);
-    let counter = word(line, 2);
+    let counter = word_at(line, 2);
     let t = script::read_bytes(script::field(line, 4), &mut text);
     if !(ok & counter.ok & t.ok) {
         return bad_line(out, at);

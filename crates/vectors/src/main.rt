@@ -4,7 +4,6 @@ mod cipher;
 mod sealing;
 
 use script::ROOM;
-use script::Word;
 
 // The longest message in bytes.
 pub const MESSAGE: usize = 4096;
@@ -12,10 +11,6 @@ pub const MESSAGE: usize = 4096;
 // Room for a message, from a function as `script::no_text`.
 fn no_message() -> [u8; MESSAGE] {
     [0; MESSAGE]
-}
-
-fn word(line: &[u8], place: usize) -> Word {
-    script::read_word(script::field(line, place))
 }
 
 // Whether a line has a key and a nonce at two of its fields; they are then read.
