@@ -3,8 +3,8 @@
 ghost use mathlib.Core.Path.{_≡_};
 ghost use mathlib.Core.List.{_++_};
 ghost use lib.ListN.{length};
-ghost use Rattle.poly1305.specs.Poly1305.{bytes};
-ghost use Rattle.aead.specs.Aead.{polyKey, tagFor, sealed, sealedText, opens, openedText};
+ghost use Rattle.poly1305.specs.Poly1305.{bytes, mac};
+ghost use Rattle.aead.specs.Aead.{polyKey, macData, sealed, sealedText, opens, openedText};
 
 // RFC 8439's P_MAX: what the block counter of 32 bits has room for, after block 0.
 const LIMIT: usize = 274877906880;
@@ -41,23 +41,29 @@ fn lengths(a: usize, b: usize) -> [u8; 16]
     out
 }
 
-// The tag of additional data and a ciphertext.
-fn tag_for(key: &[u8; 32], nonce: &[u8; 12], aad: &[u8], text: &[u8]) -> [u8; 16]
-    ensures { λ r. ⌜ r ≡ tagFor (now (key .entry)) (now (nonce .entry)) (now (aad .entry)) (now (text .entry)) ⌝ }
+// The tag of additional data and a ciphertext, under a one-time key.
+fn tag_by(once: &[u8; 32], aad: &[u8], text: &[u8]) -> [u8; 16]
+    ensures { λ r. ⌜ r ≡ mac (now (once .entry)) (macData (now (aad .entry)) (now (text .entry))) ⌝ }
 {
-    let one_time = poly_key(key, nonce);
-    let halves = poly1305::key(&one_time);
+    let halves = poly1305::key(once);
     let r = halves.r;
     let s = halves.s;
     let a = poly1305::absorb_padded([0; 5], r, aad);
-    let b = poly1305::absorb_padded(a, r, text);
+    let b = poly4::absorb_padded(a, r, text);
     let both = lengths(aad.len(), text.len());
     let c = poly1305::absorb_padded(b, r, &both);
     poly1305::tag(c, s)
 }
 
-// The text becomes its ciphertext. One that is too long stays as it is.
-pub fn seal(key: &[u8; 32], nonce: &[u8; 12], aad: &[u8], text: &mut [u8]) -> Sealed
+// `seal` where the one-time key is at hand.
+pub fn seal_by(
+    key: &[u8; 32],
+    once: &[u8; 32],
+    nonce: &[u8; 12],
+    aad: &[u8],
+    text: &mut [u8],
+) -> Sealed
+    requires { ⌜ now once ≡ polyKey (now key) (now nonce) ⌝ }
     ensures { λ r. ⌜ r ≡ sealed (now (key .entry)) (now (nonce .entry)) (now (aad .entry)) (now (text .entry)) ⌝ }
     ensures { λ _. ⌜ now (text .exit) ≡ sealedText (now (key .entry)) (now (nonce .entry)) (now (text .entry)) ⌝ }
 {
@@ -73,19 +79,27 @@ pub fn seal(key: &[u8; 32], nonce: &[u8; 12], aad: &[u8], text: &mut [u8]) -> Se
         chacha20::nonce_words(nonce),
         text,
     );
-    let tag = tag_for(key, nonce, aad, text);
+    let tag = tag_by(once, aad, text);
     Sealed { ok: true, tag }
 }
 
-// Whether the tag fits; and only where it does the text becomes the plain one.
-pub fn open(key: &[u8; 32], nonce: &[u8; 12], aad: &[u8], text: &mut [u8], tag: &[u8; 16]) -> bool
+// `open` where the one-time key is at hand.
+pub fn open_by(
+    key: &[u8; 32],
+    once: &[u8; 32],
+    nonce: &[u8; 12],
+    aad: &[u8],
+    text: &mut [u8],
+    tag: &[u8; 16],
+) -> bool
+    requires { ⌜ now once ≡ polyKey (now key) (now nonce) ⌝ }
     ensures { λ r. ⌜ r ≡ opens (now (key .entry)) (now (nonce .entry)) (now (aad .entry)) (now (text .entry)) (now (tag .entry)) ⌝ }
     ensures { λ _. ⌜ now (text .exit) ≡ openedText (now (key .entry)) (now (nonce .entry)) (now (aad .entry)) (now (text .entry)) (now (tag .entry)) ⌝ }
 {
     if LIMIT < text.len() {
         return false;
     }
-    let expected = tag_for(key, nonce, aad, text);
+    let expected = tag_by(once, aad, text);
     if slices::equal(&expected, tag) {
         keystream::xor(
             chacha20::key_words(key),
@@ -97,4 +111,22 @@ pub fn open(key: &[u8; 32], nonce: &[u8; 12], aad: &[u8], text: &mut [u8], tag: 
     } else {
         false
     }
+}
+
+// The text becomes its ciphertext. One that is too long stays as it is.
+pub fn seal(key: &[u8; 32], nonce: &[u8; 12], aad: &[u8], text: &mut [u8]) -> Sealed
+    ensures { λ r. ⌜ r ≡ sealed (now (key .entry)) (now (nonce .entry)) (now (aad .entry)) (now (text .entry)) ⌝ }
+    ensures { λ _. ⌜ now (text .exit) ≡ sealedText (now (key .entry)) (now (nonce .entry)) (now (text .entry)) ⌝ }
+{
+    let once = poly_key(key, nonce);
+    seal_by(key, &once, nonce, aad, text)
+}
+
+// Whether the tag fits; and only where it does the text becomes the plain one.
+pub fn open(key: &[u8; 32], nonce: &[u8; 12], aad: &[u8], text: &mut [u8], tag: &[u8; 16]) -> bool
+    ensures { λ r. ⌜ r ≡ opens (now (key .entry)) (now (nonce .entry)) (now (aad .entry)) (now (text .entry)) (now (tag .entry)) ⌝ }
+    ensures { λ _. ⌜ now (text .exit) ≡ openedText (now (key .entry)) (now (nonce .entry)) (now (aad .entry)) (now (text .entry)) (now (tag .entry)) ⌝ }
+{
+    let once = poly_key(key, nonce);
+    open_by(key, &once, nonce, aad, text, tag)
 }

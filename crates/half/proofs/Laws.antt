@@ -7,8 +7,8 @@ use native.Mathlib.Numerals.{add-one}
 use borrow.Author.Tests.{le-leb}
 use borrow.Rule.Slice.PartMut.{putMid}
 use lib.ListN.{length, take-append-drop, take, drop, replicate, length-append, length-drop, drop-of-length-le}
-use lib.Seq.{length-take-le, take-at, drop-at, drop-append-add}
-use Rattle.words.specs.List.{over, over-eq, over-all, over-next}
+use lib.Seq.{length-take-le, take-at, drop-at}
+use Rattle.words.specs.List.{over, over-all, over-after, over-next}
 use Rattle.words.specs.Bytes.{le32, bytesOf}
 use Rattle.poly1305.specs.Numbers.{eight, four}
 use Rattle.aead.specs.declared.Sealed.{Sealed}
@@ -28,13 +28,6 @@ header-law a i out t size e =
     e ∙ over-all (bytesOf (a % 2 ^ 32 ∷ a / 2 ^ 32 ∷ i ∷ [])) out (sym size) ∙ ap₂ (λ (x y : List ℕ). x ++ y) (eight a) (four i)
 
 -- ---- a block
-
--- written over what follows a front
-over-after : (a p s : List ℕ) (n : ℕ) → length a ≡ n → length p ≤ length s → over n p (a ++ s) ≡ a ++ (p ++ drop (length p) s)
-over-after a p s n e h =
-    over-eq p (a ++ s) n (omega (arith, length-append a s))
-    ∙ ap₂ (λ (x y : List ℕ). x ++ p ++ y) (take-at a s n e) (ap (λ (k : ℕ). drop (k + length p) (a ++ s)) (sym e) ∙ drop-append-add a s (length p))
-    ∙ append-assoc a p (drop (length p) s)
 
 module _ (key h text out0 : List ℕ) (lh : length h ≡ 12) (lt : length text ≡ 484) (lo : length out0 ≡ 512) where
   abbrev rest : List ℕ

@@ -3,8 +3,10 @@ ghost use mathlib.Core.Path.{_≡_};
 ghost use Prim.Native.Nat.{_*_, _≤_, _<_};
 ghost use lib.ListN.{length};
 ghost use Rattle.words.specs.List.{over};
+ghost use Rattle.aead.specs.Aead.{polyKey};
 ghost use Rattle.content.specs.Content.{blocks, Proper};
 ghost use Rattle.half.specs.Half.{header as headerOf, block, firstBlocks, half};
+ghost use Rattle.half.specs.OneTime.{KeysFor};
 use content::Set;
 
 // A block's first twelve bytes: the set's number and the block's index.
@@ -21,16 +23,30 @@ fn header(number: u64, i: u32) -> [u8; 12]
     out
 }
 
-// Block i: 484 bytes of text, sealed.
-fn write_block(key: &[u8; 32], number: u64, i: u32, text: &[u8], out: &mut [u8])
+// The one-time keys of a set's first `count` blocks, for sealing and for opening them.
+pub fn one_time_keys(key: &[u8; 32], number: u64, count: usize) -> [u8; 512]
+    requires { ⌜ count ≤ 16 ⌝ }
+    ensures { λ r. ⌜ KeysFor (now (key .entry)) number count r ⌝ }
+{
+    one_time::keys_to(
+        key,
+        (number % 4294967296) as u32,
+        (number / 4294967296) as u32,
+        count,
+    )
+}
+
+// Block i: 484 bytes of text, sealed. Its one-time key is at hand.
+fn write_block(key: &[u8; 32], once: &[u8; 32], number: u64, i: u32, text: &[u8], out: &mut [u8])
     requires { ⌜ (length (now text) ≡ 484) × (length (now out) ≡ 512) ⌝ }
+    requires { ⌜ now once ≡ polyKey (now key) (headerOf number i) ⌝ }
     ensures { λ _. ⌜ now (out .exit) ≡ block (now (key .entry)) number i (now (text .entry)) ⌝ }
 {
     let h = header(number, i);
     slices::copy(out, 0, &h);
     slices::copy(out, 12, text);
     let aad = h;
-    let sealed = aead::seal(key, &h, &aad, &mut out[12..496]);
+    let sealed = aead::seal_by(key, once, &h, &aad, &mut out[12..496]);
     let tag = sealed.tag;
     slices::copy(out, 496, &tag);
 }
@@ -40,10 +56,13 @@ pub fn write_blocks(key: &[u8; 32], number: u64, count: usize, p: &[u8], out: &m
     requires { ⌜ (count ≤ 16) × (484 * count ≤ length (now p)) × (512 * count ≤ length (now out)) ⌝ }
     ensures { λ _. ⌜ now (out .exit) ≡ over 0 (firstBlocks (now (key .entry)) number (now (p .entry)) count) (now (out .entry)) ⌝ }
 {
+    let keys = one_time_keys(key, number, count);
     let mut i: usize = 0;
     while i < count {
+        let once = one_time::key_at(&keys, i);
         write_block(
             key,
+            &once,
             number,
             i as u32,
             &p[484 * i..484 * i + 484],

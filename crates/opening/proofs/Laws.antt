@@ -1,28 +1,59 @@
 -- What the code that opens blocks comes to, over lists. Assumes nothing.
 use mathlib.Core.Path.{_≡_, refl, sym, ap, ap₂, _∙_}
-use mathlib.Core.Bool.{Bool, true, _&&_}
-use mathlib.Core.List.{List}
-use Prim.Native.Nat.{ℕ, zero, suc, _+_, _*_, _-_, _^_, _≤_}
+use mathlib.Core.Bool.{Bool, true, false, not, _&&_, and-assoc}
+use mathlib.Core.List.{List, [], _∷_}
+use Prim.Native.Nat.{ℕ, zero, suc, _+_, _*_, _-_, _/_, _%_, _^_, _<_, _≤_}
 use native.Mathlib.Omega.{arith}
 use native.Mathlib.Numerals.{add-one}
+use borrow.Author.Tests.{eqb-true, not-true, not-false}
 use borrow.Rule.Slice.PartMut.{putMid}
 use lib.Dec.{eqb}
 use lib.ListN.{length, take, drop, replicate, length-append, length-drop}
 use lib.Seq.{length-take-le}
-use Rattle.words.specs.List.{over, over-all, over-next}
-use Rattle.words.specs.Bytes.{wordAt}
+use Rattle.words.specs.List.{over, over-all, over-next, tab}
+use Rattle.words.specs.Bytes.{wordAt, wordsAt}
+use Rattle.poly1305.specs.Poly1305.{number}
 use Rattle.poly1305.specs.Numbers.{number-word, number-words}
 use Rattle.aead.specs.Aead.{cipher, opens, openedText as openedTextOf}
 use Rattle.aead.specs.Claims.{length-cipher}
 use Rattle.measure.specs.Order.{both}
 use Rattle.content.specs.Content.{part, size}
-use Rattle.content.specs.Pieces.{part-is, length-part}
-use Rattle.half.specs.Half.{setNumber, blockFits, firstFit, blockAt, openedText}
+use Rattle.content.specs.Pieces.{part-is, length-part, wordAt-part}
+use Rattle.one_time.proofs.Laws.{nonce-words}
+use Rattle.half.specs.OneTime.{header-words}
+use Rattle.half.specs.Half.{header, setNumber, blockFits, firstFit, blockAt, openedText}
 use Rattle.half.specs.Laws.{put-over}
 
 pub load-law : (b : List ℕ) (x y : ℕ) → 8 ≤ length b → x ≡ wordAt b 0 → y ≡ wordAt b 4 → x + y * 2 ^ 32 ≡ setNumber b
 unfolding setNumber part
 load-law b x y h e f = (λ i. e i + f i * 2 ^ 32) ∙ sym (number-words b 0 h)
+
+-- ---- a block's header: x, y and z are its three words
+
+module _ (b : List ℕ) (x y z set i : ℕ) (long : 12 ≤ length b) (ex : x ≡ wordAt b 0) (ey : y ≡ wordAt b 4) (ez : z ≡ wordAt b 8) where
+  pub headed : (s : ℕ) → s ≡ x + y * 2 ^ 32 → eqb z i && eqb s set ≡ eqb (wordAt b 8) i && eqb (setNumber b) set
+  headed s e = rw (ez, e ∙ load-law b x y (omega arith) ex ey) refl
+
+  header-is : z ≡ i → x + y * 2 ^ 32 ≡ set → x < 2 ^ 32 → y < 2 ^ 32 → z < 2 ^ 32 → wordsAt 3 (part 0 12 b) ≡ wordsAt 3 (header set i)
+  unfolding wordsAt tab
+  header-is ei es hx hy hz =
+      let low : set % 2 ^ 32 ≡ x = omega arith in
+      let high : set / 2 ^ 32 ≡ y = omega arith in
+      let made : wordsAt 3 (header set i) ≡ x ∷ y ∷ z ∷ [] =
+      ap (wordsAt 3) (sym (header-words set i)) ∙ nonce-words (set % 2 ^ 32) (set / 2 ^ 32) i (omega arith) (omega arith) (omega arith) ∙ (λ j. low j ∷ high j ∷ sym ei j ∷ []) in
+      let read0 = wordAt-part 0 12 b 0 (omega arith) ∙ sym ex in
+      let read1 = wordAt-part 0 12 b 4 (omega arith) ∙ sym ey in
+      let read2 = wordAt-part 0 12 b 8 (omega arith) ∙ sym ez in
+      (λ j. read0 j ∷ read1 j ∷ read2 j ∷ []) ∙ sym made
+
+  pub headed-words : (s : ℕ) → s ≡ x + y * 2 ^ 32 → x < 2 ^ 32 → y < 2 ^ 32 → z < 2 ^ 32 → eqb z i && eqb s set ≡ true → wordsAt 3 (part 0 12 b) ≡ wordsAt 3 (header set i)
+  headed-words s e hx hy hz ok =
+      let parts = both (eqb z i) (eqb s set) ok in
+      header-is (eqb-true z i (parts .0)) (sym e ∙ eqb-true s set (parts .1)) hx hy hz
+
+pub nonce-part : (b n : List ℕ) → length b ≡ 512 → n ≡ over 0 (take 12 (drop 0 b)) (replicate 12 0) → n ≡ part 0 12 b
+unfolding part
+nonce-part b n lb e = e ∙ over-all (take 12 b) (replicate 12 0) (length-take-le 12 b (omega arith))
 
 -- a block's text: n, t and o are the copies of its nonce, its tag and its sealed bytes, and z is what the opening leaves of o
 module _ (key b out0 n t o : List ℕ) (r : Bool) (lb : length b ≡ 512) (lo : length out0 ≡ 484)
@@ -30,8 +61,7 @@ module _ (key b out0 n t o : List ℕ) (r : Bool) (lb : length b ≡ 512) (lo : 
     (er : r ≡ opens key n n o t)
   where
     nonce-is : n ≡ part 0 12 b
-    unfolding part
-    nonce-is = en ∙ over-all (take 12 b) (replicate 12 0) (length-take-le 12 b (omega arith))
+    nonce-is = nonce-part b n lb en
 
     tag-part : t ≡ part 496 16 b
     unfolding part
@@ -49,13 +79,20 @@ module _ (key b out0 n t o : List ℕ) (r : Bool) (lb : length b ≡ 512) (lo : 
     opened-text z ez ok = ez ∙ rw (sym er ∙ ok) (ap₂ (cipher key) nonce-is text-part)
 
 -- a block: its index and number beside that
-module _ (key b : List ℕ) (set i x s : ℕ) (r : Bool) where
-  pub block-fits : length b ≡ 512 → r ≡ opens key (part 0 12 b) (part 0 12 b) (part 12 484 b) (part 496 16 b) → x ≡ wordAt b 8 → s ≡ setNumber b → eqb x i && (eqb s set && r) ≡ blockFits key set i b
-  unfolding blockFits setNumber part
-  block-fits lb er ex es = rw (ex, es, er, number-word b 8 (omega arith)) refl
+module _ (key b : List ℕ) (set i : ℕ) (lb : length b ≡ 512) where
+  abbrev opened : Bool
+  opened = opens key (part 0 12 b) (part 0 12 b) (part 12 484 b) (part 496 16 b)
 
-  pub block-text : (z : List ℕ) → (r ≡ true → z ≡ cipher key (part 0 12 b) (part 12 484 b)) → eqb x i && (eqb s set && r) ≡ true → z ≡ cipher key (part 0 12 b) (part 12 484 b)
-  block-text z f ok = f (both (eqb s set) r (both (eqb x i) _ ok .1) .1)
+  tests : (eqb (wordAt b 8) i && eqb (setNumber b) set) && opened ≡ blockFits key set i b
+  unfolding blockFits setNumber part
+  tests = rw (number-word b 8 (omega arith)) (and-assoc (eqb (wordAt b 8) i) (eqb (number (take 8 b)) set) opened)
+
+  module _ (headed : Bool) (eh : headed ≡ eqb (wordAt b 8) i && eqb (setNumber b) set) where
+    pub not-headed : not headed ≡ true → false ≡ blockFits key set i b
+    not-headed e = ap (λ (h : Bool). h && opened) (sym (not-true headed e) ∙ eh) ∙ tests
+
+    pub block-fits : (r : Bool) → not headed ≡ false → r ≡ opened → r ≡ blockFits key set i b
+    block-fits r e er = er ∙ ap (λ (h : Bool). h && opened) (sym (not-false headed e) ∙ eh) ∙ tests
 
 length-opened : (key h : List ℕ) (i : ℕ) → 512 * i ≤ length h → length (openedText key h i) ≡ 484 * i
 unfolding openedText blockAt

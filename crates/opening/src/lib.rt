@@ -2,26 +2,48 @@
 // down").
 ghost use mathlib.Core.Path.{_≡_};
 ghost use mathlib.Core.Bool.{true, _&&_};
-ghost use Prim.Native.Nat.{_*_, _/_, _%_, _≤_};
+ghost use Prim.Native.Nat.{_+_, _*_, _/_, _%_, _^_, _≤_};
 ghost use lib.Dec.{eqb, leb};
 ghost use lib.ListN.{length};
-ghost use Rattle.aead.specs.Aead.{cipher, opens};
+ghost use Rattle.words.specs.Bytes.{wordAt, wordsAt};
+ghost use Rattle.aead.specs.Aead.{polyKey, cipher, opens};
 ghost use Rattle.content.specs.Content.{part};
-ghost use Rattle.half.specs.Half.{blockFits, firstFit, openedText, setNumber, whyNotOpened};
+ghost use Rattle.half.specs.Half.{header, blockFits, firstFit, openedText, setNumber, whyNotOpened};
 ghost use Rattle.opening.specs.Examined.{refused as refusedFor, answerFor, examined};
 use content::Set;
+
+fn joined(low: u32, high: u32) -> u64
+    ensures { λ r. ⌜ r ≡ low + high * 2 ^ 32 ⌝ }
+{
+    low as u64 + high as u64 * 4294967296
+}
 
 // The set number in a block's first eight bytes.
 fn load_number(b: &[u8]) -> u64
     requires { ⌜ 8 ≤ length (now b) ⌝ }
     ensures { λ r. ⌜ r ≡ setNumber (now (b .entry)) ⌝ }
 {
-    slices::load(b, 0) as u64 + slices::load(b, 4) as u64 * 4294967296
+    joined(slices::load(b, 0), slices::load(b, 4))
 }
 
-// Whether the tag of block b fits; where it does, its text is opened into out.
-fn open_text(key: &[u8; 32], b: &[u8], out: &mut [u8]) -> bool
+// Whether a block's number and index are these. Its nonce is then the one that its one-time key was
+// made for.
+fn is_headed(b: &[u8], number: u64, i: u32) -> bool
+    requires { ⌜ 12 ≤ length (now b) ⌝ }
+    ensures { λ r. ⌜ r ≡ eqb (wordAt (now (b .entry)) 8) i && eqb (setNumber (now (b .entry))) number ⌝ }
+    ensures { λ r. ⌜ (r ≡ true → wordsAt 3 (part 0 12 (now (b .entry))) ≡ wordsAt 3 (header number i)) ⌝ }
+{
+    let low = slices::load(b, 0);
+    let high = slices::load(b, 4);
+    let index = slices::load(b, 8);
+    (index == i) & (joined(low, high) == number)
+}
+
+// Whether the tag of block b fits; where it does, its text is opened into out. Its one-time key is at
+// hand.
+fn open_text(key: &[u8; 32], once: &[u8; 32], b: &[u8], out: &mut [u8]) -> bool
     requires { ⌜ (length (now b) ≡ 512) × (length (now out) ≡ 484) ⌝ }
+    requires { ⌜ now once ≡ polyKey (now key) (part 0 12 (now b)) ⌝ }
     ensures { λ r. ⌜ r ≡ opens (now (key .entry)) (part 0 12 (now (b .entry))) (part 0 12 (now (b .entry))) (part 12 484 (now (b .entry))) (part 496 16 (now (b .entry))) ⌝ }
     ensures { λ r. ⌜ (r ≡ true → now (out .exit) ≡ cipher (now (key .entry)) (part 0 12 (now (b .entry))) (part 12 484 (now (b .entry)))) ⌝ }
 {
@@ -31,19 +53,28 @@ fn open_text(key: &[u8; 32], b: &[u8], out: &mut [u8]) -> bool
     let mut tag = [0u8; 16];
     slices::copy(&mut tag, 0, &b[496..512]);
     slices::copy(out, 0, &b[12..496]);
-    aead::open(key, &nonce, &aad, out, &tag)
+    aead::open_by(key, once, &nonce, &aad, out, &tag)
 }
 
-// Whether b is block i of the set; where it is, its text is opened into out.
-fn open_block(key: &[u8; 32], number: u64, i: u32, b: &[u8], out: &mut [u8]) -> bool
+// Whether b is block i of the set; where it is, its text is opened into out. `once` is that block's
+// one-time key.
+fn open_block(
+    key: &[u8; 32],
+    once: &[u8; 32],
+    number: u64,
+    i: u32,
+    b: &[u8],
+    out: &mut [u8],
+) -> bool
     requires { ⌜ (length (now b) ≡ 512) × (length (now out) ≡ 484) ⌝ }
+    requires { ⌜ now once ≡ polyKey (now key) (header number i) ⌝ }
     ensures { λ r. ⌜ r ≡ blockFits (now (key .entry)) number i (now (b .entry)) ⌝ }
     ensures { λ r. ⌜ (r ≡ true → now (out .exit) ≡ cipher (now (key .entry)) (part 0 12 (now (b .entry))) (part 12 484 (now (b .entry)))) ⌝ }
 {
-    let opens = open_text(key, b, out);
-    let index = slices::load(b, 8);
-    let set = load_number(b);
-    (index == i) & ((set == number) & opens)
+    if !is_headed(b, number, i) {
+        return false;
+    }
+    open_text(key, once, b, out)
 }
 
 // Whether the first `count` blocks of h are those of the set; where they are, their text is opened
@@ -53,11 +84,14 @@ fn open_blocks(key: &[u8; 32], number: u64, count: usize, h: &[u8], out: &mut [u
     ensures { λ r. ⌜ r ≡ firstFit (now (key .entry)) (now (h .entry)) count ⌝ }
     ensures { λ r. ⌜ (r ≡ true → now (out .exit) ≡ openedText (now (key .entry)) (now (h .entry)) count) ⌝ }
 {
+    let keys = half::one_time_keys(key, number, count);
     let mut fit = true;
     let mut i: usize = 0;
     while i < count {
+        let once = one_time::key_at(&keys, i);
         let this = open_block(
             key,
+            &once,
             number,
             i as u32,
             &h[512 * i..512 * i + 512],

@@ -9,7 +9,7 @@ ghost use Rattle.lanes.specs.Lanes.{rows};
 
 // A double round on each of the four states. LLVM vectorises this loop.
 fn double_rounds(x: &mut [u32; 64])
-    ensures { λ _. ⌜ rows (now (x .exit)) ≡ map doubleRound (rows (now (x .entry))) ⌝ }
+    ensures { λ _. ⌜ rows 4 (now (x .exit)) ≡ map doubleRound (rows 4 (now (x .entry))) ⌝ }
 {
     let mut l: usize = 0;
     while l < 4 {
@@ -32,12 +32,12 @@ fn add_words(x: &mut [u32], y: &[u32; 64])
 
 // Four starting states, of any keys, counters and nonces, become their blocks.
 pub fn four_blocks(x: &mut [u32; 64])
-    ensures { λ _. ⌜ rows (now (x .exit)) ≡ map blockFrom (rows (now (x .entry))) ⌝ }
+    ensures { λ _. ⌜ rows 4 (now (x .exit)) ≡ map blockFrom (rows 4 (now (x .entry))) ⌝ }
 {
-    let y = *x;
+    let mut y = *x;
     let mut i: u32 = 0;
     while i < 10 {
-        double_rounds(x);
+        double_rounds(&mut y);
         i += 1;
     }
     add_words(x, &y);

@@ -9,7 +9,7 @@ use native.Mathlib.Omega.{arith}
 use borrow.Author.Tests.{ltb-true, ltb-false}
 use lib.Dec.{T, eqb, ltb, eqb→eq, eqb-refl}
 use lib.ListN.{length, take, drop, set, getD, length-append, length-drop, length-set, List·getD-append, drop-of-length-le, replicate, length-replicate, replicate-append-replicate}
-use lib.Seq.{ext-getD, getD-drop, take-at, drop-at, getD-at, drop-drop, getD-set-other, take-all, take-suc, length-take-le, drop-cons, set-at, append-snoc, sets, sets-eq, getD-append-add}
+use lib.Seq.{ext-getD, getD-drop, take-at, drop-at, getD-at, drop-drop, getD-set-other, take-all, take-suc, length-take-le, drop-cons, set-at, append-snoc, sets, sets-eq, getD-append-add, drop-append-add}
 
 -- s with p written over it from index i on
 unfoldable pub over : ℕ → List ℕ → List ℕ → List ℕ
@@ -55,6 +55,13 @@ over-sets (v ∷ p) s i = ap (λ (k : ℕ). over k p (set s i v)) (add-one i) �
 -- where it fits, it stands between what was before it and what comes after
 pub over-eq : (p s : List ℕ) (i : ℕ) → i + length p ≤ length s → over i p s ≡ take i s ++ p ++ drop (i + length p) s
 over-eq p s i h = over-sets p s i ∙ sets-eq p s i h
+
+-- written over what follows a front
+pub over-after : (a p s : List ℕ) (n : ℕ) → length a ≡ n → length p ≤ length s → over n p (a ++ s) ≡ a ++ (p ++ drop (length p) s)
+over-after a p s n e h =
+    over-eq p (a ++ s) n (omega (arith, length-append a s))
+    ∙ ap₂ (λ (x y : List ℕ). x ++ p ++ y) (take-at a s n e) (ap (λ (k : ℕ). drop (k + length p) (a ++ s)) (sym e) ∙ drop-append-add a s (length p))
+    ∙ append-assoc a p (drop (length p) s)
 
 -- one element more of what is copied
 pub over-store : (src s t : List ℕ) (at i : ℕ) → i < length src → t ≡ over at (take i src) s

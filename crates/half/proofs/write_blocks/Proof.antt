@@ -10,14 +10,23 @@ use Rattle.half.proofs.write_blocks.Statement.{statement}
 use Rattle.half.proofs.write_blocks.Tie as tie
 
 abbrev Inv-loop : tie.InvT-loop
-Inv-loop key number count p out₀ i₀ out i = (i ≤ count) × (length out ≡ length out₀) × (out ≡ over 0 (firstBlocks key number p i) out₀)
+Inv-loop key number count p out₀ keys i₀ out i = (i ≤ count) × (length out ≡ length out₀) × (out ≡ over 0 (firstBlocks key number p i) out₀)
 
 abbrev μ-loop : tie.MeasureT-loop
-μ-loop key number count p out₀ i₀ out i = count - i
+μ-loop key number count p out₀ keys i₀ out i = count - i
+
+one-time-keys-requires : tie.Need-one-time-keys-requires Inv-loop μ-loop
+one-time-keys-requires c κs = search needs
 
 loop-holds : tie.Need-loop-holds Inv-loop μ-loop
 unfolding over firstBlocks
 loop-holds c = (search needs, refl, refl)
+
+slice-aggregate-key-at : tie.Need-slice-aggregate-key-at Inv-loop μ-loop
+slice-aggregate-key-at c = search needs
+
+key-at-requires : tie.Need-key-at-requires Inv-loop μ-loop
+key-at-requires c κs = search needs
 
 cast-write-block : tie.Need-cast-write-block Inv-loop μ-loop
 cast-write-block c = search needs
@@ -59,7 +68,10 @@ part-write-block-end-2 : tie.Need-part-write-block-end-2 Inv-loop μ-loop
 part-write-block-end-2 c = search needs
 
 write-block-requires : tie.Need-write-block-requires Inv-loop μ-loop
-write-block-requires c κs = search needs
+write-block-requires c κs =
+    let at-key = c .before .before .before in
+    let at-loop = at-key .before .before .before in
+    (search needs, at-key .key-at .ensures ∙ at-loop .before .one-time-keys .ensures (at-loop .loop .i) (omega arith))
 
 add-i : tie.Need-add-i Inv-loop μ-loop
 add-i c = search needs
@@ -69,14 +81,22 @@ loop-less c = search needs
 
 loop-again : tie.Need-loop-again Inv-loop μ-loop
 loop-again c =
-    let next = blocks-more (c .before .before .before .before .before .before .before .before .before .args .key .now) (c .before .before .before .before .before .before .before .before .before .args .p .now) (c .before .before .before .before .before .before .before .before .before .args .out .now) (c .before .before .before .before .before .before .loop .out) (c .before .before .write-block .last .1 .1 .1 .1 .0) (c .before .before .before .before .before .before .before .before .before .args .number) (c .before .before .before .before .before .before .loop .i) (484 * c .before .before .before .before .before .before .loop .i + 484 - 484 * c .before .before .before .before .before .before .loop .i) (512 * c .before .before .before .before .before .before .loop .i + 512 - 512 * c .before .before .before .before .before .before .loop .i) (omega arith) (omega arith) (c .before .before .before .before .before .before .loop .inv .1) (omega arith) (omega arith) (c .before .before .before .before .before .before .loop .inv .2) (c .before .before .write-block .ensures) in
+    let at-block = c .before .before in
+    let at-key = at-block .before .before .before .before in
+    let at-loop = at-key .before .before .before in
+    let args = at-loop .before .before .before .before .args in
+    let i = at-loop .loop .i in
+    let next = blocks-more (args .key .now) (args .p .now) (args .out .now) (at-loop .loop .out) (at-block .write-block .last .1 .1 .1 .1 .1 .0) (args .number) i (484 * i + 484 - 484 * i) (512 * i + 512 - 512 * i) (omega arith) (omega arith) (at-loop .loop .inv .1) (omega arith) (omega arith) (at-loop .loop .inv .2) (at-block .write-block .ensures) in
     (search needs, ap length next ∙ length-over _ _ _, next)
 
 same-length : tie.Need-same-length Inv-loop μ-loop
 same-length c = search needs
 
 returns : tie.Need-returns Inv-loop μ-loop
-returns c = let done : c .before .loop .i ≡ c .before .before .before .before .args .count = omega arith in rw done at (c .before .loop .inv .2)
+returns c =
+    let at-loop = c .before in
+    let done : at-loop .loop .i ≡ at-loop .before .before .before .before .args .count = omega arith in
+    rw done at (at-loop .loop .inv .2)
 
 pub write-blocks-spec : {M : Type 1} → statement M
 write-blocks-spec =
@@ -84,7 +104,10 @@ write-blocks-spec =
     (tie.spec
     Inv-loop
     μ-loop
+    one-time-keys-requires
     loop-holds
+    slice-aggregate-key-at
+    key-at-requires
     cast-write-block
     mul-write-block
     mul-write-block-2

@@ -1,3 +1,4 @@
+use mathlib.Core.Path.{_∙_}
 use Rattle.opening.proofs.Laws.{load-law}
 use borrow.Author.Needs.{needs}
 use Rattle.opening.proofs.load_number.Statement.{statement}
@@ -6,32 +7,17 @@ use Rattle.opening.proofs.load_number.Tie as tie
 load-requires : tie.Need-load-requires
 load-requires c κs = search needs
 
-cast-result : tie.Need-cast-result
-cast-result c = search needs
-
 load-requires-2 : tie.Need-load-requires-2
 load-requires-2 c κs = search needs
 
-cast-result-2 : tie.Need-cast-result-2
-cast-result-2 c = search needs
-
-mul-result : tie.Need-mul-result
-mul-result c = search needs
-
-add-result : tie.Need-add-result
-add-result c = search needs
+joined-requires : tie.Need-joined-requires
+joined-requires c κs = search needs
 
 returns : tie.Need-returns
-returns c = load-law _ _ _ (c .before .before .before .pre) (c .before .load .ensures) (c .load2 .ensures)
+returns c =
+    let at-load2 = c .before in
+    let at-load = at-load2 .before in
+    c .joined .ensures ∙ load-law _ _ _ (at-load .before .before .pre) (at-load .load .ensures) (at-load2 .load2 .ensures)
 
 pub load-number-spec : {M : Type 1} → statement M
-load-number-spec =
-    tie.close
-    (tie.spec
-    load-requires
-    cast-result
-    load-requires-2
-    cast-result-2
-    mul-result
-    add-result
-    returns)
+load-number-spec = tie.close (tie.spec load-requires load-requires-2 joined-requires returns)

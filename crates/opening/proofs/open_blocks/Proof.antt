@@ -4,21 +4,30 @@ use lib.ListN.{length}
 use native.Mathlib.Omega.{arith}
 use Prim.Native.Nat.{_+_, _*_, _-_, _≤_}
 use mathlib.Core.Bool.{true}
-use mathlib.Core.Path.{_≡_, refl}
+use mathlib.Core.Path.{_≡_, refl, _∙_}
 use Rattle.opening.proofs.Laws.{fit-more, opened-more, opened-all}
 use borrow.Author.Needs.{needs}
 use Rattle.opening.proofs.open_blocks.Statement.{statement}
 use Rattle.opening.proofs.open_blocks.Tie as tie
 
 abbrev Inv-loop : tie.InvT-loop
-Inv-loop key number count h out₀ fit₀ i₀ out fit i = (i ≤ count) × (length out ≡ length out₀) × (fit ≡ firstFit key h i) × (fit ≡ true → out ≡ over 0 (openedText key h i) out₀)
+Inv-loop key number count h out₀ keys fit₀ i₀ out fit i = (i ≤ count) × (length out ≡ length out₀) × (fit ≡ firstFit key h i) × (fit ≡ true → out ≡ over 0 (openedText key h i) out₀)
 
 abbrev μ-loop : tie.MeasureT-loop
-μ-loop key number count h out₀ fit₀ i₀ out fit i = count - i
+μ-loop key number count h out₀ keys fit₀ i₀ out fit i = count - i
+
+one-time-keys-requires : tie.Need-one-time-keys-requires Inv-loop μ-loop
+one-time-keys-requires c κs = search needs
 
 loop-holds : tie.Need-loop-holds Inv-loop μ-loop
 unfolding over firstFit openedText
 loop-holds c = (search needs, refl, refl, λ _. refl)
+
+slice-aggregate-key-at : tie.Need-slice-aggregate-key-at Inv-loop μ-loop
+slice-aggregate-key-at c = search needs
+
+key-at-requires : tie.Need-key-at-requires Inv-loop μ-loop
+key-at-requires c κs = search needs
 
 cast-open-block : tie.Need-cast-open-block Inv-loop μ-loop
 cast-open-block c = search needs
@@ -60,7 +69,10 @@ part-open-block-end-2 : tie.Need-part-open-block-end-2 Inv-loop μ-loop
 part-open-block-end-2 c = search needs
 
 open-block-requires : tie.Need-open-block-requires Inv-loop μ-loop
-open-block-requires c κs = search needs
+open-block-requires c κs =
+    let at-key = c .before .before .before in
+    let at-loop = at-key .before .before .before in
+    (search needs, at-key .key-at .ensures ∙ at-loop .before .one-time-keys .ensures (at-loop .loop .i) (omega arith))
 
 add-i : tie.Need-add-i Inv-loop μ-loop
 add-i c = search needs
@@ -69,20 +81,31 @@ loop-less : tie.Need-loop-less Inv-loop μ-loop
 loop-less c = search needs
 
 loop-again : tie.Need-loop-again Inv-loop μ-loop
-loop-again c = (
-  search needs,
-  search needs,
-  fit-more (c .before .before .before .before .before .before .before .before .before .args .key .now) (c .before .before .before .before .before .before .before .before .before .args .h .now) (c .before .before .before .before .before .before .before .before .before .args .out .now) (c .before .before .before .before .before .before .loop .out) (c .before .before .open-block .last .1 .1 .1 .1 .0) (c .before .before .before .before .before .before .before .before .before .args .number) (c .before .before .before .before .before .before .loop .i) (512 * c .before .before .before .before .before .before .loop .i + 512 - 512 * c .before .before .before .before .before .before .loop .i) (484 * c .before .before .before .before .before .before .loop .i + 484 - 484 * c .before .before .before .before .before .before .loop .i) (c .before .before .before .before .before .before .loop .fit) (c .before .before .open-block .result) (c .before .before .before .before .before .before .before .before .before .pre .3) (omega arith) (c .before .before .before .before .before .before .loop .inv .2) (c .before .before .open-block .ensures .0),
-  opened-more (c .before .before .before .before .before .before .before .before .before .args .key .now) (c .before .before .before .before .before .before .before .before .before .args .h .now) (c .before .before .before .before .before .before .before .before .before .args .out .now) (c .before .before .before .before .before .before .loop .out) (c .before .before .open-block .last .1 .1 .1 .1 .0) (c .before .before .before .before .before .before .before .before .before .args .number) (c .before .before .before .before .before .before .loop .i) (512 * c .before .before .before .before .before .before .loop .i + 512 - 512 * c .before .before .before .before .before .before .loop .i) (484 * c .before .before .before .before .before .before .loop .i + 484 - 484 * c .before .before .before .before .before .before .loop .i) (c .before .before .before .before .before .before .loop .fit) (c .before .before .open-block .result) (c .before .before .before .before .before .before .before .before .before .pre .3) (omega arith) (omega arith) (omega arith) (omega arith) (search needs) (c .before .before .before .before .before .before .loop .inv .3) (c .before .before .open-block .ensures .1),
-)
+loop-again c =
+    let at-block = c .before .before in
+    let at-key = at-block .before .before .before .before in
+    let at-loop = at-key .before .before .before in
+    let start = at-loop .before .before .before .before in
+    let key = start .args .key .now in
+    let h = start .args .h .now in
+    let i = at-loop .loop .i in
+    let block = at-block .open-block in
+    let text = block .last .1 .1 .1 .1 .1 .0 in (
+      search needs,
+      search needs,
+      fit-more key h (start .args .out .now) (at-loop .loop .out) text (start .args .number) i (512 * i + 512 - 512 * i) (484 * i + 484 - 484 * i) (at-loop .loop .fit) (block .result) (start .pre .3) (omega arith) (at-loop .loop .inv .2) (block .ensures .0),
+      opened-more key h (start .args .out .now) (at-loop .loop .out) text (start .args .number) i (512 * i + 512 - 512 * i) (484 * i + 484 - 484 * i) (at-loop .loop .fit) (block .result) (start .pre .3) (omega arith) (omega arith) (omega arith) (omega arith) (search needs) (at-loop .loop .inv .3) (block .ensures .1),
+    )
 
 same-length : tie.Need-same-length Inv-loop μ-loop
 same-length c = search needs
 
 returns : tie.Need-returns Inv-loop μ-loop
 returns c =
-    let done : c .before .loop .i ≡ c .before .before .before .before .args .count = omega arith in
-    (rw done at (c .before .loop .inv .2), λ t. opened-all _ _ _ _ _ (c .before .before .before .before .pre .1) (c .before .before .before .before .pre .2) (rw done at (c .before .loop .inv .3 t)))
+    let at-loop = c .before in
+    let start = at-loop .before .before .before .before in
+    let done : at-loop .loop .i ≡ start .args .count = omega arith in
+    (rw done at (at-loop .loop .inv .2), λ t. opened-all _ _ _ _ _ (start .pre .1) (start .pre .2) (rw done at (at-loop .loop .inv .3 t)))
 
 pub open-blocks-spec : {M : Type 1} → statement M
 open-blocks-spec =
@@ -90,7 +113,10 @@ open-blocks-spec =
     (tie.spec
     Inv-loop
     μ-loop
+    one-time-keys-requires
     loop-holds
+    slice-aggregate-key-at
+    key-at-requires
     cast-open-block
     mul-open-block
     mul-open-block-2

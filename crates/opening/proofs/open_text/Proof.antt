@@ -1,4 +1,6 @@
-use Rattle.opening.proofs.Laws.{text-opens, opened-text}
+use mathlib.Core.Path.{sym, ap, _∙_}
+use Rattle.aead.specs.Aead.{polyKey}
+use Rattle.opening.proofs.Laws.{nonce-part, text-opens, opened-text}
 use borrow.Author.Needs.{needs}
 use Rattle.opening.proofs.open_text.Statement.{statement}
 use Rattle.opening.proofs.open_text.Tie as tie
@@ -45,11 +47,15 @@ part-copy-end-3 c = search needs
 copy-requires-3 : tie.Need-copy-requires-3
 copy-requires-3 c κs = search needs
 
-slice-aggregate-open : tie.Need-slice-aggregate-open
-slice-aggregate-open c = search needs
+slice-aggregate-open-by : tie.Need-slice-aggregate-open-by
+slice-aggregate-open-by c = search needs
 
-open-requires : tie.Need-open-requires
-open-requires c κs = search needs
+open-by-requires : tie.Need-open-by-requires
+open-by-requires c κs =
+    let at-text = c .before .before .before .before .before .before in
+    let at-nonce = at-text .before .before .before .before .before .before .before .before in
+    let start = at-nonce .before .before .before .before .before in
+    start .pre .1 ∙ ap (polyKey (start .args .key .now)) (sym (nonce-part _ _ (start .pre .0 .0) (at-nonce .copy .ensures)))
 
 same-length : tie.Need-same-length
 same-length c = search needs
@@ -64,9 +70,9 @@ returns c =
     let en = nonce .copy .ensures in
     let et = tag .copy2 .ensures in
     let eo = text .copy3 .ensures in
-    let er = opened .«open» .ensures .0 in (
-      text-opens _ _ _ _ _ _ _ (start .pre .0) (start .pre .1) en et eo er,
-      opened-text _ _ _ _ _ _ _ (start .pre .0) (start .pre .1) en et eo er _ (opened .«open» .ensures .1),
+    let er = opened .open-by .ensures .0 in (
+      text-opens _ _ _ _ _ _ _ (start .pre .0 .0) (start .pre .0 .1) en et eo er,
+      opened-text _ _ _ _ _ _ _ (start .pre .0 .0) (start .pre .0 .1) en et eo er _ (opened .open-by .ensures .1),
     )
 
 pub open-text-spec : {M : Type 1} → statement M
@@ -87,7 +93,7 @@ open-text-spec =
     part-copy-start-3
     part-copy-end-3
     copy-requires-3
-    slice-aggregate-open
-    open-requires
+    slice-aggregate-open-by
+    open-by-requires
     same-length
     returns)
