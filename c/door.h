@@ -1,8 +1,11 @@
 /*
  * The calls of the two-box door check, for a host in C on x86-64 Linux. `c/library` proves them and
- * writes target/c/libdoor.a. It needs memcpy and memset and nothing else; it allocates nothing and
- * keeps nothing between calls, so calls on different states may run at the same time. A call was
- * seen to take up to 60 KB of stack, the states by value with it: have DOOR_STACK bytes left.
+ * writes target/c/libdoor.a. It has every call compiled for three levels of processors, x86-64,
+ * x86-64-v3 and x86-64-v4, and takes the best that the machine has when the program is loaded; the
+ * environment variable DOOR_LEVEL, set to one of these names, holds it to a lower one. It needs
+ * memcpy, memset and getenv and nothing else; it allocates nothing and keeps nothing between calls,
+ * so calls on different states may run at the same time. A call was seen to take up to 60 KB of
+ * stack, the states by value with it: have DOOR_STACK bytes left.
  *
  * States. A dealer, a box and a lock are plain values. A call takes the state by value and its answer
  * holds the next one: keep that, and hand it to the next call on the same part.
@@ -300,6 +303,10 @@ uint64_t lock_last(
     uint32_t sender1,
     uint64_t number1,
     uint32_t answer1);
+
+/* The level in use: "x86-64", "x86-64-v3" or "x86-64-v4". A DOOR_LEVEL that names none of them, or
+   one that the machine has not, counts as not set. */
+const char *door_level(void);
 
 /* The layout that the archives are compiled for. */
 #define DOOR_AT(type, field, at) \

@@ -1,6 +1,7 @@
 /*
  * Calls every function of door.h as a host does: whole checks, whose answers must be those of the
- * measure computed here, and each refusal of each call, which must change nothing. c/test runs it.
+ * measure computed here, and each refusal of each call, which must change nothing. Its argument is
+ * the level that must be in use. c/test runs it.
  */
 #include "door.h"
 
@@ -858,8 +859,10 @@ static void joins(void)
     join_refused(j, DOOR_WRONG_MESSAGE);
 }
 
-int main(void)
+int main(int count, char **arguments)
 {
+    if (count > 1)
+        EXPECT(strcmp(door_level(), arguments[1]) == 0);
     draw_bytes(keys[0], sizeof keys);
     draw_bytes(seed, sizeof seed);
     whole_checks();
@@ -877,5 +880,5 @@ int main(void)
         message(&stage.at[3], stage.word);
     }
     joins();
-    printf("c/test: %ld passed\n", passed);
+    printf("c/test: %s: %ld passed\n", door_level(), passed);
 }
