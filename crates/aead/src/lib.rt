@@ -2,8 +2,11 @@
 // data and any length.
 ghost use mathlib.Core.Path.{_≡_};
 ghost use mathlib.Core.List.{_++_};
+ghost use Prim.Native.Nat.{_≤_};
 ghost use lib.ListN.{length};
-ghost use Rattle.poly1305.specs.Poly1305.{bytes, mac};
+ghost use Rattle.algebra.specs.Mod.{Mod};
+ghost use Rattle.limbs.specs.Limbs.{prime, value, Limbs};
+ghost use Rattle.poly1305.specs.Poly1305.{bytes, pieces, pad16, absorbAll, mac};
 ghost use Rattle.aead.specs.Aead.{polyKey, macData, sealed, sealedText, opens, openedText};
 
 // RFC 8439's P_MAX: what the block counter of 32 bits has room for, after block 0.
@@ -41,6 +44,38 @@ fn lengths(a: usize, b: usize) -> [u8; 16]
     out
 }
 
+// The accumulator after a text, padded, and then `both`. They are put in one place, so that four blocks
+// at a time are taken of both together.
+fn absorb_short(h: [u64; 5], r: [u64; 5], text: &[u8], both: &[u8]) -> [u64; 5]
+    requires { ⌜ Limbs h ⌝ }
+    requires { ⌜ Limbs r ⌝ }
+    requires { ⌜ (length (now text) ≤ 496) × (length (now both) ≡ 16) ⌝ }
+    ensures { λ a. ⌜ Limbs a ⌝ }
+    ensures { λ a. ⌜ Mod prime (value a) (absorbAll (value r) (value h) (pieces ((now (text .entry) ++ pad16 (now (text .entry))) ++ now (both .entry)))) ⌝ }
+{
+    let n = text.len();
+    let end = n + (16 - n % 16) % 16;
+    let mut m = [0u8; 512];
+    slices::copy(&mut m, 0, text);
+    slices::copy(&mut m, end, both);
+    poly4::absorb_padded(h, r, &m[..end + 16])
+}
+
+// The same for a text of any length.
+fn absorb_text(h: [u64; 5], r: [u64; 5], text: &[u8], both: &[u8]) -> [u64; 5]
+    requires { ⌜ Limbs h ⌝ }
+    requires { ⌜ Limbs r ⌝ }
+    requires { ⌜ length (now both) ≡ 16 ⌝ }
+    ensures { λ a. ⌜ Limbs a ⌝ }
+    ensures { λ a. ⌜ Mod prime (value a) (absorbAll (value r) (value h) (pieces ((now (text .entry) ++ pad16 (now (text .entry))) ++ now (both .entry)))) ⌝ }
+{
+    if text.len() <= 496 {
+        return absorb_short(h, r, text, both);
+    }
+    let b = poly4::absorb_padded(h, r, text);
+    poly1305::absorb_padded(b, r, both)
+}
+
 // The tag of additional data and a ciphertext, under a one-time key.
 fn tag_by(once: &[u8; 32], aad: &[u8], text: &[u8]) -> [u8; 16]
     ensures { λ r. ⌜ r ≡ mac (now (once .entry)) (macData (now (aad .entry)) (now (text .entry))) ⌝ }
@@ -49,9 +84,8 @@ fn tag_by(once: &[u8; 32], aad: &[u8], text: &[u8]) -> [u8; 16]
     let r = halves.r;
     let s = halves.s;
     let a = poly1305::absorb_padded([0; 5], r, aad);
-    let b = poly4::absorb_padded(a, r, text);
     let both = lengths(aad.len(), text.len());
-    let c = poly1305::absorb_padded(b, r, &both);
+    let c = absorb_text(a, r, text, &both);
     poly1305::tag(c, s)
 }
 
