@@ -10,7 +10,6 @@ use lib.ListN.{length, take-append-drop, take, drop, replicate, length-append, l
 use lib.Seq.{length-take-le, take-at, drop-at}
 use Rattle.words.specs.List.{over, over-all, over-after, over-next}
 use Rattle.words.specs.Bytes.{le32, bytesOf}
-use Rattle.poly1305.specs.Numbers.{eight, four}
 use Rattle.aead.specs.declared.Sealed.{Sealed}
 use Rattle.aead.specs.Aead.{cipher, tagFor, within, sealed, sealedText}
 use Rattle.aead.specs.Claims.{length-cipher}
@@ -19,13 +18,14 @@ use Rattle.content.specs.declared.Set.{Set}
 use Rattle.content.specs.Content.{part, fields, size, blocks, Proper}
 use Rattle.content.specs.Laws.{blocks-bounds, take-laid}
 use Rattle.content.specs.Pieces.{length-part}
+use Rattle.one_time.specs.OneTime.{nonceOf}
 use Rattle.half.specs.Half.{header, block, firstBlocks, half}
+use Rattle.half.specs.OneTime.{header-words}
 use Rattle.half.specs.Laws.{part-front, length-tag, length-block, length-blocks, put-over}
 
-pub header-law : (a i : ℕ) (out t : List ℕ) → length out ≡ 12 → t ≡ over 0 (bytesOf (a % 2 ^ 32 ∷ a / 2 ^ 32 ∷ i ∷ [])) out → t ≡ header a i
-unfolding bytesOf le32 header
-header-law a i out t size e =
-    e ∙ over-all (bytesOf (a % 2 ^ 32 ∷ a / 2 ^ 32 ∷ i ∷ [])) out (sym size) ∙ ap₂ (λ (x y : List ℕ). x ++ y) (eight a) (four i)
+pub header-law : (a i x y : ℕ) (out t : List ℕ) → x ≡ a % 2 ^ 32 → y ≡ a / 2 ^ 32 → length out ≡ 12 → t ≡ over 0 (bytesOf (x ∷ y ∷ i ∷ [])) out → t ≡ header a i
+unfolding bytesOf le32 nonceOf
+header-law a i x y out t ex ey size e = e ∙ over-all (bytesOf (x ∷ y ∷ i ∷ [])) out (sym size) ∙ (λ j. nonceOf (ex j) (ey j) i) ∙ header-words a i
 
 -- ---- a block
 

@@ -1,6 +1,6 @@
 // Seals a half in blocks (01, "The sealed half"). `opening` examines one.
 ghost use mathlib.Core.Path.{_≡_};
-ghost use Prim.Native.Nat.{_*_, _≤_, _<_};
+ghost use Prim.Native.Nat.{_*_, _/_, _%_, _^_, _≤_, _<_};
 ghost use lib.ListN.{length};
 ghost use Rattle.words.specs.List.{over};
 ghost use Rattle.aead.specs.Aead.{polyKey};
@@ -9,15 +9,23 @@ ghost use Rattle.half.specs.Half.{header as headerOf, block, firstBlocks
 ghost use Rattle.half.specs.OneTime.{KeysFor};
 use content::Set;
 
+fn low(number: u64) -> u32
+    ensures { λ r. ⌜ r ≡ number % 2 ^ 32 ⌝ }
+{
+    (number % 4294967296) as u32
+}
+
+fn high(number: u64) -> u32
+    ensures { λ r. ⌜ r ≡ number / 2 ^ 32 ⌝ }
+{
+    (number / 4294967296) as u32
+}
+
 // A block's first twelve bytes: the set's number and the block's index.
 fn header(number: u64, i: u32) -> [u8; 12]
     ensures { λ r. ⌜ r ≡ headerOf number i ⌝ }
 {
-    let w = [
-        (number % 4294967296) as u32,
-        (number / 4294967296) as u32,
-        i,
-    ];
+    let w = [low(number), high(number), i];
     let mut out = [0u8; 12];
     slices::store_all(&mut out, 0, &w);
     out
@@ -28,12 +36,7 @@ pub fn one_time_keys(key: &[u8; 32], number: u64, count: usize) -> [u8; 512]
     requires { ⌜ count ≤ 16 ⌝ }
     ensures { λ r. ⌜ KeysFor (now (key .entry)) number count r ⌝ }
 {
-    one_time::keys_to(
-        key,
-        (number % 4294967296) as u32,
-        (number / 4294967296) as u32,
-        count,
-    )
+    one_time::keys_to(key, low(number), high(number), count)
 }
 
 // Block i: 484 bytes of text, sealed. Its one-time key is at hand.

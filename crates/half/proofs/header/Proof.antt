@@ -4,11 +4,11 @@ use borrow.Author.Needs.{needs}
 use Rattle.half.proofs.header.Statement.{statement}
 use Rattle.half.proofs.header.Tie as tie
 
-cast-t6 : tie.Need-cast-t6
-cast-t6 c = search needs
+low-requires : tie.Need-low-requires
+low-requires c κs = search needs
 
-cast-t8 : tie.Need-cast-t8
-cast-t8 c = search needs
+high-requires : tie.Need-high-requires
+high-requires c κs = search needs
 
 slice-aggregate-store-all : tie.Need-slice-aggregate-store-all
 slice-aggregate-store-all c = search needs
@@ -20,14 +20,17 @@ store-all-requires : tie.Need-store-all-requires
 store-all-requires c κs = search needs
 
 returns : tie.Need-returns
-returns c = header-law _ _ _ _ refl (c .before .store-all .ensures)
+returns c =
+    let at-store = c .before in
+    let at-high = at-store .before .before .before in
+    header-law _ _ _ _ _ _ (at-high .before .low .ensures) (at-high .high .ensures) refl (at-store .store-all .ensures)
 
 pub header-spec : {M : Type 1} → statement M
 header-spec =
     tie.close
     (tie.spec
-    cast-t6
-    cast-t8
+    low-requires
+    high-requires
     slice-aggregate-store-all
     slice-aggregate-store-all-2
     store-all-requires
