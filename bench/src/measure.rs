@@ -14,6 +14,11 @@ const WIDE_PAUSE: Duration = Duration::from_micros(1000);
 
 const LONG_TURN: Duration = Duration::from_millis(2);
 
+/// Some processors take a load for one of a store just before if the lowest 12 bits of their
+/// addresses are alike, and a loop over two vectors can take several times as long at such places. So
+/// a row has several buffers, and its slices go from one to the next.
+const BUFFERS: usize = 4;
+
 #[derive(Clone, Copy, PartialEq, Debug)]
 pub enum Who {
     Ours(Level),
@@ -41,19 +46,21 @@ impl Who {
 /// How one implementation does the operation of a row: it leaves its answer in the buffer.
 pub struct Way<'a, T> {
     who: Who,
+    /// The place of the buffer of its last slice.
+    buffer: usize,
     run: Box<dyn FnMut(&mut T) + 'a>,
 }
 
 pub fn way<'a, T>(who: Who, run: impl FnMut(&mut T) + 'a) -> Way<'a, T> {
-    let run = Box::new(run);
-    Way { who, run }
+    let (buffer, run) = (0, Box::new(run));
+    Way { who, buffer, run }
 }
 
-/// An operation and the ways to do it. They share one buffer, so that none has a better place in
+/// An operation and the ways to do it. They share the buffers, so that none has a better place in
 /// memory than another.
 struct Operation<'a, T> {
     name: String,
-    buffer: T,
+    buffers: Vec<T>,
     ways: Vec<Way<'a, T>>,
 }
 
@@ -78,8 +85,11 @@ pub fn row<'a, T: Clone + PartialEq + 'a>(
     buffer: T,
     ways: Vec<Way<'a, T>>,
 ) -> Box<dyn Row + 'a> {
-    let name = name.to_string();
-    Box::new(Operation { name, buffer, ways })
+    Box::new(Operation {
+        name: name.to_string(),
+        buffers: vec![buffer; BUFFERS],
+        ways,
+    })
 }
 
 impl<T: Clone + PartialEq> Row for Operation<'_, T> {
@@ -94,9 +104,9 @@ impl<T: Clone + PartialEq> Row for Operation<'_, T> {
     fn check(&mut self) -> Result<(), String> {
         let mut answers = Vec::new();
         for way in &mut self.ways {
-            let mut buffer = self.buffer.clone();
+            let mut buffer = self.buffers[0].clone();
             (way.run)(&mut buffer);
-            if buffer == self.buffer {
+            if buffer == self.buffers[0] {
                 return Err(format!("{}: {:?} did nothing", self.name, way.who));
             }
             answers.push((way.who, buffer));
@@ -109,13 +119,15 @@ impl<T: Clone + PartialEq> Row for Operation<'_, T> {
     }
 
     fn time(&mut self, way: usize, calls: u32) -> Duration {
-        let run = &mut self.ways[way].run;
+        let Way { buffer, run, .. } = &mut self.ways[way];
+        *buffer = (*buffer + 1) % BUFFERS;
+        let buffer = &mut self.buffers[*buffer];
         vectors::clear_upper();
         // One call before the clock starts: another implementation has just been using the caches.
-        run(&mut self.buffer);
+        run(buffer);
         let start = Instant::now();
         for _ in 0..calls {
-            run(&mut self.buffer);
+            run(buffer);
         }
         start.elapsed()
     }
