@@ -1,21 +1,25 @@
-//! Tells the linker where `rt staticlib` puts its archives. Which libraries there are to
-//! link stands in src/foreign.rs, beside their functions.
+//! Hands the linker the archives that tools/levels makes, and cargo their names.
 
 use std::env;
 use std::path::Path;
 
+const LEVELS: [&str; 3] = ["x86-64", "x86-64-v3", "x86-64-v4"];
+const ARCHIVES: [&str; 4] = [
+    "libcipher_c.a",
+    "libcheck_c.a",
+    "libdoor_c.a",
+    "liblock_c.a",
+];
+
 fn main() {
     let bench = env::var("CARGO_MANIFEST_DIR").expect("cargo sets CARGO_MANIFEST_DIR");
-    let folder = Path::new(&bench).join("../target/staticlib");
-    println!("cargo:rustc-link-search=native={}", folder.display());
-    // Cargo does not look into archives: without this line a new one would not be linked.
-    for name in [
-        "libcipher_c.a",
-        "libcheck_c.a",
-        "libdoor_c.a",
-        "liblock_c.a",
-    ] {
-        let archive = folder.join(name);
-        println!("cargo:rerun-if-changed={}", archive.display());
+    for level in LEVELS {
+        let folder = Path::new(&bench).join("../target/levels").join(level);
+        for archive in ARCHIVES.map(|name| folder.join(name)) {
+            // By its path: an archive has the same name at every level.
+            println!("cargo:rustc-link-arg={}", archive.display());
+            // Cargo does not look into archives: without this line a new one would not be linked.
+            println!("cargo:rerun-if-changed={}", archive.display());
+        }
     }
 }

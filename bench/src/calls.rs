@@ -1,6 +1,7 @@
-//! The calls of a dealer, a box and a lock, as each of the two implementations does them.
+//! The calls of a dealer, a box and a lock, as each implementation does them. Ours stand in
+//! foreign.rs.
 
-use crate::foreign::door as ours;
+use crate::foreign::door::PartyAnswer;
 use crate::foreign::Key;
 use crate::measure::Who;
 use second::dealer::{Dealer, Order};
@@ -27,90 +28,50 @@ pub struct Said {
 }
 
 /// One implementation.
-pub trait Calls {
-    const WHO: Who;
-    type Dealer;
-    type Party: Clone;
+pub trait Calls: Copy {
+    type Dealer: PartialEq;
+    type Party: Clone + PartialEq;
 
-    fn start_dealer(name: &[u8], floor: u64, keys: &[Key; 2]) -> Self::Dealer;
+    fn who(self) -> Who;
+    fn start_dealer(self, name: &[u8], floor: u64, keys: &[Key; 2]) -> Self::Dealer;
     /// Writes both halves, and answers why not; the dealer's next state is not wanted.
-    fn deal(dealer: &Self::Dealer, order: &Order, out: [&mut [u8]; 2]) -> u32;
-    fn start_party(name: &[u8], party: usize, key: &Key, floor: u64) -> Self::Party;
+    fn deal(self, dealer: &Self::Dealer, order: &Order, out: [&mut [u8]; 2]) -> u32;
+    fn start_party(self, name: &[u8], party: usize, key: &Key, floor: u64) -> Self::Party;
     /// A call on a box, as a host makes it: the next state takes the place of this one.
-    fn step(party: &mut Self::Party, step: Step) -> Said;
+    fn step(self, party: &mut Self::Party, step: Step) -> Said;
     /// The same, but the state stays and the next one goes elsewhere.
-    fn step_to(party: &Self::Party, next: &mut Self::Party, step: Step) -> Said;
+    fn step_to(self, party: &Self::Party, next: &mut Self::Party, step: Step) -> Said;
     /// 0 or 1, or 100 plus the refusal's number.
-    fn join(name: &[u8], last: u64, answers: [&Answer; 2]) -> u32;
+    fn join(self, name: &[u8], last: u64, answers: [&Answer; 2]) -> u32;
     /// Where both boxes' states go.
     fn states(states: &mut States) -> &mut [Self::Party; 2];
 }
 
-pub struct Ours;
-
-impl Calls for Ours {
-    const WHO: Who = Who::Ours;
-    type Dealer = ours::Dealer;
-    type Party = ours::PartyAnswer;
-
-    fn start_dealer(name: &[u8], floor: u64, keys: &[Key; 2]) -> ours::Dealer {
-        ours::start_dealer(name, floor, keys)
-    }
-
-    fn deal(dealer: &ours::Dealer, order: &Order, out: [&mut [u8]; 2]) -> u32 {
-        ours::deal(dealer, order, out)
-    }
-
-    fn start_party(name: &[u8], party: usize, key: &Key, floor: u64) -> ours::PartyAnswer {
-        ours::start_party(name, party as u32, key, floor)
-    }
-
-    fn step(party: &mut ours::PartyAnswer, step: Step) -> Said {
-        party.step(step);
-        said(party)
-    }
-
-    fn step_to(party: &ours::PartyAnswer, next: &mut ours::PartyAnswer, step: Step) -> Said {
-        party.step_to(next, step);
-        said(next)
-    }
-
-    fn join(name: &[u8], last: u64, answers: [&Answer; 2]) -> u32 {
-        ours::join(name, last, answers)
-    }
-
-    fn states(states: &mut States) -> &mut [ours::PartyAnswer; 2] {
-        states.last = Some(Who::Ours);
-        &mut states.ours
-    }
-}
-
-fn said(answer: &ours::PartyAnswer) -> Said {
-    let ours::PartyAnswer { why, word, .. } = *answer;
-    Said { why, word }
-}
-
+#[derive(Clone, Copy)]
 pub struct Second;
 
 impl Calls for Second {
-    const WHO: Who = Who::Second;
     type Dealer = Dealer;
     type Party = Party;
 
-    fn start_dealer(name: &[u8], floor: u64, keys: &[Key; 2]) -> Dealer {
+    fn who(self) -> Who {
+        Who::Second
+    }
+
+    fn start_dealer(self, name: &[u8], floor: u64, keys: &[Key; 2]) -> Dealer {
         let [key0, key1] = keys;
         Dealer::start(name, floor, [key0, key1]).expect("a good start")
     }
 
-    fn deal(dealer: &Dealer, order: &Order, out: [&mut [u8]; 2]) -> u32 {
+    fn deal(self, dealer: &Dealer, order: &Order, out: [&mut [u8]; 2]) -> u32 {
         refusal::number(&dealer.clone().deal(order, out))
     }
 
-    fn start_party(name: &[u8], party: usize, key: &Key, floor: u64) -> Party {
+    fn start_party(self, name: &[u8], party: usize, key: &Key, floor: u64) -> Party {
         Party::start(name, party as u64, key, floor).expect("a good start")
     }
 
-    fn step(party: &mut Party, step: Step) -> Said {
+    fn step(self, party: &mut Party, step: Step) -> Said {
         let answer = match step {
             Step::Load(half) => party.load(half).map(|()| 0),
             Step::Mask(v, out) => party.mask(v, out).map(|()| 0),
@@ -124,32 +85,32 @@ impl Calls for Second {
         }
     }
 
-    fn step_to(party: &Party, next: &mut Party, step: Step) -> Said {
+    fn step_to(self, party: &Party, next: &mut Party, step: Step) -> Said {
         next.clone_from(party);
-        Second::step(next, step)
+        self.step(next, step)
     }
 
-    fn join(name: &[u8], last: u64, answers: [&Answer; 2]) -> u32 {
+    fn join(self, name: &[u8], last: u64, answers: [&Answer; 2]) -> u32 {
         lock::host_join(name, last, answers)
     }
 
     fn states(states: &mut States) -> &mut [Party; 2] {
-        states.last = Some(Who::Second);
         &mut states.second
     }
 }
 
-/// The states of both boxes, as each implementation has them.
+/// The states of both boxes, as each implementation has them; all levels of ours have the same
+/// place.
 #[derive(Clone)]
 pub struct States {
-    ours: [ours::PartyAnswer; 2],
-    second: [Party; 2],
+    pub ours: [PartyAnswer; 2],
+    pub second: [Party; 2],
     /// Who has written last, if anyone has.
     last: Option<Who>,
 }
 
 impl States {
-    pub fn new(ours: &[ours::PartyAnswer; 2], second: &[Party; 2]) -> States {
+    pub fn new(ours: &[PartyAnswer; 2], second: &[Party; 2]) -> States {
         States {
             ours: *ours,
             second: second.clone(),
@@ -157,10 +118,16 @@ impl States {
         }
     }
 
+    /// Where this implementation's states go.
+    pub fn of<C: Calls>(&mut self, who: C) -> &mut [C::Party; 2] {
+        self.last = Some(who.who());
+        C::states(self)
+    }
+
     /// The states that were written last.
     fn plain(&self) -> Option<[Party; 2]> {
         self.last.map(|who| match who {
-            Who::Ours => self.ours.each_ref().map(ours::PartyAnswer::plain),
+            Who::Ours(_) => self.ours.each_ref().map(PartyAnswer::plain),
             _ => self.second.clone(),
         })
     }

@@ -1,7 +1,8 @@
 //! The calls that are timed, accepted and refused: one list for all that looks at them.
 
-use crate::calls::{Calls, Said, States, Step};
+use crate::calls::{Calls, Said, Second, States, Step};
 use crate::door::{label, Door, Known, Parts, Sent, FLOOR, NUMBER, OTHER, PARTY, THRESHOLD};
+use crate::foreign::ours::Ours;
 use crate::measure::{row, way, Row, Way};
 use second::message::{Label, MASKED_VECTOR, WORD};
 
@@ -51,6 +52,12 @@ pub const WHOLE_CHECK: Case = Case {
     name: "whole check",
     why: 0,
     call: Call::WholeCheck,
+};
+
+/// The same at a door of that measure.
+pub const WHOLE_CHECK_EUCLID: Case = Case {
+    name: "whole check, squared Euclid",
+    ..WHOLE_CHECK
 };
 
 /// No call, but in the time of every call on a box: once and more in ours, once in the second
@@ -122,60 +129,65 @@ impl Left {
 }
 
 impl Case {
+    /// What the row of this call is named at a length.
+    pub fn at(&self, length: usize) -> String {
+        format!("{}, L {length}", self.name)
+    }
+
     pub fn row<'a>(&self, door: &'a Door) -> Box<dyn Row + 'a> {
-        let name = format!("{}, L {}", self.name, door.length);
         let Door {
             known,
             ours,
             second,
             ..
         } = door;
-        let ways = vec![self.way(known, ours), self.way(known, second)];
-        row(&name, Left::nothing(door), ways)
+        let levels = Ours::all().map(|level| self.way(level, known, ours));
+        let ways = levels.chain([self.way(Second, known, second)]);
+        row(&self.at(door.length), Left::nothing(door), ways.collect())
     }
 
-    fn way<'a, C: Calls>(&self, known: &'a Known, parts: &'a Parts<C>) -> Way<'a, Left> {
+    fn way<'a, C: Calls + 'a>(
+        &self,
+        who: C,
+        known: &'a Known,
+        parts: &'a Parts<C>,
+    ) -> Way<'a, Left> {
         let (name, why) = (self.name, self.why);
         let call = self.call;
-        way(C::WHO, move |left: &mut Left| {
-            left.said = call.run(known, parts, &mut left.sent, &mut left.states);
+        way(who.who(), move |left: &mut Left| {
+            left.said = call.run(who, known, parts, left);
             assert_eq!(left.said.why, why, "{name}");
         })
     }
 }
 
 impl Call {
-    fn run<C: Calls>(
-        self,
-        known: &Known,
-        parts: &Parts<C>,
-        sent: &mut Sent,
-        states: &mut States,
-    ) -> Said {
+    fn run<C: Calls>(self, who: C, known: &Known, parts: &Parts<C>, left: &mut Left) -> Said {
+        let (sent, states) = (&mut left.sent, &mut left.states);
         match self {
             Call::Deal { threshold } => {
                 let [half0, half1] = &mut sent.halves;
                 let order = known.input.order(threshold);
-                let why = C::deal(&parts.dealer, &order, [half0, half1]);
+                let why = who.deal(&parts.dealer, &order, [half0, half1]);
                 Said { why, word: 0 }
             }
             Call::Box { phase, step } => {
-                let next = &mut C::states(states)[PARTY];
+                let next = &mut states.of(who)[PARTY];
                 let step = step(known, &mut sent.masked[PARTY]);
-                C::step_to(&parts.phases[phase], next, step)
+                who.step_to(&parts.phases[phase], next, step)
             }
             Call::Join { number } => {
-                let word = known.join::<C>(number);
+                let word = known.join(who, number);
                 let why = word.saturating_sub(100);
                 Said { why, word }
             }
             Call::WholeCheck => {
-                parts.check(known, C::states(states), sent);
+                parts.check(who, known, states.of(who), sent);
                 let (why, word) = (0, sent.joined);
                 Said { why, word }
             }
             Call::CopyState => {
-                C::states(states)[PARTY].clone_from(&parts.phases[0]);
+                states.of(who)[PARTY].clone_from(&parts.phases[0]);
                 Said { why: 0, word: 0 }
             }
         }

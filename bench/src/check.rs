@@ -1,6 +1,7 @@
 //! The rows of a check: the making of a key, and what a box computes.
 
-use crate::foreign::ours::{self, ComparisonKey};
+use crate::calls::Calls;
+use crate::foreign::ours::{ComparisonKey, Ours, Word};
 use crate::measure::{row, way, Row, Who};
 use second::dcf::{self, Seed};
 use second::measure::Measure;
@@ -38,7 +39,7 @@ impl Check {
         Check {
             measure,
             half,
-            key: ours::key(&seeds, point),
+            key: Ours::plain().key(&seeds, point),
             seeds,
             point,
             words: numbers.iter().map(|&x| x as u32).collect(),
@@ -74,41 +75,46 @@ impl PartialEq for Made {
     }
 }
 
+/// A row with a way of ours at each level, and of the second implementation.
+fn compared<'a, T: Clone + PartialEq + 'a>(
+    name: &str,
+    buffer: T,
+    ours: impl Fn(Ours, &mut T) + Copy + 'a,
+    second: impl Fn(&mut T) + 'a,
+) -> Box<dyn Row + 'a> {
+    let levels = Ours::all().map(|level| way(level.who(), move |out: &mut T| ours(level, out)));
+    let ways = levels.chain([way(Who::Second, second)]);
+    row(name, buffer, ways.collect())
+}
+
 pub fn key<'a>(name: &str, check: &'a Check) -> Box<dyn Row + 'a> {
     let Check { seeds, point, .. } = check;
-    let ways = vec![
-        way(Who::Ours, |made| {
-            *made = Made::Ours(ours::key(seeds, *point))
-        }),
-        way(Who::Second, |made| {
-            *made = Made::Second(dcf::Key::new(seeds, *point))
-        }),
-    ];
-    row(name, Made::Nothing, ways)
+    compared(
+        name,
+        Made::Nothing,
+        |ours, made| *made = Made::Ours(ours.key(seeds, *point)),
+        |made| *made = Made::Second(dcf::Key::new(seeds, *point)),
+    )
 }
 
 pub fn value<'a>(name: &str, check: &'a Check) -> Box<dyn Row + 'a> {
     let Check { half, key, z, .. } = check;
-    let ways = vec![
-        way(Who::Ours, |out| {
-            *out = ours::value(key, &half.seed, PARTY as u32, *z)
-        }),
-        way(Who::Second, |out| {
-            *out = half.key.value(PARTY, &half.seed, *z)
-        }),
-    ];
-    row(name, 0, ways)
+    compared(
+        name,
+        0,
+        |ours, out| *out = ours.value(key, &half.seed, PARTY as u32, *z),
+        |out| *out = half.key.value(PARTY, &half.seed, *z),
+    )
 }
 
 pub fn answer<'a>(name: &str, check: &'a Check) -> Box<dyn Row + 'a> {
     let Check { half, key, z, .. } = check;
-    let ways = vec![
-        way(Who::Ours, |out| {
-            *out = ours::answer(key, &half.seed, PARTY as u32, *z)
-        }),
-        way(Who::Second, |out| *out = half.answer(*z)),
-    ];
-    row(name, 0, ways)
+    compared(
+        name,
+        0,
+        |ours, out| *out = ours.answer(key, &half.seed, PARTY as u32, *z),
+        |out| *out = half.answer(*z),
+    )
 }
 
 pub fn mask<'a>(name: &str, check: &'a Check) -> Box<dyn Row + 'a> {
@@ -118,15 +124,12 @@ pub fn mask<'a>(name: &str, check: &'a Check) -> Box<dyn Row + 'a> {
         words,
         ..
     } = check;
-    let ways = vec![
-        way(Who::Ours, |out: &mut Vec<u32>| {
-            ours::mask(words, &half.own_mask, out)
-        }),
-        way(Who::Second, |out: &mut Vec<u32>| {
-            half.masked_into(numbers, out)
-        }),
-    ];
-    row(name, vec![0; words.len()], ways)
+    compared(
+        name,
+        vec![0; words.len()],
+        |ours, out| ours.mask(words, &half.own_mask, out),
+        |out| half.masked_into(numbers, out),
+    )
 }
 
 /// The word with the own term.
@@ -138,7 +141,7 @@ pub fn word<'a>(name: &str, check: &'a Check) -> Box<dyn Row + 'a> {
         masked: [mx, my],
         ..
     } = check;
-    let ours = ours::Word {
+    let word = Word {
         code: check.measure.code(),
         party: PARTY as u32,
         c: half.c,
@@ -149,9 +152,10 @@ pub fn word<'a>(name: &str, check: &'a Check) -> Box<dyn Row + 'a> {
         sx: &half.x_share,
         sy: &half.y_share,
     };
-    let ways = vec![
-        way(Who::Ours, move |out| *out = ours::word(&ours)),
-        way(Who::Second, |out| *out = half.word(numbers, mx, my)),
-    ];
-    row(name, 0, ways)
+    compared(
+        name,
+        0,
+        move |ours, out| *out = ours.word(&word),
+        |out| *out = half.word(numbers, mx, my),
+    )
 }

@@ -1,6 +1,7 @@
 //! A check at a door from the deal to the join, and the states and messages on its way.
 
-use crate::calls::{Calls, Ours, Second, States, Step};
+use crate::calls::{Calls, Second, States, Step};
+use crate::foreign::ours::Ours;
 use crate::foreign::Key;
 use second::content;
 use second::dealer::Order;
@@ -57,8 +58,12 @@ impl Input {
         }
     }
 
-    fn boxes<C: Calls>(&self) -> [C::Party; 2] {
-        [0, 1].map(|party| C::start_party(NAME, party, &self.keys[party], FLOOR))
+    fn dealer<C: Calls>(&self, who: C) -> C::Dealer {
+        who.start_dealer(NAME, FLOOR, &self.keys)
+    }
+
+    fn boxes<C: Calls>(&self, who: C) -> [C::Party; 2] {
+        [0, 1].map(|party| who.start_party(NAME, party, &self.keys[party], FLOOR))
     }
 }
 
@@ -86,7 +91,7 @@ impl Sent {
     }
 
     /// What the lock is handed.
-    fn join<C: Calls>(&self, number: u64) -> u32 {
+    fn join(&self, who: impl Calls, number: u64) -> u32 {
         let [one, two] = [0, 1].map(|sender| Answer {
             label: Label {
                 number,
@@ -94,7 +99,7 @@ impl Sent {
             },
             answer: self.answers[sender],
         });
-        C::join(PADDED, FLOOR, [&one, &two])
+        who.join(PADDED, FLOOR, [&one, &two])
     }
 }
 
@@ -125,15 +130,21 @@ fn step<'a>(
 }
 
 /// A whole check, as four hosts do it: the deal, the four calls of both boxes, the join.
-fn check<C: Calls>(input: &Input, dealer: &C::Dealer, boxes: &mut [C::Party; 2], sent: &mut Sent) {
+fn check<C: Calls>(
+    who: C,
+    input: &Input,
+    dealer: &C::Dealer,
+    boxes: &mut [C::Party; 2],
+    sent: &mut Sent,
+) {
     let [half0, half1] = &mut sent.halves;
-    let why = C::deal(dealer, &input.order(THRESHOLD), [half0, half1]);
+    let why = who.deal(dealer, &input.order(THRESHOLD), [half0, half1]);
     assert_eq!(why, 0, "a check's deal");
     for call in 0..4 {
-        for party in 0..2 {
+        for (party, state) in boxes.iter_mut().enumerate() {
             // Taken out, since the other messages are read meanwhile.
             let mut out = take(&mut sent.masked[party]);
-            let said = C::step(&mut boxes[party], step(call, party, input, sent, &mut out));
+            let said = who.step(state, step(call, party, input, sent, &mut out));
             assert_eq!(said.why, 0, "a check's call");
             sent.masked[party] = out;
             match call {
@@ -143,7 +154,7 @@ fn check<C: Calls>(input: &Input, dealer: &C::Dealer, boxes: &mut [C::Party; 2],
             }
         }
     }
-    sent.joined = sent.join::<C>(NUMBER);
+    sent.joined = sent.join(who, NUMBER);
     assert!(sent.joined < 2, "a check's join");
 }
 
@@ -163,8 +174,8 @@ pub struct Known {
 impl Known {
     fn new(input: Input) -> Known {
         let mut sent = Sent::nothing(input.length);
-        let dealer = Second::start_dealer(NAME, FLOOR, &input.keys);
-        check::<Second>(&input, &dealer, &mut input.boxes::<Second>(), &mut sent);
+        let (dealer, mut boxes) = (input.dealer(Second), input.boxes(Second));
+        check(Second, &input, &dealer, &mut boxes, &mut sent);
         let mut spent = sent.halves[PARTY].clone();
         spent[..8].copy_from_slice(&FLOOR.to_le_bytes());
         let mut broken = sent.halves[PARTY].clone();
@@ -185,8 +196,8 @@ impl Known {
         step(call, PARTY, &self.input, &self.sent, out)
     }
 
-    pub fn join<C: Calls>(&self, number: u64) -> u32 {
-        self.sent.join::<C>(number)
+    pub fn join(&self, who: impl Calls, number: u64) -> u32 {
+        self.sent.join(who, number)
     }
 }
 
@@ -199,28 +210,37 @@ pub struct Parts<C: Calls> {
 }
 
 impl<C: Calls> Parts<C> {
-    fn new(known: &Known) -> Parts<C> {
-        let started = known.input.boxes::<C>();
+    fn new(who: C, known: &Known) -> Parts<C> {
+        let started = known.input.boxes(who);
         let mut party = started[PARTY].clone();
         let mut out = vec![0; known.input.length];
         let phases = [0, 1, 2, 3].map(|phase| {
             if phase > 0 {
-                let said = C::step(&mut party, known.step(phase - 1, &mut out));
-                assert_eq!(said.why, 0, "a call on the way");
+                let said = who.step(&mut party, known.step(phase - 1, &mut out));
+                assert_eq!(said.why, 0, "{:?}: a call on the way", who.who());
             }
             party.clone()
         });
         Parts {
-            dealer: C::start_dealer(NAME, FLOOR, &known.input.keys),
+            dealer: known.input.dealer(who),
             started,
             phases,
         }
     }
 
+    fn same(&self, other: &Parts<C>) -> bool {
+        let Parts {
+            dealer,
+            started,
+            phases,
+        } = other;
+        self.dealer == *dealer && self.started == *started && self.phases == *phases
+    }
+
     /// A whole check, from the starts.
-    pub fn check(&self, known: &Known, boxes: &mut [C::Party; 2], sent: &mut Sent) {
+    pub fn check(&self, who: C, known: &Known, boxes: &mut [C::Party; 2], sent: &mut Sent) {
         boxes.clone_from(&self.started);
-        check::<C>(&known.input, &self.dealer, boxes, sent);
+        check(who, &known.input, &self.dealer, boxes, sent);
     }
 }
 
@@ -228,6 +248,8 @@ impl<C: Calls> Parts<C> {
 pub struct Door {
     pub length: usize,
     pub known: Known,
+    /// Of all levels: a copy takes longer between some addresses than between others, so each level
+    /// starts from the same.
     pub ours: Parts<Ours>,
     pub second: Parts<Second>,
 }
@@ -235,10 +257,15 @@ pub struct Door {
 impl Door {
     pub fn new(measure: Measure, length: usize) -> Door {
         let known = Known::new(Input::new(measure, length));
+        let ours = Parts::new(Ours::plain(), &known);
+        for level in Ours::all() {
+            let same = Parts::new(level, &known).same(&ours);
+            assert!(same, "{:?} starts or goes on otherwise", level.who());
+        }
         Door {
             length,
-            ours: Parts::new(&known),
-            second: Parts::new(&known),
+            ours,
+            second: Parts::new(Second, &known),
             known,
         }
     }

@@ -1,5 +1,5 @@
-//! The functions of C that are timed, each behind a safe one, and a look at the stack below a call:
-//! the only unsafe code of the program.
+//! The functions of C that are timed, each behind a safe one, a look at the stack below a call, and
+//! a state of the processor: the only unsafe code of the program.
 
 #![allow(unsafe_code)]
 
@@ -9,15 +9,18 @@ pub type Key = [u8; 32];
 pub type Nonce = [u8; 12];
 pub type Tag = [u8; 16];
 
-/// The verified cipher and the verified check: crates/cipher_c and crates/check_c.
+/// The verified functions of crates/cipher_c, check_c, door_c and lock_c, at each level of x86-64,
+/// and what the cipher and the check are handed.
 pub mod ours {
+    use super::door::{Dealer, DealerAnswer, Party, PartyAnswer};
     use super::*;
+    use crate::level::Level;
     use second::dcf::{self, Seed};
 
     /// A level's correction, as crates/node has it: of the flags, bit 0 is the left one and bit 1
     /// the right one.
     #[repr(C)]
-    #[derive(Clone, Copy)]
+    #[derive(Clone, Copy, PartialEq)]
     pub struct Correction {
         seed: Seed,
         word: u32,
@@ -25,7 +28,7 @@ pub mod ours {
     }
 
     #[repr(C)]
-    #[derive(Clone, Copy)]
+    #[derive(Clone, Copy, PartialEq)]
     pub struct ComparisonKey {
         corrections: [Correction; dcf::LEVELS],
         last: u32,
@@ -50,9 +53,43 @@ pub mod ours {
         }
     }
 
-    #[link(name = "cipher_c", kind = "static")]
-    extern "C" {
-        fn cipher_stream(key: &Key, nonce: &Nonce, out: *mut u32, words: usize);
+    /// Declares the functions once for all levels.
+    macro_rules! functions {
+        ([$($level:tt)*] $declared:tt) => {
+            pointers!($declared);
+            $(at_level!($level $declared);)*
+        };
+    }
+
+    macro_rules! pointers {
+        ({$(fn $name:ident($($argument:ident: $type:ty,)*) $(-> $answer:ty)?;)*}) => {
+            /// A pointer to each function: every level is called by the same code.
+            pub struct Functions {
+                $(pub(super) $name: unsafe extern "C" fn($($type),*) $(-> $answer)?,)*
+            }
+        };
+    }
+
+    /// The functions of one level, whose names in the archives end in its suffix.
+    macro_rules! at_level {
+        (($at:ident $suffix:literal)
+         {$(fn $name:ident($($argument:ident: $type:ty,)*) $(-> $answer:ty)?;)*}) => {
+            static $at: Functions = {
+                extern "C" {
+                    $(
+                        #[link_name = concat!(stringify!($name), $suffix)]
+                        fn $name($($argument: $type),*) $(-> $answer)?;
+                    )*
+                }
+                Functions { $($name,)* }
+            };
+        };
+    }
+
+    // On x86-64 the place of a large answer is a hidden first argument. It is said here where a box
+    // is called, since rustc would have a copy made of the answer that a C compiler need not make.
+    functions!([(PLAIN "_x86_64") (V3 "_x86_64_v3") (V4 "_x86_64_v4")] {
+        fn cipher_stream(key: &Key, nonce: &Nonce, out: *mut u32, words: usize,);
         fn cipher_seal(
             key: &Key,
             nonce: &Nonce,
@@ -71,13 +108,10 @@ pub mod ours {
             text_len: usize,
             tag: &Tag,
         ) -> bool;
-    }
 
-    #[link(name = "check_c", kind = "static")]
-    extern "C" {
-        fn check_key(k0: &Seed, k1: &Seed, point: u32) -> ComparisonKey;
-        fn check_value(key: ComparisonKey, seed: &Seed, party: u32, u: u32) -> u32;
-        fn check_answer(key: ComparisonKey, seed: &Seed, party: u32, z: u32) -> u32;
+        fn check_key(k0: &Seed, k1: &Seed, point: u32,) -> ComparisonKey;
+        fn check_value(key: ComparisonKey, seed: &Seed, party: u32, u: u32,) -> u32;
+        fn check_answer(key: ComparisonKey, seed: &Seed, party: u32, z: u32,) -> u32;
         fn check_mask(
             v: *const u32,
             v_len: usize,
@@ -102,221 +136,7 @@ pub mod ours {
             sy: *const u32,
             sy_len: usize,
         ) -> u32;
-    }
 
-    pub fn key(seeds: &[Seed; 2], point: u32) -> ComparisonKey {
-        unsafe { check_key(&seeds[0], &seeds[1], point) }
-    }
-
-    pub fn value(key: &ComparisonKey, seed: &Seed, party: u32, u: u32) -> u32 {
-        unsafe { check_value(*key, seed, party, u) }
-    }
-
-    pub fn answer(key: &ComparisonKey, seed: &Seed, party: u32, z: u32) -> u32 {
-        unsafe { check_answer(*key, seed, party, z) }
-    }
-
-    pub fn mask(v: &[u32], m: &[u32], out: &mut [u32]) {
-        let (v, v_len) = (v.as_ptr(), v.len());
-        let (m, m_len) = (m.as_ptr(), m.len());
-        let (out, out_len) = (out.as_mut_ptr(), out.len());
-        let ok = unsafe { check_mask(v, v_len, m, m_len, out, out_len) };
-        assert!(ok, "check_mask");
-    }
-
-    /// What a party's word is made of: its own vector, both masked vectors, and its shares of the
-    /// two masks.
-    pub struct Word<'a> {
-        pub code: u32,
-        pub party: u32,
-        pub c: u32,
-        pub r: u32,
-        pub v: &'a [u32],
-        pub mx: &'a [u32],
-        pub my: &'a [u32],
-        pub sx: &'a [u32],
-        pub sy: &'a [u32],
-    }
-
-    pub fn word(w: &Word) -> u32 {
-        let (v, v_len) = (w.v.as_ptr(), w.v.len());
-        let (mx, mx_len) = (w.mx.as_ptr(), w.mx.len());
-        let (my, my_len) = (w.my.as_ptr(), w.my.len());
-        let (sx, sx_len) = (w.sx.as_ptr(), w.sx.len());
-        let (sy, sy_len) = (w.sy.as_ptr(), w.sy.len());
-        unsafe {
-            check_word(
-                w.code, w.party, w.c, w.r, v, v_len, mx, mx_len, my, my_len, sx, sx_len, sy, sy_len,
-            )
-        }
-    }
-
-    pub fn stream(key: &Key, nonce: &Nonce, out: &mut [u32]) {
-        unsafe { cipher_stream(key, nonce, out.as_mut_ptr(), out.len()) }
-    }
-
-    pub fn seal(key: &Key, nonce: &Nonce, aad: &[u8], text: &mut [u8]) -> Tag {
-        let mut tag = [0; 16];
-        let (text, text_len) = (text.as_mut_ptr(), text.len());
-        let (aad, aad_len) = (aad.as_ptr(), aad.len());
-        let ok = unsafe { cipher_seal(key, nonce, aad, aad_len, text, text_len, &mut tag) };
-        assert!(ok, "cipher_seal");
-        tag
-    }
-
-    pub fn open(key: &Key, nonce: &Nonce, aad: &[u8], text: &mut [u8], tag: &Tag) -> bool {
-        let (text, text_len) = (text.as_mut_ptr(), text.len());
-        let (aad, aad_len) = (aad.as_ptr(), aad.len());
-        unsafe { cipher_open(key, nonce, aad, aad_len, text, text_len, tag) }
-    }
-}
-
-/// The verified calls of dealer, box and lock: crates/door_c and crates/lock_c.
-pub mod door {
-    use super::ours::ComparisonKey;
-    use super::*;
-    use crate::calls::Step;
-    use second::dealer::Order;
-    use second::lock::Answer;
-    use second::message::Label;
-    use second::{dcf, party};
-    use std::mem::MaybeUninit;
-
-    /// A dealer's state, as crates/dealer has it.
-    #[repr(C)]
-    #[derive(Clone, Copy)]
-    pub struct Dealer {
-        name: [u8; 16],
-        key0: Key,
-        key1: Key,
-        last: u64,
-    }
-
-    #[repr(C)]
-    pub struct DealerAnswer {
-        pub why: u32,
-        dealer: Dealer,
-    }
-
-    /// An opened set, as crates/content has it.
-    #[repr(C)]
-    #[derive(Clone, Copy)]
-    pub struct Set {
-        number: u64,
-        code: u32,
-        n: usize,
-        mask: [u32; 512],
-        x: [u32; 512],
-        y: [u32; 512],
-        c: u32,
-        r: u32,
-        seed: dcf::Seed,
-        key: ComparisonKey,
-    }
-
-    /// A box's state, as crates/party has it.
-    #[repr(C)]
-    #[derive(Clone, Copy)]
-    pub struct Party {
-        name: [u8; 16],
-        party: u32,
-        key: Key,
-        last: u64,
-        phase: u32,
-        set: Set,
-        masked: [u32; 512],
-        own: u32,
-        word: u32,
-    }
-
-    /// What a call on a box answers: the next state is in it.
-    #[repr(C)]
-    #[derive(Clone, Copy)]
-    pub struct PartyAnswer {
-        pub why: u32,
-        party: Party,
-        pub word: u32,
-    }
-
-    impl PartyAnswer {
-        /// The state as the second implementation has it.
-        pub fn plain(&self) -> party::Party {
-            let Party { set, .. } = &self.party;
-            party::Party {
-                name: self.party.name,
-                party: self.party.party,
-                key: self.party.key,
-                last: self.party.last,
-                phase: self.party.phase,
-                set: party::OpenSet {
-                    number: set.number,
-                    code: set.code,
-                    length: set.n as u32,
-                    own_mask: set.mask,
-                    x_share: set.x,
-                    y_share: set.y,
-                    c: set.c,
-                    r: set.r,
-                    seed: set.seed,
-                    key: set.key.plain(),
-                },
-                check: party::Check {
-                    masked: self.party.masked,
-                    own: self.party.own,
-                    word: self.party.word,
-                },
-            }
-        }
-
-        /// A call as a host makes it: the answer's state takes the place of this one.
-        pub fn step(&mut self, step: Step) {
-            let mut answer = MaybeUninit::uninit();
-            unsafe {
-                self.answer(answer.as_mut_ptr(), step);
-                *self = answer.assume_init();
-            }
-        }
-
-        /// The same, but the answer is left elsewhere.
-        pub fn step_to(&self, next: &mut PartyAnswer, step: Step) {
-            unsafe { self.answer(next, step) }
-        }
-
-        /// Writes the whole answer: there must be room for it, and it may be uninitialised. The
-        /// state is handed over by value and stays as it is.
-        unsafe fn answer(&self, answer: *mut PartyAnswer, step: Step) {
-            let party = self.party;
-            match step {
-                Step::Load(half) => door_load(answer, party, half.as_ptr(), half.len()),
-                Step::Mask(v, out) => {
-                    let (out, out_len) = (out.as_mut_ptr(), out.len());
-                    door_mask(answer, party, v.as_ptr(), v.len(), out, out_len)
-                }
-                Step::Take(label, v) => {
-                    let (kind, name, len, sender, number) = apart(&label);
-                    let (v, v_len) = (v.as_ptr(), v.len());
-                    door_take(answer, party, kind, name, len, sender, number, v, v_len)
-                }
-                Step::Finish(label, word) => {
-                    let (kind, name, len, sender, number) = apart(&label);
-                    door_finish(answer, party, kind, name, len, sender, number, word)
-                }
-                Step::Drop => door_drop(answer, party),
-            }
-        }
-    }
-
-    /// Kind, name with its length, sender and number, as the functions take them.
-    fn apart(label: &Label) -> (u32, *const u8, usize, u32, u64) {
-        let (kind, sender) = (label.kind as u32, label.sender as u32);
-        let (name, name_len) = (label.name.as_ptr(), label.name.len());
-        (kind, name, name_len, sender, label.number)
-    }
-
-    // On x86-64 the place of a large answer is a hidden first argument. It is said here where a box
-    // is called, since rustc would have a copy made of the answer that a C compiler need not make.
-    #[link(name = "door_c", kind = "static")]
-    extern "C" {
         fn door_start_dealer(
             name: *const u8,
             name_len: usize,
@@ -347,7 +167,12 @@ pub mod door {
             key_len: usize,
             floor: u64,
         ) -> PartyAnswer;
-        fn door_load(answer: *mut PartyAnswer, party: Party, half: *const u8, half_len: usize);
+        fn door_load(
+            answer: *mut PartyAnswer,
+            party: Party,
+            half: *const u8,
+            half_len: usize,
+        );
         fn door_mask(
             answer: *mut PartyAnswer,
             party: Party,
@@ -377,11 +202,8 @@ pub mod door {
             number: u64,
             word: u32,
         );
-        fn door_drop(answer: *mut PartyAnswer, party: Party);
-    }
+        fn door_drop(answer: *mut PartyAnswer, party: Party,);
 
-    #[link(name = "lock_c", kind = "static")]
-    extern "C" {
         fn lock_join(
             name: *const u8,
             name_len: usize,
@@ -399,59 +221,333 @@ pub mod door {
             number1: u64,
             answer1: u32,
         ) -> u32;
+    });
+
+    /// Ours at one level.
+    #[derive(Clone, Copy)]
+    pub struct Ours {
+        pub(super) level: Level,
+        pub(super) functions: &'static Functions,
     }
 
-    pub fn start_dealer(name: &[u8], floor: u64, keys: &[Key; 2]) -> Dealer {
-        let (name, name_len) = (name.as_ptr(), name.len());
-        let [key0, key1] = keys.each_ref().map(|key| key.as_ptr());
-        let answer = unsafe { door_start_dealer(name, name_len, key0, 32, key1, 32, floor) };
-        assert_eq!(answer.why, 0, "door_start_dealer");
-        answer.dealer
-    }
-
-    /// Writes both halves, and answers why not.
-    pub fn deal(dealer: &Dealer, order: &Order, out: [&mut [u8]; 2]) -> u32 {
-        let (code, length) = (order.code as u32, order.length as usize);
-        let (seed, seed_len) = (order.seed.as_ptr(), order.seed.len());
-        let [(out0, out0_len), (out1, out1_len)] = out.map(|out| (out.as_mut_ptr(), out.len()));
-        let answer = unsafe {
-            door_deal(
-                *dealer,
-                order.number,
-                seed,
-                seed_len,
-                code,
-                length,
-                order.threshold,
-                out0,
-                out0_len,
-                out1,
-                out1_len,
-            )
-        };
-        answer.why
-    }
-
-    pub fn start_party(name: &[u8], party: u32, key: &Key, floor: u64) -> PartyAnswer {
-        let (name, name_len) = (name.as_ptr(), name.len());
-        let (key, key_len) = (key.as_ptr(), key.len());
-        let answer = unsafe { door_start_party(name, name_len, party, key, key_len, floor) };
-        assert_eq!(answer.why, 0, "door_start_party");
-        answer
-    }
-
-    /// 0 or 1, or 100 plus the refusal's number.
-    pub fn join(name: &[u8], last: u64, answers: [&Answer; 2]) -> u32 {
-        let [(kind0, name0, len0, sender0, number0), (kind1, name1, len1, sender1, number1)] =
-            answers.map(|answer| apart(&answer.label));
-        let [answer0, answer1] = answers.map(|answer| answer.answer);
-        let (name, len) = (name.as_ptr(), name.len());
-        unsafe {
-            lock_join(
-                name, len, last, kind0, name0, len0, sender0, number0, answer0, kind1, name1, len1,
-                sender1, number1, answer1,
-            )
+    impl Ours {
+        /// There is none where the processor does not have the level, so that all of it may be
+        /// called.
+        pub fn at(level: Level) -> Option<Ours> {
+            let functions = match level {
+                Level::Plain => &PLAIN,
+                Level::V3 => &V3,
+                Level::V4 => &V4,
+            };
+            level.fits().then_some(Ours { level, functions })
         }
+
+        pub fn plain() -> Ours {
+            Ours::at(Level::Plain).expect("every processor has the plain level")
+        }
+
+        /// At every level that the processor has.
+        pub fn all() -> impl Iterator<Item = Ours> {
+            Level::present().into_iter().filter_map(Ours::at)
+        }
+
+        pub fn key(self, seeds: &[Seed; 2], point: u32) -> ComparisonKey {
+            unsafe { (self.functions.check_key)(&seeds[0], &seeds[1], point) }
+        }
+
+        pub fn value(self, key: &ComparisonKey, seed: &Seed, party: u32, u: u32) -> u32 {
+            unsafe { (self.functions.check_value)(*key, seed, party, u) }
+        }
+
+        pub fn answer(self, key: &ComparisonKey, seed: &Seed, party: u32, z: u32) -> u32 {
+            unsafe { (self.functions.check_answer)(*key, seed, party, z) }
+        }
+
+        pub fn mask(self, v: &[u32], m: &[u32], out: &mut [u32]) {
+            let (v, v_len) = (v.as_ptr(), v.len());
+            let (m, m_len) = (m.as_ptr(), m.len());
+            let (out, out_len) = (out.as_mut_ptr(), out.len());
+            let ok = unsafe { (self.functions.check_mask)(v, v_len, m, m_len, out, out_len) };
+            assert!(ok, "check_mask");
+        }
+
+        pub fn word(self, w: &Word) -> u32 {
+            let (v, v_len) = (w.v.as_ptr(), w.v.len());
+            let (mx, mx_len) = (w.mx.as_ptr(), w.mx.len());
+            let (my, my_len) = (w.my.as_ptr(), w.my.len());
+            let (sx, sx_len) = (w.sx.as_ptr(), w.sx.len());
+            let (sy, sy_len) = (w.sy.as_ptr(), w.sy.len());
+            unsafe {
+                (self.functions.check_word)(
+                    w.code, w.party, w.c, w.r, v, v_len, mx, mx_len, my, my_len, sx, sx_len, sy,
+                    sy_len,
+                )
+            }
+        }
+
+        pub fn stream(self, key: &Key, nonce: &Nonce, out: &mut [u32]) {
+            unsafe { (self.functions.cipher_stream)(key, nonce, out.as_mut_ptr(), out.len()) }
+        }
+
+        pub fn seal(self, key: &Key, nonce: &Nonce, aad: &[u8], text: &mut [u8]) -> Tag {
+            let mut tag = [0; 16];
+            let seal = self.functions.cipher_seal;
+            let (text, text_len) = (text.as_mut_ptr(), text.len());
+            let (aad, aad_len) = (aad.as_ptr(), aad.len());
+            let ok = unsafe { seal(key, nonce, aad, aad_len, text, text_len, &mut tag) };
+            assert!(ok, "cipher_seal");
+            tag
+        }
+
+        pub fn open(
+            self,
+            key: &Key,
+            nonce: &Nonce,
+            aad: &[u8],
+            text: &mut [u8],
+            tag: &Tag,
+        ) -> bool {
+            let open = self.functions.cipher_open;
+            let (text, text_len) = (text.as_mut_ptr(), text.len());
+            let (aad, aad_len) = (aad.as_ptr(), aad.len());
+            unsafe { open(key, nonce, aad, aad_len, text, text_len, tag) }
+        }
+    }
+
+    /// What a party's word is made of: its own vector, both masked vectors, and its shares of the
+    /// two masks.
+    #[derive(Clone, Copy)]
+    pub struct Word<'a> {
+        pub code: u32,
+        pub party: u32,
+        pub c: u32,
+        pub r: u32,
+        pub v: &'a [u32],
+        pub mx: &'a [u32],
+        pub my: &'a [u32],
+        pub sx: &'a [u32],
+        pub sy: &'a [u32],
+    }
+}
+
+/// The verified calls of dealer, box and lock, and their states.
+pub mod door {
+    use super::ours::{ComparisonKey, Ours};
+    use super::*;
+    use crate::calls::{Calls, Said, States, Step};
+    use crate::measure::Who;
+    use second::dealer::Order;
+    use second::lock::Answer;
+    use second::message::Label;
+    use second::{dcf, party};
+    use std::mem::MaybeUninit;
+
+    /// A dealer's state, as crates/dealer has it.
+    #[repr(C)]
+    #[derive(Clone, Copy, PartialEq)]
+    pub struct Dealer {
+        name: [u8; 16],
+        key0: Key,
+        key1: Key,
+        last: u64,
+    }
+
+    #[repr(C)]
+    pub struct DealerAnswer {
+        pub why: u32,
+        dealer: Dealer,
+    }
+
+    /// An opened set, as crates/content has it.
+    #[repr(C)]
+    #[derive(Clone, Copy, PartialEq)]
+    pub struct Set {
+        number: u64,
+        code: u32,
+        n: usize,
+        mask: [u32; 512],
+        x: [u32; 512],
+        y: [u32; 512],
+        c: u32,
+        r: u32,
+        seed: dcf::Seed,
+        key: ComparisonKey,
+    }
+
+    /// A box's state, as crates/party has it.
+    #[repr(C)]
+    #[derive(Clone, Copy, PartialEq)]
+    pub struct Party {
+        name: [u8; 16],
+        party: u32,
+        key: Key,
+        last: u64,
+        phase: u32,
+        set: Set,
+        masked: [u32; 512],
+        own: u32,
+        word: u32,
+    }
+
+    /// What a call on a box answers: the next state is in it.
+    #[repr(C)]
+    #[derive(Clone, Copy, PartialEq)]
+    pub struct PartyAnswer {
+        why: u32,
+        party: Party,
+        word: u32,
+    }
+
+    impl PartyAnswer {
+        fn said(&self) -> Said {
+            let PartyAnswer { why, word, .. } = *self;
+            Said { why, word }
+        }
+
+        /// The state as the second implementation has it.
+        pub fn plain(&self) -> party::Party {
+            let Party { set, .. } = &self.party;
+            party::Party {
+                name: self.party.name,
+                party: self.party.party,
+                key: self.party.key,
+                last: self.party.last,
+                phase: self.party.phase,
+                set: party::OpenSet {
+                    number: set.number,
+                    code: set.code,
+                    length: set.n as u32,
+                    own_mask: set.mask,
+                    x_share: set.x,
+                    y_share: set.y,
+                    c: set.c,
+                    r: set.r,
+                    seed: set.seed,
+                    key: set.key.plain(),
+                },
+                check: party::Check {
+                    masked: self.party.masked,
+                    own: self.party.own,
+                    word: self.party.word,
+                },
+            }
+        }
+    }
+
+    impl Calls for Ours {
+        type Dealer = Dealer;
+        type Party = PartyAnswer;
+
+        fn who(self) -> Who {
+            Who::Ours(self.level)
+        }
+
+        fn start_dealer(self, name: &[u8], floor: u64, keys: &[Key; 2]) -> Dealer {
+            let start = self.functions.door_start_dealer;
+            let (name, name_len) = (name.as_ptr(), name.len());
+            let [key0, key1] = keys.each_ref().map(|key| key.as_ptr());
+            let answer = unsafe { start(name, name_len, key0, 32, key1, 32, floor) };
+            assert_eq!(answer.why, 0, "door_start_dealer");
+            answer.dealer
+        }
+
+        fn deal(self, dealer: &Dealer, order: &Order, out: [&mut [u8]; 2]) -> u32 {
+            let (code, length) = (order.code as u32, order.length as usize);
+            let (seed, seed_len) = (order.seed.as_ptr(), order.seed.len());
+            let [(out0, out0_len), (out1, out1_len)] = out.map(|out| (out.as_mut_ptr(), out.len()));
+            let answer = unsafe {
+                (self.functions.door_deal)(
+                    *dealer,
+                    order.number,
+                    seed,
+                    seed_len,
+                    code,
+                    length,
+                    order.threshold,
+                    out0,
+                    out0_len,
+                    out1,
+                    out1_len,
+                )
+            };
+            answer.why
+        }
+
+        fn start_party(self, name: &[u8], party: usize, key: &Key, floor: u64) -> PartyAnswer {
+            let start = self.functions.door_start_party;
+            let (name, name_len) = (name.as_ptr(), name.len());
+            let (key, key_len) = (key.as_ptr(), key.len());
+            let answer = unsafe { start(name, name_len, party as u32, key, key_len, floor) };
+            assert_eq!(answer.why, 0, "door_start_party");
+            answer
+        }
+
+        fn step(self, party: &mut PartyAnswer, step: Step) -> Said {
+            let mut answer = MaybeUninit::uninit();
+            unsafe {
+                self.call(party, answer.as_mut_ptr(), step);
+                *party = answer.assume_init();
+            }
+            party.said()
+        }
+
+        fn step_to(self, party: &PartyAnswer, next: &mut PartyAnswer, step: Step) -> Said {
+            unsafe { self.call(party, next, step) };
+            next.said()
+        }
+
+        fn join(self, name: &[u8], last: u64, answers: [&Answer; 2]) -> u32 {
+            let [(kind0, name0, len0, sender0, number0), (kind1, name1, len1, sender1, number1)] =
+                answers.map(|answer| apart(&answer.label));
+            let [answer0, answer1] = answers.map(|answer| answer.answer);
+            let (name, len) = (name.as_ptr(), name.len());
+            unsafe {
+                (self.functions.lock_join)(
+                    name, len, last, kind0, name0, len0, sender0, number0, answer0, kind1, name1,
+                    len1, sender1, number1, answer1,
+                )
+            }
+        }
+
+        fn states(states: &mut States) -> &mut [PartyAnswer; 2] {
+            &mut states.ours
+        }
+    }
+
+    impl Ours {
+        /// Writes the whole answer: there must be room for it, and it may be uninitialised. The
+        /// state is handed over by value and stays as it is. Not taken into its callers, whose
+        /// frames the stack of all calls is counted from.
+        #[inline(never)]
+        unsafe fn call(self, party: &PartyAnswer, answer: *mut PartyAnswer, step: Step) {
+            let (functions, party) = (self.functions, party.party);
+            match step {
+                Step::Load(half) => (functions.door_load)(answer, party, half.as_ptr(), half.len()),
+                Step::Mask(v, out) => {
+                    let (out, out_len) = (out.as_mut_ptr(), out.len());
+                    (functions.door_mask)(answer, party, v.as_ptr(), v.len(), out, out_len)
+                }
+                Step::Take(label, v) => {
+                    let (kind, name, len, sender, number) = apart(&label);
+                    let (v, v_len) = (v.as_ptr(), v.len());
+                    let take = functions.door_take;
+                    take(answer, party, kind, name, len, sender, number, v, v_len)
+                }
+                Step::Finish(label, word) => {
+                    let (kind, name, len, sender, number) = apart(&label);
+                    let finish = functions.door_finish;
+                    finish(answer, party, kind, name, len, sender, number, word)
+                }
+                Step::Drop => (functions.door_drop)(answer, party),
+            }
+        }
+    }
+
+    /// Kind, name with its length, sender and number, as the functions take them.
+    fn apart(label: &Label) -> (u32, *const u8, usize, u32, u64) {
+        let (kind, sender) = (label.kind as u32, label.sender as u32);
+        let (name, name_len) = (label.name.as_ptr(), label.name.len());
+        (kind, name, name_len, sender, label.number)
     }
 
     /// The structs of the calls, with their sizes in bytes.
@@ -501,6 +597,25 @@ pub mod stack {
         }
         assert!(lowest > bottom, "the call goes deeper than what is painted");
         here - lowest
+    }
+}
+
+/// The upper halves of the vector registers.
+pub mod vectors {
+    use std::arch::is_x86_feature_detected;
+    use std::arch::x86_64::_mm256_zeroupper;
+
+    /// OpenSSL's sealing leaves them in use, and on some processors code for SSE2 then takes twice
+    /// its time, until they are cleared.
+    pub fn clear_upper() {
+        if is_x86_feature_detected!("avx") {
+            unsafe { zero_upper() }
+        }
+    }
+
+    #[target_feature(enable = "avx")]
+    fn zero_upper() {
+        _mm256_zeroupper();
     }
 }
 

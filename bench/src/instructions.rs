@@ -2,8 +2,9 @@
 
 use crate::cases::{Case, ACCEPTED, REFUSED};
 use crate::door::Door;
+use crate::level::{Level, LACKING};
 use crate::measure::Who;
-use crate::report::{by_length, LENGTHS};
+use crate::report::{by_length, Columns, LENGTHS};
 use crate::table::Table;
 use second::measure::Measure;
 use std::env;
@@ -18,26 +19,41 @@ const CALLS: [u32; 2] = [5, 25];
 const TUNABLES: &str = "glibc.cpu.x86_rep_movsb_threshold=1000000000:\
                         glibc.cpu.x86_rep_stosb_threshold=1000000000";
 
-const WHOS: [(Who, &str); 2] = [(Who::Ours, "ours"), (Who::Second, "second")];
+/// Who is asked for, as `--once` takes it.
+const WHOS: [(&str, Who); 4] = [
+    ("ours", Who::Ours(Level::Plain)),
+    ("ours-v3", Who::Ours(Level::V3)),
+    ("ours-v4", Who::Ours(Level::V4)),
+    ("second", Who::Second),
+];
 
-pub fn table() -> Result<Table, String> {
+const COUNT_AND_RATIO: Columns = Columns {
+    names: ["ours", "second/ours"],
+    cells: |[ours, second]| [format!("{ours:.0}"), format!("{:.2}", second / ours)],
+};
+
+/// The instructions of ours at a level of this name.
+pub fn table(level: &str) -> Result<Table, String> {
+    let found = |(_, who): &&(&str, Who)| matches!(who, Who::Ours(at) if at.name() == level);
+    let (ours, _) = WHOS.iter().find(found).ok_or("no such level")?;
     let mut calls = Vec::new();
     for case in &ACCEPTED {
         eprintln!("bench: counting {}", case.name);
         let numbers = LENGTHS.iter().map(|&length| {
-            let [ours, second] = WHOS.map(|(_, who)| of_call(case.name, length, who));
+            let [ours, second] = [ours, "second"].map(|who| of_call(case.name, length, who));
             Ok([ours?, second?])
         });
-        calls.push((case.name, numbers.collect::<Result<Vec<_>, String>>()?));
+        let numbers = numbers.collect::<Result<Vec<_>, String>>()?;
+        calls.push((case.name.to_string(), numbers));
     }
-    let cells = |[ours, second]: [f64; 2]| [format!("{ours:.0}"), format!("{:.2}", second / ours)];
-    let mut table = by_length("Instructions", ["ours", "second/ours"], &calls, cells);
+    let title = format!("Instructions, {level}");
+    let mut table = by_length(title, COUNT_AND_RATIO, &calls);
     table
         .notes
         .push("second/ours: 2.00 is half as many of ours".to_string());
     table.notes.push(
-        "counted by valgrind's callgrind; the copy by which a box's state is handed over by value is \
-         1,203 of ours (a repeated move of 8 bytes)"
+        "counted by valgrind's callgrind; the copy by which a box's state is handed over by value \
+         is 1,203 of ours (a repeated move of 8 bytes)"
             .to_string(),
     );
     Ok(table)
@@ -74,10 +90,12 @@ pub fn once(call: &str, length: &str, who: &str, calls: &str) -> Result<(), Stri
     let case = cases.find(found).ok_or("no such call")?;
     let length: usize = length.parse().map_err(|_| "L is a number")?;
     let calls: u32 = calls.parse().map_err(|_| "a count is a number")?;
-    let (who, _) = WHOS
-        .into_iter()
-        .find(|(_, name)| *name == who)
-        .ok_or("ours or second")?;
+    let asked = |(name, _): &(&str, Who)| *name == who;
+    let found = WHOS.into_iter().find(asked);
+    let (_, who) = found.ok_or("ours, ours-v3, ours-v4 or second")?;
+    if matches!(who, Who::Ours(level) if !level.fits()) {
+        return Err(LACKING.to_string());
+    }
     let door = Door::new(Measure::Scalar, length);
     let mut row = case.row(&door);
     let way = row.way(who);

@@ -1,4 +1,5 @@
-//! Times the verified cipher, check and calls beside libsodium, OpenSSL and the second implementation.
+//! Times the verified cipher, check and calls, at each level of x86-64, beside libsodium, OpenSSL
+//! and the second implementation.
 
 #![deny(unsafe_code)]
 
@@ -8,6 +9,7 @@ mod check;
 mod door;
 mod foreign;
 mod instructions;
+mod level;
 mod measure;
 mod memory;
 mod plot;
@@ -15,15 +17,18 @@ mod report;
 mod rows;
 mod table;
 
-use cases::{Case, ACCEPTED, COPY_STATE, REFUSED, WHOLE_CHECK};
+use cases::{Case, ACCEPTED, COPY_STATE, REFUSED, WHOLE_CHECK_EUCLID};
 use door::Door;
+use level::Level;
 use measure::Row;
 use report::LENGTHS;
 use second::measure::Measure;
 use std::process::ExitCode;
 use table::{Style, Table};
 
-const USAGE: &str = "usage: bench/run [--instructions] [--markdown], or bench/run --plot";
+const USAGE: &str = "usage: bench/run [--markdown]
+       bench/run --instructions [LEVEL] [--markdown]
+       bench/run --plot";
 
 /// How often each row has its turn; a row that takes long in a turn has fewer.
 const ROUNDS: usize = 3000;
@@ -31,11 +36,14 @@ const ROUNDS: usize = 3000;
 fn main() -> ExitCode {
     let arguments: Vec<String> = std::env::args().skip(1).collect();
     let names: Vec<&str> = arguments.iter().map(String::as_str).collect();
-    let result = match names[..] {
-        [] => times().map(|tables| text(&tables, Style::Plain)),
-        ["--markdown"] => times().map(|tables| text(&tables, Style::Markdown)),
-        ["--instructions"] => counts(Style::Plain),
-        ["--instructions", "--markdown"] => counts(Style::Markdown),
+    let (names, style) = match names.split_last() {
+        Some((&"--markdown", names)) => (names, Style::Markdown),
+        _ => (&names[..], Style::Plain),
+    };
+    let result = match *names {
+        [] => times().map(|tables| text(&tables, style)),
+        ["--instructions"] => counts(Level::Plain.name(), style),
+        ["--instructions", level] => counts(level, style),
         ["--plot"] => plot::write(),
         ["--once", call, length, who, calls] => {
             instructions::once(call, length, who, calls).map(|()| String::new())
@@ -59,8 +67,8 @@ fn text(tables: &[Table], style: Style) -> String {
     texts.join("\n")
 }
 
-fn counts(style: Style) -> Result<String, String> {
-    instructions::table().map(|table| table.text(style))
+fn counts(level: &str, style: Style) -> Result<String, String> {
+    instructions::table(level).map(|table| table.text(style))
 }
 
 /// Nothing is timed before all rows are checked: a wrong answer has no speed.
@@ -72,7 +80,7 @@ fn times() -> Result<Vec<Table>, String> {
     let mut rows = rows::rows(&input);
     let operations = rows.len();
     rows.extend(ACCEPTED.iter().flat_map(|case| of_case(case, &scalar)));
-    rows.extend(of_case(&WHOLE_CHECK, &euclid));
+    rows.extend(of_case(&WHOLE_CHECK_EUCLID, &euclid));
     rows.extend(of_case(&COPY_STATE, &scalar));
     let calls = rows.len();
     rows.extend(REFUSED.iter().flat_map(|case| of_case(case, &scalar)));
@@ -80,13 +88,12 @@ fn times() -> Result<Vec<Table>, String> {
         row.check()?;
     }
     let timings = measure::measure(&mut rows, ROUNDS);
-    Ok(vec![
-        report::operations(&timings[..operations]),
-        report::accepted(&timings[operations..calls]),
-        report::refused(&timings[calls..]),
-        memory::sizes(),
-        memory::depths(),
-    ])
+    let mut tables = vec![report::glance(&timings), report::whole_checks(&timings)];
+    tables.extend(report::operations(&timings[..operations]));
+    tables.extend(report::accepted(&timings[operations..calls]));
+    tables.extend(report::refused(&timings[calls..]));
+    tables.extend([memory::sizes(), memory::depths()]);
+    Ok(tables)
 }
 
 /// A row of the case at each door.

@@ -1,41 +1,66 @@
 //! Times rows: operations that several implementations can do, in short slices that take turns.
 
+use crate::foreign::vectors;
+use crate::level::Level;
 use std::time::{Duration, Instant};
 
 /// A slice lasts from half of this to all of it, or one call where that takes longer: long beside
 /// a look at the clock, and short enough that nothing disturbs many of them.
 const SLICE: Duration = Duration::from_micros(100);
 
-/// Code of libsodium and OpenSSL may use AVX-512, after which the processor's clock is slower for
-/// most of a millisecond: so long nothing is timed.
+/// After code with AVX-512 a processor's clock may be slower for most of a millisecond: so long
+/// nothing is timed.
 const WIDE_PAUSE: Duration = Duration::from_micros(1000);
 
 const LONG_TURN: Duration = Duration::from_millis(2);
 
+/// Some processors take a load for one of a store just before if the lowest 12 bits of their
+/// addresses are alike, and a loop over two vectors can take several times as long at such places. So
+/// a row has several buffers, and its slices go from one to the next.
+const BUFFERS: usize = 4;
+
 #[derive(Clone, Copy, PartialEq, Debug)]
 pub enum Who {
-    Ours,
+    Ours(Level),
     Sodium,
     OpenSsl,
     Second,
 }
 
+/// Who has a turn after whom: those that may use AVX-512 come last.
+const ORDER: [Who; 6] = [
+    Who::Ours(Level::Plain),
+    Who::Second,
+    Who::Ours(Level::V3),
+    Who::Ours(Level::V4),
+    Who::Sodium,
+    Who::OpenSsl,
+];
+
+impl Who {
+    fn may_use_avx512(self) -> bool {
+        matches!(self, Who::Ours(Level::V4) | Who::Sodium | Who::OpenSsl)
+    }
+}
+
 /// How one implementation does the operation of a row: it leaves its answer in the buffer.
 pub struct Way<'a, T> {
     who: Who,
+    /// The place of the buffer of its last slice.
+    buffer: usize,
     run: Box<dyn FnMut(&mut T) + 'a>,
 }
 
 pub fn way<'a, T>(who: Who, run: impl FnMut(&mut T) + 'a) -> Way<'a, T> {
-    let run = Box::new(run);
-    Way { who, run }
+    let (buffer, run) = (0, Box::new(run));
+    Way { who, buffer, run }
 }
 
-/// An operation and the ways to do it. They share one buffer, so that none has a better place in
+/// An operation and the ways to do it. They share the buffers, so that none has a better place in
 /// memory than another.
 struct Operation<'a, T> {
     name: String,
-    buffer: T,
+    buffers: Vec<T>,
     ways: Vec<Way<'a, T>>,
 }
 
@@ -60,8 +85,11 @@ pub fn row<'a, T: Clone + PartialEq + 'a>(
     buffer: T,
     ways: Vec<Way<'a, T>>,
 ) -> Box<dyn Row + 'a> {
-    let name = name.to_string();
-    Box::new(Operation { name, buffer, ways })
+    Box::new(Operation {
+        name: name.to_string(),
+        buffers: vec![buffer; BUFFERS],
+        ways,
+    })
 }
 
 impl<T: Clone + PartialEq> Row for Operation<'_, T> {
@@ -76,9 +104,9 @@ impl<T: Clone + PartialEq> Row for Operation<'_, T> {
     fn check(&mut self) -> Result<(), String> {
         let mut answers = Vec::new();
         for way in &mut self.ways {
-            let mut buffer = self.buffer.clone();
+            let mut buffer = self.buffers[0].clone();
             (way.run)(&mut buffer);
-            if buffer == self.buffer {
+            if buffer == self.buffers[0] {
                 return Err(format!("{}: {:?} did nothing", self.name, way.who));
             }
             answers.push((way.who, buffer));
@@ -91,12 +119,15 @@ impl<T: Clone + PartialEq> Row for Operation<'_, T> {
     }
 
     fn time(&mut self, way: usize, calls: u32) -> Duration {
-        let run = &mut self.ways[way].run;
+        let Way { buffer, run, .. } = &mut self.ways[way];
+        *buffer = (*buffer + 1) % BUFFERS;
+        let buffer = &mut self.buffers[*buffer];
+        vectors::clear_upper();
         // One call before the clock starts: another implementation has just been using the caches.
-        run(&mut self.buffer);
+        run(buffer);
         let start = Instant::now();
         for _ in 0..calls {
-            run(&mut self.buffer);
+            run(buffer);
         }
         start.elapsed()
     }
@@ -150,65 +181,72 @@ impl Timing {
         found.map(|(_, time)| *time)
     }
 
-    pub fn ours(&self) -> f64 {
-        self.of(Who::Ours).expect("every row has ours")
+    pub fn ours(&self, level: Level) -> f64 {
+        let ours = self.of(Who::Ours(level));
+        ours.expect("every row has ours at the levels of this processor")
     }
 }
 
 /// A row being timed.
 struct Turns<'a, 'b> {
     row: &'a mut (dyn Row + 'b),
+    whos: Vec<Who>,
     clocks: Vec<Clock>,
     /// The row has a turn in every so many rounds.
     every: usize,
-    taken: usize,
 }
 
 impl<'a, 'b> Turns<'a, 'b> {
     fn new(row: &'a mut (dyn Row + 'b)) -> Turns<'a, 'b> {
-        let ways = 0..row.whos().len();
+        let whos = row.whos();
+        let ways = 0..whos.len();
         let clocks: Vec<Clock> = ways.map(|way| Clock::new(row, way)).collect();
         let turn: Duration = clocks.iter().map(|clock| clock.best).sum();
         let every = turn.as_nanos().div_ceil(LONG_TURN.as_nanos()) as usize;
-        let taken = 0;
         Turns {
             row,
+            whos,
             clocks,
             every,
-            taken,
         }
     }
 
-    fn take(&mut self) {
-        let whos = self.row.whos();
-        for (way, clock) in self.clocks.iter_mut().enumerate() {
-            clock.slice(self.row, way);
-            if matches!(whos[way], Who::Sodium | Who::OpenSsl) {
-                let start = Instant::now();
-                while start.elapsed() < WIDE_PAUSE {}
-            }
+    /// A slice of this implementation, if it has the operation.
+    fn take(&mut self, who: Who) {
+        if let Some(way) = self.whos.iter().position(|name| *name == who) {
+            self.clocks[way].slice(self.row, way);
         }
-        self.taken += 1;
     }
 
-    fn timing(&self) -> Timing {
+    fn timing(&self, rounds: usize) -> Timing {
         let times = self.clocks.iter().map(Clock::nanoseconds);
         Timing {
             name: self.row.name().to_string(),
-            slices: self.taken,
-            best: self.row.whos().into_iter().zip(times).collect(),
+            slices: rounds.div_ceil(self.every),
+            best: self.whos.iter().copied().zip(times).collect(),
         }
     }
 }
 
-/// Times all rows. Every row has its turns all over the run, and every implementation a slice in
-/// each of them, so that what disturbs for a while disturbs all alike.
+/// Times all rows. In every round each implementation in its turn has a slice of each row, so that
+/// what disturbs for a while disturbs all alike.
 pub fn measure(rows: &mut [Box<dyn Row + '_>], rounds: usize) -> Vec<Timing> {
     let mut turns: Vec<Turns> = rows.iter_mut().map(|row| Turns::new(&mut **row)).collect();
     for round in 0..rounds {
-        for row in turns.iter_mut().filter(|row| round % row.every == 0) {
-            row.take();
+        for who in ORDER {
+            for row in turns.iter_mut().filter(|row| round % row.every == 0) {
+                row.take(who);
+            }
+            if who.may_use_avx512() {
+                wait(WIDE_PAUSE);
+            }
         }
     }
-    turns.iter().map(Turns::timing).collect()
+    turns.iter().map(|row| row.timing(rounds)).collect()
+}
+
+/// Awake, so that the clock does not rest either.
+fn wait(time: Duration) {
+    let start = Instant::now();
+    while start.elapsed() < time {}
 }

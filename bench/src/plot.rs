@@ -2,6 +2,7 @@
 
 use crate::cases::ACCEPTED;
 use crate::door::Door;
+use crate::level::Level;
 use crate::measure::{measure, Timing, Who};
 use second::measure::Measure;
 use std::fs;
@@ -13,11 +14,42 @@ const LENGTHS: [usize; 10] = [1, 32, 64, 128, 192, 256, 320, 384, 448, 512];
 /// Fewer than for the tables: there are more rows, and a line shows no hundredths.
 const ROUNDS: usize = 1000;
 
-/// The lines of a panel: whose, of what colour, with which dashes.
-const LINES: [(Who, &str, &str, &str); 2] = [
-    (Who::Ours, "ours", "#1f5fa8", "none"),
-    (Who::Second, "second implementation", "#b8500a", "6 4"),
+/// A line of a panel: whose, of what colour, with which dashes.
+#[derive(Clone, Copy)]
+struct Line {
+    who: Who,
+    name: &'static str,
+    colour: &'static str,
+    dashes: &'static str,
+}
+
+/// Ours is blue, the darker the higher the level.
+const LINES: [Line; 4] = [
+    ours(Level::Plain, "ours, x86-64", "#8fbce6"),
+    ours(Level::V3, "ours, x86-64-v3", "#3d82c4"),
+    ours(Level::V4, "ours, x86-64-v4", "#0f3a66"),
+    Line {
+        who: Who::Second,
+        name: "second implementation",
+        colour: "#b8500a",
+        dashes: "6 4",
+    },
 ];
+
+const fn ours(level: Level, name: &'static str, colour: &'static str) -> Line {
+    Line {
+        who: Who::Ours(level),
+        name,
+        colour,
+        dashes: "none",
+    }
+}
+
+/// The lines that this processor has.
+fn lines() -> impl Iterator<Item = Line> {
+    let missing = |who| matches!(who, Who::Ours(level) if !level.fits());
+    LINES.into_iter().filter(move |line| !missing(line.who))
+}
 
 /// A panel's place in the picture, and the part of it in which lines are drawn.
 const PANEL: (f64, f64) = (260.0, 230.0);
@@ -40,7 +72,9 @@ pub fn write() -> Result<String, String> {
     }
     let timings = measure(&mut rows, ROUNDS);
     fs::write(FILE, picture(&timings)).map_err(|error| format!("{FILE}: {error}"))?;
-    Ok(format!("{FILE} is written\n"))
+    let mut said = vec![format!("{FILE} is written")];
+    said.extend(Level::left_out());
+    Ok(said.join("\n") + "\n")
 }
 
 fn picture(timings: &[Timing]) -> String {
@@ -77,17 +111,18 @@ fn text(x: f64, y: f64, anchor: &str, size: u32, content: &str) -> String {
 
 fn legend(x: f64, y: f64) -> String {
     let mut legend = String::new();
-    for (number, (_, name, colour, dashes)) in LINES.into_iter().enumerate() {
-        let x = x + 110.0 * number as f64;
-        legend += &path(&[(x, y - 4.0), (x + 36.0, y - 4.0)], colour, dashes);
-        legend += &text(x + 42.0, y, "start", 12, name);
+    for (number, line) in lines().enumerate() {
+        let x = x + 160.0 * number as f64;
+        legend += &path(&[(x, y - 4.0), (x + 36.0, y - 4.0)], line);
+        legend += &text(x + 42.0, y, "start", 12, line.name);
     }
     let (width, _) = PANEL;
     let note = "scalar product; each panel has its own scale of time";
     legend + &text(COLUMNS as f64 * width - 16.0, y, "end", 12, note)
 }
 
-fn path(points: &[(f64, f64)], colour: &str, dashes: &str) -> String {
+fn path(points: &[(f64, f64)], line: Line) -> String {
+    let Line { colour, dashes, .. } = line;
     let points = points.iter().map(|(x, y)| format!("{x:.1},{y:.1}"));
     let points = points.collect::<Vec<_>>().join(" ");
     format!(
@@ -100,17 +135,17 @@ fn path(points: &[(f64, f64)], colour: &str, dashes: &str) -> String {
 fn panel(name: &str, timings: &[Timing], x: f64, y: f64) -> String {
     let microseconds = |timing: &Timing, who| timing.of(who).unwrap_or(0.0) / 1000.0;
     let times = |who| timings.iter().map(move |timing| microseconds(timing, who));
-    let all = LINES.iter().flat_map(|(who, ..)| times(*who));
+    let all = lines().flat_map(|line| times(line.who));
     let axes = Axes::new(
         x + PLOT_AT.0,
         y + PLOT_AT.1 + PLOT.1,
         all.fold(0.0, f64::max),
     );
     let mut panel = text(axes.left, y + 20.0, "start", 14, name) + &axes.draw();
-    for (who, _, colour, dashes) in LINES {
-        let points = LENGTHS.into_iter().zip(times(who));
+    for line in lines() {
+        let points = LENGTHS.into_iter().zip(times(line.who));
         let points = points.map(|(length, time)| (axes.across(length), axes.up(time)));
-        panel += &path(&points.collect::<Vec<_>>(), colour, dashes);
+        panel += &path(&points.collect::<Vec<_>>(), line);
     }
     panel
 }

@@ -1,7 +1,9 @@
 //! What is timed: a row for each operation, with a way for each implementation that has it.
 
+use crate::calls::Calls;
 use crate::check::{self, Check};
-use crate::foreign::{openssl, ours, sodium, Key, Nonce, Tag};
+use crate::foreign::ours::Ours;
+use crate::foreign::{openssl, sodium, Key, Nonce, Tag};
 use crate::measure::{row, way, Row, Way, Who};
 use second::measure::Measure;
 use second::{aead, chacha20};
@@ -15,8 +17,8 @@ pub const BUFFERS: [&str; 4] = [
      for all, and the copy is in the times; nothing is cleared",
     "make a key: the key is written to the buffer; value and answer: ours takes its key by value, \
      and the copy of 1284 bytes is in its time",
-    "mask: into the buffer, which is not cleared, and nothing is allocated; word: with the own term, \
-     at party 1",
+    "mask: into the buffer, which is not cleared, and nothing is allocated; word: with the own \
+     term, at party 1",
 ];
 
 const TEXT: usize = 484;
@@ -82,14 +84,19 @@ const EMPTY: Block = Block {
     tag: [0; 16],
 };
 
+/// Rows that more than their own table shows.
+pub const LONG_STREAM: &str = "key stream, 16 KB";
+pub const SEAL: &str = "seal 484 bytes";
+pub const OPEN: &str = "open 484 bytes";
+
 /// All rows, in the order of the table.
 pub fn rows(input: &Input) -> Vec<Box<dyn Row + '_>> {
     let Input { scalar, euclid, .. } = input;
     vec![
         stream::<256>("key stream, 1 KB", input),
-        stream::<4096>("key stream, 16 KB", input),
-        seal("seal 484 bytes", input),
-        open("open 484 bytes", input),
+        stream::<4096>(LONG_STREAM, input),
+        seal(SEAL, input),
+        open(OPEN, input),
         check::key("make a key", &euclid[0]),
         check::value("one value", &euclid[0]),
         check::answer("an answer", &euclid[0]),
@@ -105,13 +112,14 @@ pub fn rows(input: &Input) -> Vec<Box<dyn Row + '_>> {
 fn stream<'a, const LEN: usize>(name: &str, input: &'a Input) -> Box<dyn Row + 'a> {
     let Input { key, nonce, .. } = input;
     let mut openssl = openssl::Stream::new(LEN);
-    let ways = vec![
-        streaming(Who::Ours, |out| ours::stream(key, nonce, out)),
+    let ours =
+        Ours::all().map(|ours| streaming(ours.who(), move |out| ours.stream(key, nonce, out)));
+    let others = [
         streaming(Who::Sodium, |out| sodium::stream(key, nonce, out)),
         streaming(Who::OpenSsl, move |out| openssl.stream(key, nonce, out)),
         streaming(Who::Second, |out| chacha20::stream_words(key, nonce, out)),
     ];
-    row(name, Words([0; LEN]), ways)
+    row(name, Words([0; LEN]), ours.chain(others).collect())
 }
 
 fn streaming<'a, const LEN: usize>(
@@ -126,8 +134,12 @@ fn seal<'a>(name: &str, input: &'a Input) -> Box<dyn Row + 'a> {
         key, nonce, aad, ..
     } = input;
     let mut openssl = openssl::Sealer::new();
-    let ways = vec![
-        sealing(Who::Ours, input, |text| ours::seal(key, nonce, aad, text)),
+    let ours = Ours::all().map(|ours| {
+        sealing(ours.who(), input, move |text| {
+            ours.seal(key, nonce, aad, text)
+        })
+    });
+    let others = [
         sealing(Who::Sodium, input, |text| {
             sodium::seal(key, nonce, aad, text)
         }),
@@ -136,7 +148,7 @@ fn seal<'a>(name: &str, input: &'a Input) -> Box<dyn Row + 'a> {
         }),
         sealing(Who::Second, input, |text| aead::seal(key, nonce, aad, text)),
     ];
-    row(name, EMPTY, ways)
+    row(name, EMPTY, ours.chain(others).collect())
 }
 
 /// The plain text, copied and sealed.
@@ -160,10 +172,12 @@ fn open<'a>(name: &str, input: &'a Input) -> Box<dyn Row + 'a> {
         ..
     } = input;
     let mut openssl = openssl::Opener::new();
-    let ways = vec![
-        opening(Who::Ours, input, |text| {
-            ours::open(key, nonce, aad, text, tag)
-        }),
+    let ours = Ours::all().map(|ours| {
+        opening(ours.who(), input, move |text| {
+            ours.open(key, nonce, aad, text, tag)
+        })
+    });
+    let others = [
         opening(Who::Sodium, input, |text| {
             sodium::open(key, nonce, aad, text, tag)
         }),
@@ -174,7 +188,7 @@ fn open<'a>(name: &str, input: &'a Input) -> Box<dyn Row + 'a> {
             aead::open(key, nonce, aad, text, tag)
         }),
     ];
-    row(name, EMPTY, ways)
+    row(name, EMPTY, ours.chain(others).collect())
 }
 
 /// The sealed text, copied and opened. A text that is refused would take less time.

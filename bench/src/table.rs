@@ -7,7 +7,7 @@ pub enum Style {
 }
 
 pub struct Table {
-    pub title: &'static str,
+    pub title: String,
     /// The first line has the names of the columns.
     pub lines: Vec<Vec<String>>,
     pub notes: Vec<String>,
@@ -28,7 +28,7 @@ impl Table {
             let padded = cells.map(|(column, cell)| self.pad(column, cell));
             text += &(padded.collect::<Vec<_>>().join("  ") + "\n");
         }
-        text + "\n" + &self.notes.join("\n") + "\n"
+        text + &self.below("")
     }
 
     /// A cell as wide as its column: names to the left, numbers to the right.
@@ -50,7 +50,13 @@ impl Table {
                 text += &format!("|---{}|\n", "|---:".repeat(line.len() - 1));
             }
         }
-        let notes = self.notes.iter().map(|note| format!("- {note}\n"));
-        text + "\n" + &notes.collect::<String>()
+        text + &self.below("- ")
+    }
+
+    /// The notes, each with this before it.
+    fn below(&self, mark: &str) -> String {
+        let notes = self.notes.iter().map(|note| format!("{mark}{note}\n"));
+        let gap = if self.notes.is_empty() { "" } else { "\n" };
+        gap.to_string() + &notes.collect::<String>()
     }
 }
