@@ -63,14 +63,14 @@ module _ (s : Party) (t : Bool) (et : t ≡ stateFits (s .party) (s .phase) (s .
 
   -- ---- load
 
-  pub load-3 : (h : List ℕ) → not (eqb (s .phase) 0 && t) ≡ true → told 3 s 0 ≡ P.load s h
+  pub load-3 : (h : List ℕ) → eqb (s .phase) 0 && t ≡ false → told 3 s 0 ≡ P.load s h
   unfolding P.load whyNotLoad
-  load-3 h e = keeps 3 _ _ s (turned-down _ 3 _ (rw (turn-is 0) at e)) (λ z. omega arith)
+  load-3 h e = keeps 3 _ _ s (turned-down _ 3 _ (ap not (rw (turn-is 0) at e))) (λ z. omega arith)
 
-  module _ (h : List ℕ) (left : not (eqb (s .phase) 0 && t) ≡ false) (x : Examined) (ex : x ≡ examined (s .key) (s .name) (s .party) (s .last) h) where
+  module _ (h : List ℕ) (taken : eqb (s .phase) 0 && t ≡ true) (x : Examined) (ex : x ≡ examined (s .key) (s .name) (s .party) (s .last) h) where
     why-load : x .why ≡ whyNotLoad s h
     unfolding whyNotLoad examined answerFor
-    why-load = goes-on _ 3 _ (rw (turn-is 0) at left) (ap (λ z. z .why) ex)
+    why-load = goes-on _ 3 _ (ap not (rw (turn-is 0) at taken)) (ap (λ z. z .why) ex)
 
     pub load-refused : (x .why ≡ 0 → ⊥) → told (x .why) s 0 ≡ P.load s h
     unfolding P.load
@@ -81,10 +81,10 @@ module _ (s : Party) (t : Bool) (et : t ≡ stateFits (s .party) (s .phase) (s .
     opened none = ap (λ z. z .set) ex ∙ sym (Refusals.taken _ _ (ap (λ z. z .why) ex) none)
 
     pub load-taken : (q : Party) → x .why ≡ 0 → q ≡ idle (s .name) (s .party) (s .key) (x .set .number)
-        → told 0 (record { name = q .name; party = q .party; key = q .key; last = q .last; phase = 1; set = x .set; masked = q .masked; own = q .own; word = q .word }) 0 ≡ P.load s h
+        → told (x .why) (record { name = q .name; party = q .party; key = q .key; last = q .last; phase = 1; set = x .set; masked = q .masked; own = q .own; word = q .word }) 0 ≡ P.load s h
     unfolding P.load loaded idle
     load-taken q none eq =
-        moves 0 _ _ _ s (sym none ∙ why-load) refl
+        moves (x .why) _ _ _ s why-load none
         ((λ i.
         record {
           name = eq i .name;

@@ -38,6 +38,12 @@ pub struct PartyAnswer {
     pub word: u32,
 }
 
+// What a half is opened by: `load` says why it is a struct.
+struct Owner {
+    name: [u8; 16],
+    key: [u8; 32],
+}
+
 fn length_fits(n: usize) -> bool
     ensures { λ r. ⌜ r ≡ lengthFits n ⌝ }
 {
@@ -136,21 +142,21 @@ fn box_share(
 }
 
 // An array of 512 words: v and the mask, added over the first n places.
-fn masked_array(n: usize, v: &[u32], mask: [u32; 512]) -> [u32; 512]
+fn masked_array(n: usize, v: &[u32], mask: &[u32; 512]) -> [u32; 512]
     requires { ⌜ (n ≤ 512) × (n ≤ length (now v)) ⌝ }
-    ensures { λ r. ⌜ r ≡ fill (plus n (now (v .entry)) mask) ⌝ }
+    ensures { λ r. ⌜ r ≡ fill (plus n (now (v .entry)) (now (mask .entry))) ⌝ }
 {
     let mut out = [0u32; 512];
-    share::add_vectors(n, v, &mask, &mut out);
+    share::add_vectors(n, v, mask, &mut out);
     out
 }
 
 // The same from the start of out.
-fn write_masked(n: usize, v: &[u32], mask: [u32; 512], out: &mut [u32])
+fn write_masked(n: usize, v: &[u32], mask: &[u32; 512], out: &mut [u32])
     requires { ⌜ (n ≤ 512) × (n ≤ length (now v)) × (n ≤ length (now out)) ⌝ }
-    ensures { λ _. ⌜ now (out .exit) ≡ over 0 (plus n (now (v .entry)) mask) (now (out .entry)) ⌝ }
+    ensures { λ _. ⌜ now (out .exit) ≡ over 0 (plus n (now (v .entry)) (now (mask .entry))) (now (out .entry)) ⌝ }
 {
-    share::add_vectors(n, v, &mask, out);
+    share::add_vectors(n, v, mask, out);
 }
 
 impl Party {
@@ -173,41 +179,37 @@ impl Party {
         }
     }
 
-    // Call 1.
+    // Call 1. Refused or not, the answer is made at one place: LLVM then copies the state twice, and with
+    // an answer for each case three times. The key is lent from a struct: lent from an array of its own
+    // it would be read in the argument, and that be copied once more, whole.
     pub fn load(self, h: &[u8]) -> PartyAnswer
         ensures { λ r. ⌜ r ≡ loadOf self (now (h .entry)) ⌝ }
     {
         let turn = (self.phase == 0)
             & state_fits(self.party, self.phase, self.set.code, self.set.n);
-        if !turn {
-            return PartyAnswer {
-                why: 3,
-                party: self,
-                word: 0,
-            };
+        let mut next = self;
+        let mut why = 3;
+        if turn {
+            let name = self.name;
+            let key = self.key;
+            let owner = Owner { name, key };
+            let examined = opening::examine(&owner.key, name, self.party, self.last, h);
+            why = examined.why;
+            if why == 0 {
+                let set = examined.set;
+                next = idle(name, self.party, key, set.number);
+                next.phase = 1;
+                next.set = set;
+            }
         }
-        let name = self.name;
-        let key = self.key;
-        let examined = opening::examine(&key, name, self.party, self.last, h);
-        if examined.why != 0 {
-            return PartyAnswer {
-                why: examined.why,
-                party: self,
-                word: 0,
-            };
-        }
-        let set = examined.set;
-        let mut next = idle(name, self.party, key, set.number);
-        next.phase = 1;
-        next.set = set;
         PartyAnswer {
-            why: 0,
+            why,
             party: next,
             word: 0,
         }
     }
 
-    // Call 2. The masked vector goes to the start of out.
+    // Call 2. The masked vector goes to the start of out. The answer is made at one place, as in `load`.
     pub fn mask(self, v: &[u32], out: &mut [u32]) -> PartyAnswer
         ensures { λ r. ⌜ r ≡ maskOf self (now (v .entry)) (length (now (out .entry))) ⌝ }
         ensures { λ _. ⌜ now (out .exit) ≡ maskOut self (now (v .entry)) (now (out .entry)) ⌝ }
@@ -216,22 +218,17 @@ impl Party {
         let code = self.set.code;
         let turn = (self.phase == 1) & state_fits(self.party, self.phase, code, n);
         let refusal = why_not_mask(turn, n, code, v, out.len());
-        if refusal != 0 {
-            return PartyAnswer {
-                why: refusal,
-                party: self,
-                word: 0,
-            };
-        }
-        let mask = self.set.mask;
-        write_masked(n, v, mask, out);
-        let kept = masked_array(n, v, mask);
-        let own = own_term::own(code, v);
         let mut next = self;
-        next.phase = 2;
-        next.masked = kept;
-        next.own = own;
-        next.word = 0;
+        if refusal == 0 {
+            let mask = self.set.mask;
+            write_masked(n, v, &mask, out);
+            let kept = masked_array(n, v, &mask);
+            let own = own_term::own(code, v);
+            next.phase = 2;
+            next.masked = kept;
+            next.own = own;
+            next.word = 0;
+        }
         PartyAnswer {
             why: refusal,
             party: next,

@@ -7,9 +7,6 @@ use Rattle.party.proofs.masked_array.Tie as tie
 slice-aggregate-add-vectors : tie.Need-slice-aggregate-add-vectors
 slice-aggregate-add-vectors c = search needs
 
-slice-aggregate-add-vectors-2 : tie.Need-slice-aggregate-add-vectors-2
-slice-aggregate-add-vectors-2 c = search needs
-
 add-vectors-requires : tie.Need-add-vectors-requires
 add-vectors-requires c κs = search needs
 
@@ -21,6 +18,5 @@ masked-array-spec =
     tie.close
     (tie.spec
     slice-aggregate-add-vectors
-    slice-aggregate-add-vectors-2
     add-vectors-requires
     returns)

@@ -10,18 +10,24 @@ state-fits-requires c κs = search needs
 why-not-mask-requires : tie.Need-why-not-mask-requires
 why-not-mask-requires c κs = search needs
 
-returns : tie.Need-returns
-returns c =
-    let at-why-not-mask = c .before in
+write-masked-requires : tie.Need-write-masked-requires
+write-masked-requires c κs =
+    let at-if1 = c .before .before .before in
+    let at-why-not-mask = at-if1 .before in
     let at-state-fits = at-why-not-mask .before in
     let start = at-state-fits .before .before .before .before in
-    (mask-refused (start .args .self) (at-state-fits .state-fits .result) (at-state-fits .state-fits .ensures) (start .args .v .now) (start .args .out .now) (at-why-not-mask .why-not-mask .result) (at-why-not-mask .why-not-mask .ensures) (c .if1 .taken), out-refused (start .args .self) (at-state-fits .state-fits .result) (at-state-fits .state-fits .ensures) (start .args .v .now) (start .args .out .now) (at-why-not-mask .why-not-mask .result) (at-why-not-mask .why-not-mask .ensures) (c .if1 .taken))
-
-write-masked-requires : tie.Need-write-masked-requires
-write-masked-requires c κs = let f = mask-fits (c .before .before .before .before .before .before .before .before .args .self) (c .before .before .before .before .state-fits .result) (c .before .before .before .before .state-fits .ensures) (c .before .before .before .before .before .before .before .before .args .v .now) (c .before .before .before .before .before .before .before .before .args .out .now) (c .before .before .before .why-not-mask .result) (c .before .before .before .why-not-mask .ensures) (c .before .before .if1 .left) in (f .0, omega (arith, f .1), f .2)
+    let f = mask-fits (start .args .self) (at-state-fits .state-fits .result) (at-state-fits .state-fits .ensures) (start .args .v .now) (start .args .out .now) (at-why-not-mask .why-not-mask .result) (at-why-not-mask .why-not-mask .ensures) (at-if1 .if1 .taken) in
+    (f .0, omega (arith, f .1), f .2)
 
 masked-array-requires : tie.Need-masked-array-requires
-masked-array-requires c κs = let f = mask-fits (c .before .before .before .before .before .before .before .before .before .before .before .args .self) (c .before .before .before .before .before .before .before .state-fits .result) (c .before .before .before .before .before .before .before .state-fits .ensures) (c .before .before .before .before .before .before .before .before .before .before .before .args .v .now) (c .before .before .before .before .before .before .before .before .before .before .before .args .out .now) (c .before .before .before .before .before .before .why-not-mask .result) (c .before .before .before .before .before .before .why-not-mask .ensures) (c .before .before .before .before .before .if1 .left) in (f .0, omega (arith, f .1))
+masked-array-requires c κs =
+    let at-write-masked = c .before .before .before in
+    let at-if1 = at-write-masked .before .before .before .before in
+    let at-why-not-mask = at-if1 .before in
+    let at-state-fits = at-why-not-mask .before in
+    let start = at-state-fits .before .before .before .before in
+    let f = mask-fits (start .args .self) (at-state-fits .state-fits .result) (at-state-fits .state-fits .ensures) (start .args .v .now) (start .args .out .now) (at-why-not-mask .why-not-mask .result) (at-why-not-mask .why-not-mask .ensures) (at-if1 .if1 .taken) in
+    (f .0, omega (arith, f .1))
 
 own-requires : tie.Need-own-requires
 own-requires c κs = search needs
@@ -29,15 +35,24 @@ own-requires c κs = search needs
 same-length : tie.Need-same-length
 same-length c = search needs
 
-returns-2 : tie.Need-returns-2
-returns-2 c =
+-- the vector is taken
+returns : tie.Need-returns
+returns c =
     let at-masked-array = c .before in
-    let at-write-masked = at-masked-array .before .before .before in
-    let at-if1 = at-write-masked .before .before .before in
+    let at-write-masked = at-masked-array .before .before .before .before in
+    let at-if1 = at-write-masked .before .before .before .before in
     let at-why-not-mask = at-if1 .before in
     let at-state-fits = at-why-not-mask .before in
     let start = at-state-fits .before .before .before .before in
-    (mask-taken (start .args .self) (at-state-fits .state-fits .result) (at-state-fits .state-fits .ensures) (start .args .v .now) (start .args .out .now) (at-why-not-mask .why-not-mask .result) (at-why-not-mask .why-not-mask .ensures) _ _ (at-if1 .if1 .left) (at-masked-array .masked-array .ensures) (c .own .ensures), out-taken (start .args .self) (at-state-fits .state-fits .result) (at-state-fits .state-fits .ensures) (start .args .v .now) (start .args .out .now) (at-why-not-mask .why-not-mask .result) (at-why-not-mask .why-not-mask .ensures) _ (at-if1 .if1 .left) (at-write-masked .write-masked .ensures))
+    (mask-taken (start .args .self) (at-state-fits .state-fits .result) (at-state-fits .state-fits .ensures) (start .args .v .now) (start .args .out .now) (at-why-not-mask .why-not-mask .result) (at-why-not-mask .why-not-mask .ensures) _ _ (at-if1 .if1 .taken) (at-masked-array .masked-array .ensures) (c .own .ensures), out-taken (start .args .self) (at-state-fits .state-fits .result) (at-state-fits .state-fits .ensures) (start .args .v .now) (start .args .out .now) (at-why-not-mask .why-not-mask .result) (at-why-not-mask .why-not-mask .ensures) _ (at-if1 .if1 .taken) (at-write-masked .write-masked .ensures))
+
+-- it is refused
+returns-2 : tie.Need-returns-2
+returns-2 c =
+    let at-why-not-mask = c .before in
+    let at-state-fits = at-why-not-mask .before in
+    let start = at-state-fits .before .before .before .before in
+    (mask-refused (start .args .self) (at-state-fits .state-fits .result) (at-state-fits .state-fits .ensures) (start .args .v .now) (start .args .out .now) (at-why-not-mask .why-not-mask .result) (at-why-not-mask .why-not-mask .ensures) (c .if1 .left), out-refused (start .args .self) (at-state-fits .state-fits .result) (at-state-fits .state-fits .ensures) (start .args .v .now) (start .args .out .now) (at-why-not-mask .why-not-mask .result) (at-why-not-mask .why-not-mask .ensures) (c .if1 .left))
 
 pub mask-spec : {M : Type 1} → statement M
 mask-spec =
@@ -45,9 +60,9 @@ mask-spec =
     (tie.spec
     state-fits-requires
     why-not-mask-requires
-    returns
     write-masked-requires
     masked-array-requires
     own-requires
     same-length
+    returns
     returns-2)
