@@ -62,7 +62,8 @@ enum door_refusal {
     DOOR_BAD_NAME = 1,
     /* A box is started with a party that is not 0 or 1, or a deal's code is not 0 to 2. */
     DOOR_BAD_PARTY_OR_CODE = 2,
-    /* A box call is out of its turn, or the state handed in is none that a call leaves. */
+    /* A box call is out of its turn, or the state handed in has a phase, a party, a code or an L that
+       no call leaves. Nothing else of a state is tested. */
     DOOR_OUT_OF_TURN = 3,
     /* Key or seed is not 32 bytes, a message's name not 16, L not 1 to 512, a vector not the set's
        L, or a half not 3 to 16 whole blocks. */
@@ -80,7 +81,8 @@ enum door_refusal {
     DOOR_EQUAL_KEYS = 9,
     /* A block is not in its place, is of another set number, or its tag doesn't fit. */
     DOOR_BAD_BLOCK = 10,
-    /* A half of another door or party, or with content that no deal writes. */
+    /* A half of another door or party, with a code, an L or a flag byte out of range, or with a fill
+       that is not zero. */
     DOOR_BAD_CONTENT = 11,
     /* The joined sum is not 0 or 1. */
     DOOR_BAD_SUM = 12

@@ -48,7 +48,10 @@ fn printable(name: &[u8]) -> bool
 pub fn name_fits(name: &[u8]) -> bool
     ensures { λ r. ⌜ r ≡ nameFits (now (name .entry)) ⌝ }
 {
-    (1 <= name.len()) & ((name.len() <= 16) & printable(name))
+    if !(name.len() <= 16) {
+        return false;
+    }
+    (1 <= name.len()) & printable(name)
 }
 
 // The name as messages carry it, zero after its end.
