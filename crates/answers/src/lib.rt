@@ -2,7 +2,7 @@
 ghost use mathlib.Core.Path.{_≡_};
 ghost use Prim.Native.Nat.{_^_};
 ghost use Rattle.algebra.specs.Bit.{less};
-ghost use Rattle.share.specs.Share.{word as wordOf, answer as answerOf};
+ghost use Rattle.share.specs.Share.{boxWord as wordOf, answer as answerOf};
 use node::Key;
 
 // A box's word, from its share, its own term and its r word.

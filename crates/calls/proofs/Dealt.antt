@@ -79,16 +79,16 @@ module _ (d : Deal) (v : Box → List ℕ) where
   abbrev plain : Box → ℕ
   plain b =
       let s : Set = setOf d b in
-      Share.word (d .code) (share (partyOf b) (d .n) (s .c) (m camera) (m office) (s .x) (s .y)) (ownWord (d .code) (d .n) (v b)) (s .r)
+      Share.boxWord (d .code) (share (partyOf b) (d .n) (s .c) (m camera) (m office) (s .x) (s .y)) (ownWord (d .code) (d .n) (v b)) (s .r)
 
   word-is : (b : Box) → wordBy d v b ≡ plain b
   unfolding wordOf boxShare
   word-is camera =
       rw (mask-is camera, mask-is office, set-code d camera, set-n d camera)
-      (ap (λ (k : ℕ). Share.word (d .code) k (ownWord (d .code) (d .n) (v camera)) (setOf d camera .r)) (share-fill-x 0 (d .n) _ (m camera) (m office) _ _))
+      (ap (λ (k : ℕ). Share.boxWord (d .code) k (ownWord (d .code) (d .n) (v camera)) (setOf d camera .r)) (share-fill-x 0 (d .n) _ (m camera) (m office) _ _))
   word-is office =
       rw (mask-is camera, mask-is office, set-code d office, set-n d office)
-      (ap (λ (k : ℕ). Share.word (d .code) k (ownWord (d .code) (d .n) (v office)) (setOf d office .r)) (share-fill-y 1 (d .n) _ (m camera) (m office) _ _))
+      (ap (λ (k : ℕ). Share.boxWord (d .code) k (ownWord (d .code) (d .n) (v office)) (setOf d office .r)) (share-fill-y 1 (d .n) _ (m camera) (m office) _ _))
 
   swap : (a b : ℕ) → add a b ≡ add b a
   unfolding add

@@ -142,11 +142,11 @@ module _ (S : Starts) (h : List Event) (w : World) (I : Inv S h w) where
   -- ---- every call
 
   pub keeps : length (door S) ≡ 16 → (c : Call) → Fits c → Admits (door S) h c → Inv S (step w c .event ∷ h) (step w c .world)
-  unfolding BoxCalls.load BoxCalls.mask BoxCalls.take BoxCalls.finish BoxCalls.drop
+  unfolding BoxCalls.load BoxCalls.mask BoxCalls.takeVector BoxCalls.finish BoxCalls.dropSet
   keeps long (deal d out0 out1) fits ad = on-deal long d out0 out1 fits
   keeps long (load b x) fits ad = on-box b (BoxCalls.load (w .box b) x) _ _ refl (at-box S h w I b (Loading S h w I b x) (loading S h w I long b x ad))
   keeps long (mask b v out) fits ad = on-box b (BoxCalls.mask (w .box b) v (length out)) _ _ refl (at-box S h w I b (Masking S h w I b v out) (masking S h w I b v out))
-  keeps long (take b m) fits ad = on-box b (BoxCalls.take (w .box b) (m .label) (m .name) (m .content)) _ _ refl (at-box S h w I b (Taking S h w I b m) (taking S h w I b m ad))
+  keeps long (take b m) fits ad = on-box b (BoxCalls.takeVector (w .box b) (m .label) (m .name) (m .content)) _ _ refl (at-box S h w I b (Taking S h w I b m) (taking S h w I b m ad))
   keeps long (finish b m) fits ad = on-box b (BoxCalls.finish (w .box b) (m .label) (m .name) (m .content)) _ _ refl (at-box S h w I b (Finishing S h w I b m) (finishing S h w I b m ad))
-  keeps long (drop b) fits ad = on-box b (BoxCalls.drop (w .box b)) _ _ refl (at-box S h w I b (Dropping S h w I b) (dropping S h w I b))
+  keeps long (drop b) fits ad = on-box b (BoxCalls.dropSet (w .box b)) _ _ refl (at-box S h w I b (Dropping S h w I b) (dropping S h w I b))
   keeps long (join m n) fits ad = on-join m n ad

@@ -9,7 +9,7 @@ use Rattle.algebra.specs.Word.{add}
 use Rattle.measure.specs.Measure.{allInRange}
 use Rattle.share.specs.Share as Share
 use Rattle.content.specs.declared.Set.{Set}
-use Rattle.content.specs.Content.{blocks, fill, Proper}
+use Rattle.content.specs.Content.{blockCount, fill, Proper}
 use Rattle.half.specs.Claims.{length-half, half-number, half-opened, Wrote, only-whole}
 use Rattle.half.specs.Half.{blockAt, setNumber, openedSet}
 use Rattle.dealer.specs.Dealer.{Deal}
@@ -100,7 +100,7 @@ module _ (S : Starts) where
     abbrev pub Taking : Box → Message (List ℕ) → Party → Type 0
     Taking b m z =
         whyNotTake z (m .label) (m .name) (m .content) ≡ 0
-        → Stepped h b (BoxCalls.worded z (BoxCalls.wordOf (z .set) (z .party) (z .masked) (z .own) (m .content))) (sent b (z .set .number) (word (BoxCalls.take z (m .label) (m .name) (m .content) .word)))
+        → Stepped h b (BoxCalls.worded z (BoxCalls.wordOf (z .set) (z .party) (z .masked) (z .own) (m .content))) (sent b (z .set .number) (word (BoxCalls.takeVector z (m .label) (m .name) (m .content) .word)))
 
     right-word : (b : Box) (s : Set) (a : List ℕ) (o : ℕ) (ts : List Slot) (c : List ℕ) → Slots h b (lastAt S b h) (masked s a o ∷ ts) → SentVector h (other b) (s .number) c
         → Word h b s (BoxCalls.wordOf s (partyOf b) a o c)
@@ -119,7 +119,7 @@ module _ (S : Starts) where
 
     pub taking : (b : Box) (m : Message (List ℕ)) → Sent (door S) 0 (SentVector h) m → (ts : List Slot) → length ts ≤ 1 → Slots h b (lastAt S b h) ts
         → Taking b m (showing S b (lastAt S b h) ts)
-    unfolding idle BoxCalls.worded BoxCalls.take
+    unfolding idle BoxCalls.worded BoxCalls.takeVector
     taking b m ad [] few k e = absurd (omega (arith, take-tells _ _ _ _ e .turn))
     taking b m ad (fresh s ∷ ts) few k e = absurd (omega (arith, take-tells _ _ _ _ e .turn))
     taking b m ad (worded s a o u ∷ ts) few k e = absurd (omega (arith, take-tells _ _ _ _ e .turn))
@@ -204,7 +204,7 @@ module _ (S : Starts) where
       mine-block : (x : List ℕ) → Written h b x → Wrote (S .key b) (door S) (partyOf b) long Mine mine-proper one-mine x
       mine-block x (d, f, i, j, l, e) =
           let k = sound d f i in
-          let size : length (f b) ≡ 512 * blocks (setOf d b .n) = ap length (k .1) ∙ length-half (S .key b) (door S) (partyOf b) long (setOf d b) (set-proper d b (k .0)) in
+          let size : length (f b) ≡ 512 * blockCount (setOf d b .n) = ap length (k .1) ∙ length-half (S .key b) (door S) (partyOf b) long (setOf d b) (set-proper d b (k .0)) in
           record { set = setOf d b; dealt = (d, f, i, refl); place = j; among = omega arith; is = e ∙ ap (λ z. blockAt z j) (k .1) }
 
       last-own : (n : ℕ) → lastAt S b (loaded b n ∷ h) ≡ n

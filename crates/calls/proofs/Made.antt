@@ -119,9 +119,9 @@ module _ (S : Starts) (d : Deal) (v : Box → List ℕ) where
 
     pub take-made : (b : Box) (m : Message (List ℕ)) → Labelled (door S) 0 (other b) (d .number) m → m .content ≡ maskOf d (other b) (v (other b))
         → (let z : Party = shown b 1 in
-        let a : PartyAnswer = BoxCalls.take z (m .label) (m .name) (m .content) in
+        let a : PartyAnswer = BoxCalls.takeVector z (m .label) (m .name) (m .content) in
         Made a (sent b (z .set .number) (word (a .word))) (shown b 2) (said (take b m)))
-    unfolding BoxCalls.take BoxCalls.worded
+    unfolding BoxCalls.takeVector BoxCalls.worded
     take-made b m a q =
         let z : Party = shown b 1 in
         let n : length (m .content) ≡ setOf d b .n = ap length q ∙ mask-long (setOf d (other b)) (v (other b)) ∙ set-n d (other b) ∙ sym (set-n d b) in

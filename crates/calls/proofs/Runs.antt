@@ -113,7 +113,7 @@ module _ (S : Starts) (d : Deal) (v : Box → List ℕ) where
           let leaves : Party → Event = λ y. sent b (y .set .number) (vector x (maskedBy y x out)) in
           box-goes b call leaves (shown S d v b 0) (shown S d v b 1) _ 1 m (holding b 1 m) (mask-made S d v long R b x out q r) refl refl
       goes (take b m) (e, a, i) =
-          let call : Party → PartyAnswer = λ y. BoxCalls.take y (m .label) (m .name) (m .content) in
+          let call : Party → PartyAnswer = λ y. BoxCalls.takeVector y (m .label) (m .name) (m .content) in
           let leaves : Party → Event = λ y. sent b (y .set .number) (word (call y .word)) in
           let made = take-made S d v long R b m a (A .exact-at _ (i .1)) in
           box-goes b call leaves (shown S d v b 1) (shown S d v b 2) _ 2 e (holding b 2 e) made refl refl

@@ -79,7 +79,7 @@ put-tidy f office p t q camera = t camera
 put-tidy f office p t q office = q
 
 step-tidy : (w : World) (c : Call) → ((b : Box) → Tidy (w .box b)) → (b : Box) → Tidy (step w c .world .box b)
-unfolding BoxCalls.load BoxCalls.mask BoxCalls.take BoxCalls.finish BoxCalls.drop
+unfolding BoxCalls.load BoxCalls.mask BoxCalls.takeVector BoxCalls.finish BoxCalls.dropSet
 step-tidy w (deal d out0 out1) t = t
 step-tidy w (load b h) t = put-tidy _ b _ t (either _ _ _ (tidy-loaded (w .box b) _ h) (t b))
 step-tidy w (mask b v out) t = put-tidy _ b _ t (either _ _ _ (tidy-masked (w .box b) v (t b)) (t b))

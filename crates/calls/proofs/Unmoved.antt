@@ -32,14 +32,14 @@ no-box w b a e s p f q =
     no-event (a .why) e (λ z. f z (ap (λ (s : Party). s .phase) (sym (p ∙ new (a .why) s (w .box b) z) ∙ sym (put-own (w .box) b (a .party)) ∙ ap (λ y. y .box b) q)))
 
 pub unmoved : (w : World) (c : Call) → step w c .world ≡ w → Refused (step w c .event)
-unfolding DealerCalls.deal BoxCalls.load BoxCalls.mask BoxCalls.take BoxCalls.finish BoxCalls.drop LockCalls.join BoxCalls.loaded BoxCalls.masked BoxCalls.worded BoxCalls.closed idle
+unfolding DealerCalls.deal BoxCalls.load BoxCalls.mask BoxCalls.takeVector BoxCalls.finish BoxCalls.dropSet LockCalls.join BoxCalls.loaded BoxCalls.masked BoxCalls.worded BoxCalls.closed idle
 unmoved w (deal d out0 out1) q =
     no-event _ _ (λ z. omega (arith, deal-tells (w .dealer) d (length out0) (length out1) z .above, ap (λ (s : Dealer). s .last) (sym (new _ _ (w .dealer) z) ∙ ap (λ y. y .dealer) q)))
 unmoved w (load b x) q = no-box w b (BoxCalls.load (w .box b) x) _ _ refl (λ z f. omega (arith, load-tells (w .box b) x z .turn, f)) q
 unmoved w (mask b v out) q = no-box w b (BoxCalls.mask (w .box b) v (length out)) _ _ refl (λ z f. omega (arith, mask-tells (w .box b) v (length out) z .turn, f)) q
-unmoved w (take b m) q = no-box w b (BoxCalls.take (w .box b) (m .label) (m .name) (m .content)) _ _ refl (λ z f. omega (arith, take-tells (w .box b) (m .label) (m .name) (m .content) z .turn, f)) q
+unmoved w (take b m) q = no-box w b (BoxCalls.takeVector (w .box b) (m .label) (m .name) (m .content)) _ _ refl (λ z f. omega (arith, take-tells (w .box b) (m .label) (m .name) (m .content) z .turn, f)) q
 unmoved w (finish b m) q = no-box w b (BoxCalls.finish (w .box b) (m .label) (m .name) (m .content)) _ _ refl (λ z f. omega (arith, finish-tells (w .box b) (m .label) (m .name) z .turn, f)) q
-unmoved w (drop b) q = no-box w b (BoxCalls.drop (w .box b)) _ _ refl (λ z f. drop-tells (w .box b) z (sym f)) q
+unmoved w (drop b) q = no-box w b (BoxCalls.dropSet (w .box b)) _ _ refl (λ z f. drop-tells (w .box b) z (sym f)) q
 unmoved w (join m n) q =
     no-event _ _
     (λ z. omega (

@@ -157,13 +157,13 @@ step w (mask b v out) =
     onBox w b (BoxCalls.mask s v (length out)) (sent b (s .set .number) (vector v (maskedBy s v out)))
 step w (take b m) =
     let s : Party = w .box b in
-    let a : PartyAnswer = BoxCalls.take s (m .label) (m .name) (m .content) in
+    let a : PartyAnswer = BoxCalls.takeVector s (m .label) (m .name) (m .content) in
     onBox w b a (sent b (s .set .number) (word (a .word)))
 step w (finish b m) =
     let s : Party = w .box b in
     let a : PartyAnswer = BoxCalls.finish s (m .label) (m .name) (m .content) in
     onBox w b a (sent b (s .set .number) (answer (a .word)))
-step w (drop b) = onBox w b (BoxCalls.drop (w .box b)) (dropped b)
+step w (drop b) = onBox w b (BoxCalls.dropSet (w .box b)) (dropped b)
 step w (join m n) =
     let a : LockAnswer = LockCalls.join (w .lock) (m .label) (m .name) (m .content) (n .label) (n .name) (n .content) in
     onLock w a (joined (m .label .number) (a .bit))

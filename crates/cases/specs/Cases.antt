@@ -14,7 +14,7 @@ use Rattle.algebra.specs.Word as W
 use Rattle.words.specs.List.{tab, same}
 use Rattle.measure.specs.Measure.{row, scalarProduct, squaredEuclid, hamming, element, own, measure, reached, word}
 use Rattle.share.specs.Share.{plus, idealGate}
-use Rattle.content.specs.Content.{size, blocks}
+use Rattle.content.specs.Content.{size, blockCount}
 
 -- a line: what is given, and what it comes to
 pub data Line : Type 0 where
@@ -38,7 +38,7 @@ holds (measured code x y m) = sameℤ (measure code (length x) (map word x) (map
 holds (reaches code x y t b) = Bool·beq (reached code (measure code (length x) (map word x) (map word y)) t) b
 holds (masked x m r) = same (plus 1 (word x ∷ []) (m ∷ [])) (r ∷ [])
 holds (gated r d z g) = eqb (add (word d) r) z && eqb (idealGate r z) g
-holds (filled n b) = eqb (blocks n) b
+holds (filled n b) = eqb (blockCount n) b
 
 unfoldable pub table : List Line
 table =
@@ -75,5 +75,5 @@ all [] = true
 all (l ∷ t) = holds l && all t
 
 pub the-cases : all table ≡ true
-unfolding all table holds sameℤ size blocks idealGate measure own element reached row scalarProduct squaredEuclid hamming word plus tab same sum sumℤ add sub W.neg W.signed only less
+unfolding all table holds sameℤ size blockCount idealGate measure own element reached row scalarProduct squaredEuclid hamming word plus tab same sum sumℤ add sub W.neg W.signed only less
 the-cases = refl

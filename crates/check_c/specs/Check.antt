@@ -6,7 +6,7 @@ use Prim.Native.Nat.{ℕ}
 use lib.Dec.{leb}
 use lib.ListN.{length}
 use Rattle.words.specs.List.{over}
-use Rattle.share.specs.Share.{plus, share, word}
+use Rattle.share.specs.Share.{plus, share, boxWord}
 use Rattle.measure.specs.Measure.{ownWord}
 
 -- whether a mask and a place for the answer are as long as a vector
@@ -24,4 +24,4 @@ wordFits v mx my sx sy = leb (length v) (length mx) && (leb (length v) (length m
 -- call 3: the word of the party whose vector is v, else 0
 unfoldable pub wordOrZero : ℕ → ℕ → ℕ → ℕ → List ℕ → List ℕ → List ℕ → List ℕ → List ℕ → ℕ
 wordOrZero code party c r v mx my sx sy =
-    cond (wordFits v mx my sx sy) (word code (share party (length v) c mx my sx sy) (ownWord code (length v) v) r) 0
+    cond (wordFits v mx my sx sy) (boxWord code (share party (length v) c mx my sx sy) (ownWord code (length v) v) r) 0

@@ -42,11 +42,11 @@ widths n = 16 ∷ 1 ∷ 1 ∷ 2 ∷ 4 * n ∷ 4 * n ∷ 4 * n ∷ 4 ∷ 4 ∷ 32
 unfoldable pub size : ℕ → ℕ
 size n = 1248 + 12 * n
 
-unfoldable pub blocks : ℕ → ℕ
-blocks n = (size n + 483) / 484
+unfoldable pub blockCount : ℕ → ℕ
+blockCount n = (size n + 483) / 484
 
 unfoldable pub plain : List ℕ → ℕ → Set → List ℕ
-plain name party s = flat (fields name party s) ++ replicate (484 * blocks (s .n) - size (s .n)) 0
+plain name party s = flat (fields name party s) ++ replicate (484 * blockCount (s .n) - size (s .n)) 0
 
 -- ---- read back
 
@@ -125,7 +125,7 @@ zeros (x ∷ l) = eqb x 0 && zeros l
 unfoldable pub contentFits : List ℕ → ℕ → ℕ → List ℕ → Bool
 contentFits name party count b =
     let s : Set = setIn 0 b in
-    same (field b 0) name && (eqb (getD (field b 1) 0 0) party && (isCode (s .code) && (lengthFits (s .n) && (eqb (blocks (s .n)) count && (flagsFit (s .key .corrections) && zeros (drop (size (s .n)) b))))))
+    same (field b 0) name && (eqb (getD (field b 1) 0 0) party && (isCode (s .code) && (lengthFits (s .n) && (eqb (blockCount (s .n)) count && (flagsFit (s .key .corrections) && zeros (drop (size (s .n)) b))))))
 
 -- ---- a set as a deal makes it: what lies in the ranges of its fields
 

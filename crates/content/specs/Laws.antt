@@ -16,17 +16,17 @@ use Rattle.node.specs.declared.Correction.{Correction}
 use Rattle.measure.specs.Measure.{isCode}
 use Rattle.measure.specs.Order.{both}
 use Rattle.content.specs.declared.Set.{Set}
-use Rattle.content.specs.Content.{part, fill, correctionBytes, fields, widths, size, blocks, plain, cut, lengthIn, field, correctionIn, correctionsIn, setIn, noCorrection, lengthFits, flagsFit, zeros, contentFits, Words, Filled, Corrections, FlagBytes, Proper}
+use Rattle.content.specs.Content.{part, fill, correctionBytes, fields, widths, size, blockCount, plain, cut, lengthIn, field, correctionIn, correctionsIn, setIn, noCorrection, lengthFits, flagsFit, zeros, contentFits, Words, Filled, Corrections, FlagBytes, Proper}
 use Rattle.content.specs.Pieces.{offset, length-flat, cut-flat, cut-at, part-flat, take-replicate, wordAt-past, getD-past, length-even, wordsAt-bytesOf, words-back, wordAt-le32}
 
 -- ---- sizes
 
-pub blocks-bounds : (n : ℕ) → 1 ≤ n → n ≤ 512 → (3 ≤ blocks n) × (blocks n ≤ 16)
-unfolding blocks size
+pub blocks-bounds : (n : ℕ) → 1 ≤ n → n ≤ 512 → (3 ≤ blockCount n) × (blockCount n ≤ 16)
+unfolding blockCount size
 blocks-bounds n h k = (omega arith, omega arith)
 
-pub size-le : (n : ℕ) → size n ≤ 484 * blocks n
-unfolding blocks size
+pub size-le : (n : ℕ) → size n ≤ 484 * blockCount n
+unfolding blockCount size
 size-le n = omega arith
 
 pub length-fits : (n : ℕ) → lengthFits n ≡ true → (1 ≤ n) × (n ≤ 512)
@@ -149,30 +149,30 @@ module _ (name : List ℕ) (party : ℕ) (s : Set) (named : length name ≡ 16) 
   unfolding size widths offset fields
   length-fields = length-flat (fields name party s) ∙ ap (λ (ws : List ℕ). offset ws 12) lengths ∙ omega arith
 
-  pub length-plain : length (plain name party s) ≡ 484 * blocks (s .n)
+  pub length-plain : length (plain name party s) ≡ 484 * blockCount (s .n)
   unfolding plain
   length-plain =
-      length-append (flat (fields name party s)) (replicate (484 * blocks (s .n) - size (s .n)) 0)
-      ∙ omega (arith, length-fields, length-replicate {A = ℕ} (484 * blocks (s .n) - size (s .n)) 0, size-le (s .n))
+      length-append (flat (fields name party s)) (replicate (484 * blockCount (s .n) - size (s .n)) 0)
+      ∙ omega (arith, length-fields, length-replicate {A = ℕ} (484 * blockCount (s .n) - size (s .n)) 0, size-le (s .n))
 
   -- laid out in an array of 16 blocks, the plain content is what its own blocks hold
-  pub take-laid : take (484 * blocks (s .n)) (flat (fields name party s) ++ replicate (7744 - size (s .n)) 0) ≡ plain name party s
+  pub take-laid : take (484 * blockCount (s .n)) (flat (fields name party s) ++ replicate (7744 - size (s .n)) 0) ≡ plain name party s
   unfolding plain
   take-laid =
       let f = flat (fields name party s) in
       let z : List ℕ = replicate (7744 - size (s .n)) 0 in
-      let k = 484 * blocks (s .n) - size (s .n) in
-      let e : 484 * blocks (s .n) ≡ length f + k = omega (arith, length-fields, size-le (s .n)) in
+      let k = 484 * blockCount (s .n) - size (s .n) in
+      let e : 484 * blockCount (s .n) ≡ length f + k = omega (arith, length-fields, size-le (s .n)) in
       ap (λ (i : ℕ). take i (f ++ z)) e ∙ take-append-add f z k
       ∙ ap (λ (l : List ℕ). f ++ l) (take-replicate k (7744 - size (s .n)) (omega (arith, blocks-bounds (s .n) (p .some) (p .most))))
 
-  drop-plain : drop (size (s .n)) (plain name party s) ≡ replicate (484 * blocks (s .n) - size (s .n)) 0
+  drop-plain : drop (size (s .n)) (plain name party s) ≡ replicate (484 * blockCount (s .n) - size (s .n)) 0
   unfolding plain
-  drop-plain = drop-at (flat (fields name party s)) (replicate (484 * blocks (s .n) - size (s .n)) 0) (size (s .n)) length-fields
+  drop-plain = drop-at (flat (fields name party s)) (replicate (484 * blockCount (s .n) - size (s .n)) 0) (size (s .n)) length-fields
 
   cut-plain : cut (widths (s .n)) (plain name party s) ≡ fields name party s
   unfolding plain
-  cut-plain = cut-flat (widths (s .n)) (fields name party s) (replicate (484 * blocks (s .n) - size (s .n)) 0) lengths
+  cut-plain = cut-flat (widths (s .n)) (fields name party s) (replicate (484 * blockCount (s .n) - size (s .n)) 0) lengths
 
   pub lengthIn-plain : lengthIn (plain name party s) ≡ s .n
   unfolding lengthIn widths offset fields bytes number
@@ -213,16 +213,16 @@ module _ (name : List ℕ) (party : ℕ) (s : Set) (named : length name ≡ 16) 
       λ k. record { number = s .number; code = code k; n = n k; mask = mask k; x = x k; y = y k; c = c k; r = r k; seed = seed k; key = record { corrections = corrections k; last = last k } }
 
   -- and it fits
-  pub fits-plain : contentFits name party (blocks (s .n)) (plain name party s) ≡ true
+  pub fits-plain : contentFits name party (blockCount (s .n)) (plain name party s) ≡ true
   unfolding contentFits setIn lengthFits fields
   fits-plain =
       let named : same (field (plain name party s) 0) name ≡ true = ap (λ (b : List ℕ). same b name) (field-plain 0) ∙ same-refl name in
       let owned = eq-eqb (getD (field (plain name party s) 1) 0 0) party (ap (λ (b : List ℕ). getD b 0 0) (field-plain 1)) in
       let code = ap (λ (b : List ℕ). isCode (getD b 0 0)) (field-plain 2) ∙ p .code-fits in
       let long = ap lengthFits lengthIn-plain ∙ ap₂ _&&_ (le-leb 1 (s .n) (p .some)) (le-leb (s .n) 512 (p .most)) in
-      let count = eq-eqb (blocks (lengthIn (plain name party s))) (blocks (s .n)) (ap blocks lengthIn-plain) in
+      let count = eq-eqb (blockCount (lengthIn (plain name party s))) (blockCount (s .n)) (ap blockCount lengthIn-plain) in
       let flags = ap flagsFit corrections ∙ flags-fit (s .key .corrections) (p .corrections-fit) in
-      let rest = ap (λ (n : ℕ). zeros (drop (size n) (plain name party s))) lengthIn-plain ∙ ap zeros drop-plain ∙ zeros-replicate (484 * blocks (s .n) - size (s .n)) in
+      let rest = ap (λ (n : ℕ). zeros (drop (size n) (plain name party s))) lengthIn-plain ∙ ap zeros drop-plain ∙ zeros-replicate (484 * blockCount (s .n) - size (s .n)) in
       ap₂ _&&_ named (ap₂ _&&_ owned (ap₂ _&&_ code (ap₂ _&&_ long (ap₂ _&&_ count (ap₂ _&&_ flags rest)))))
 
 -- ---- what the code asks of its callers
@@ -237,14 +237,14 @@ unfolding FlagBytes Corrections
 flag-bytes s p i h = omega (arith, p .corrections-fit i h .2)
 
 -- where content fits, its L does, and as many blocks as that asks for were opened
-pub fits-length : (name : List ℕ) (party count : ℕ) (b : List ℕ) → contentFits name party count b ≡ true → (lengthFits (lengthIn b) ≡ true) × (blocks (lengthIn b) ≡ count)
+pub fits-length : (name : List ℕ) (party count : ℕ) (b : List ℕ) → contentFits name party count b ≡ true → (lengthFits (lengthIn b) ≡ true) × (blockCount (lengthIn b) ≡ count)
 unfolding contentFits setIn
 fits-length name party count b h =
     let named = both (same (field b 0) name) _ h in
     let owned = both (eqb (getD (field b 1) 0 0) party) _ (named .1) in
     let coded = both (isCode (getD (field b 2) 0 0)) _ (owned .1) in
     let range = both (lengthFits (lengthIn b)) _ (coded .1) in
-    (range .0, eqb-true (blocks (lengthIn b)) count (both (eqb (blocks (lengthIn b)) count) _ (range .1) .0))
+    (range .0, eqb-true (blockCount (lengthIn b)) count (both (eqb (blockCount (lengthIn b)) count) _ (range .1) .0))
 
 -- read_set asks of content what contentFits says of it
 pub fits-reads : (name : List ℕ) (party count : ℕ) (b : List ℕ) → contentFits name party count b ≡ true → length b ≡ 484 * count

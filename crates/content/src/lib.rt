@@ -2,7 +2,7 @@
 // writes its plain bytes and `reading` reads them.
 ghost use mathlib.Core.Path.{_≡_};
 ghost use Prim.Native.Nat.{_≤_};
-ghost use Rattle.content.specs.Content.{blocks, noCorrection, noSet};
+ghost use Rattle.content.specs.Content.{blockCount, noCorrection, noSet};
 use node::Correction;
 use node::Key;
 
@@ -59,7 +59,7 @@ pub fn no_set() -> Set
 // How many blocks of 484 bytes the content of a set of length n fills.
 pub fn blocks_of(n: usize) -> usize
     requires { ⌜ n ≤ 65535 ⌝ }
-    ensures { λ r. ⌜ r ≡ blocks n ⌝ }
+    ensures { λ r. ⌜ r ≡ blockCount n ⌝ }
 {
     (1248 + 12 * n + 483) / 484
 }

@@ -13,7 +13,7 @@ use Rattle.measure.specs.Order.{both}
 use Rattle.messages.specs.Messages.{unless, nameFits, padded, isKey}
 use Rattle.messages.specs.Laws.{unless-false, unless-true, turned-down, goes-on, taken, refused}
 use Rattle.content.specs.declared.Set.{Set}
-use Rattle.content.specs.Content.{blocks, lengthFits, Proper}
+use Rattle.content.specs.Content.{blockCount, lengthFits, Proper}
 use Rattle.content.specs.Laws.{blocks-bounds, length-fits}
 use Rattle.dealing.specs.Dealing.{setFrom, dealtSet}
 use Rattle.half.specs.Half.{half}
@@ -74,7 +74,7 @@ pub short : (long n : ℕ) → not (eqb long 32 && (leb 1 n && leb n 512)) ≡ f
 unfolding lengthFits
 short long n h = length-fits n (both (eqb long 32) (lengthFits n) (not-false _ h) .1)
 
-pub few : (long n : ℕ) → not (eqb long 32 && (leb 1 n && leb n 512)) ≡ false → (k : ℕ) → k ≡ blocks n → k ≤ 16
+pub few : (long n : ℕ) → not (eqb long 32 && (leb 1 n && leb n 512)) ≡ false → (k : ℕ) → k ≡ blockCount n → k ≤ 16
 few long n h k e =
     let fits = short long n h in
     omega (arith, e, blocks-bounds n (fits .0) (fits .1) .1)
@@ -100,7 +100,7 @@ module _ {last long : ℕ} (s : Dealer) (d : Deal) (el : s .last ≡ last) (es :
     pub bad-length : not (eqb long 32 && (leb 1 (d .n) && leb (d .n) 512)) ≡ true → 4 ≡ whyNotDeal s d room0 room1
     bad-length h = past-code (turned-down _ _ _ (lengths h))
 
-    module _ (fit : not (eqb long 32 && (leb 1 (d .n) && leb (d .n) 512)) ≡ false) (k : ℕ) (eb : k ≡ blocks (d .n)) where
+    module _ (fit : not (eqb long 32 && (leb 1 (d .n) && leb (d .n) 512)) ≡ false) (k : ℕ) (eb : k ≡ blockCount (d .n)) where
       rooms : {b : Bool} → not (leb (512 * k) room0 && leb (512 * k) room1) ≡ b → not (leb (halfSize (d .n)) room0 && leb (halfSize (d .n)) room1) ≡ b
       unfolding halfSize
       rooms h = ap (λ (m : ℕ). not (leb (512 * m) room0 && leb (512 * m) room1)) (sym eb) ∙ h
@@ -133,7 +133,7 @@ module _ (s : Dealer) (d : Deal) (room0 room1 : ℕ) (a : DealTells s d room0 ro
   is-dealt = e ∙ ap (λ (l : List ℕ). dealtSet l (d .number) (d .code) (d .n) (d .t) party) es
 
   -- what writing a half asks
-  pub half-asks : (room : ℕ) → halfSize (d .n) ≤ room → d .number < 2 ^ 64 → party ≤ 1 → ((party < 256) × (512 * blocks (set .n) ≤ room)) × Proper set
+  pub half-asks : (room : ℕ) → halfSize (d .n) ≤ room → d .number < 2 ^ 64 → party ≤ 1 → ((party < 256) × (512 * blockCount (set .n) ≤ room)) × Proper set
   unfolding halfSize dealtSet setFrom
   half-asks room h number low =
       ((omega arith, rw (ap (λ (t : Set). t .n) e) h), subst Proper (sym is-dealt) (dealt-proper s d room0 room1 party a number low))

@@ -8,7 +8,7 @@ use lib.ListN.{length, replicate}
 use Rattle.words.specs.List.{over, same}
 use Rattle.measure.specs.Measure.{isCode, thresholdFits}
 use Rattle.messages.specs.Messages.{unless, ifTaken, nameFits, padded, isKey}
-use Rattle.content.specs.Content.{blocks, lengthFits}
+use Rattle.content.specs.Content.{blockCount, lengthFits}
 use Rattle.dealing.specs.Dealing.{dealtSet}
 use Rattle.half.specs.Half.{half}
 use Rattle.dealer.specs.declared.Dealer.{Dealer}
@@ -38,7 +38,7 @@ dealFrom number seed code n t = record { number = number; seed = seed; code = co
 
 -- how many bytes a half has
 unfoldable pub halfSize : ℕ → ℕ
-halfSize n = 512 * blocks n
+halfSize n = 512 * blockCount n
 
 unfoldable pub whyNotDeal : Dealer → Deal → ℕ → ℕ → ℕ
 whyNotDeal s d room0 room1 =

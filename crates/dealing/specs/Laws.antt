@@ -18,7 +18,7 @@ use Rattle.keystream.specs.Keystream.{keyWord, stream}
 use Rattle.node.specs.declared.Correction.{Correction}
 use Rattle.node.specs.Bounds.{Below, Fits, take-below, block-below, key-long, key-fits, last-below}
 use Rattle.measure.specs.Measure.{isCode, measure, reached, allInRange, thresholdFits, ownWord}
-use Rattle.share.specs.Share.{plus, inner, otherC, otherR, share, word, answer}
+use Rattle.share.specs.Share.{plus, inner, otherC, otherR, share, boxWord, answer}
 use Rattle.share.specs.Claims.{join-law}
 use Rattle.content.specs.declared.Set.{Set}
 use Rattle.content.specs.Content.{part, fill, noCorrection, Words, Filled, Corrections, Proper}
@@ -166,8 +166,8 @@ pub dealt-join : (seed : List ℕ) (number code n t : ℕ) (v0 v1 : List ℕ) �
     let s1 : Set = dealtSet seed number code n t 1 in
     let m0 : List ℕ = plus n v0 (s0 .mask) in
     let m1 : List ℕ = plus n v1 (s1 .mask) in
-    let w0 : ℕ = word code (share 0 n (s0 .c) m0 m1 (s0 .x) (s0 .y)) (ownWord code n v0) (s0 .r) in
-    let w1 : ℕ = word code (share 1 n (s1 .c) m0 m1 (s1 .x) (s1 .y)) (ownWord code n v1) (s1 .r) in
+    let w0 : ℕ = boxWord code (share 0 n (s0 .c) m0 m1 (s0 .x) (s0 .y)) (ownWord code n v0) (s0 .r) in
+    let w1 : ℕ = boxWord code (share 1 n (s1 .c) m0 m1 (s1 .x) (s1 .y)) (ownWord code n v1) (s1 .r) in
     add (answer 0 (s0 .key) (s0 .seed) (add w0 w1)) (answer 1 (s1 .key) (s1 .seed) (add w0 w1)))
     ≡ only (reached code (measure code n v0 v1) (signed t)) 1
 unfolding dealtSet setFrom ownMask maskX maskY cOf rOf

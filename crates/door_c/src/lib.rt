@@ -3,7 +3,7 @@
 ghost use mathlib.Core.Path.{_≡_};
 ghost use lib.ListN.{length};
 ghost use Rattle.dealer.specs.Dealer.{startDealer, dealFrom, deal, dealOut};
-ghost use Rattle.party.specs.Party.{startParty, load, mask, maskOut, take, finish, drop};
+ghost use Rattle.party.specs.Party.{startParty, load, mask, maskOut, takeVector, finish, dropSet};
 ghost use Rattle.lock.specs.Lock.{startLock, join};
 use dealer::Dealer;
 use dealer::DealerAnswer;
@@ -80,7 +80,7 @@ pub extern "C" fn door_take(
     number: u64,
     v: &[u32],
 ) -> PartyAnswer
-    ensures { λ r. ⌜ r ≡ take party (record { kind = kind; sender = sender; number = number }) (now (name .entry)) (now (v .entry)) ⌝ }
+    ensures { λ r. ⌜ r ≡ takeVector party (record { kind = kind; sender = sender; number = number }) (now (name .entry)) (now (v .entry)) ⌝ }
 {
     party.take(
         Label {
@@ -119,7 +119,7 @@ pub extern "C" fn door_finish(
 // Ends the open set.
 #[no_mangle]
 pub extern "C" fn door_drop(party: Party) -> PartyAnswer
-    ensures { λ r. ⌜ r ≡ drop party ⌝ }
+    ensures { λ r. ⌜ r ≡ dropSet party ⌝ }
 {
     party.drop()
 }

@@ -15,7 +15,7 @@ use Rattle.aead.specs.Aead.{cipher, tagFor, within, sealed, sealedText}
 use Rattle.aead.specs.Claims.{length-cipher}
 use Rattle.lanes.specs.Lanes.{flat}
 use Rattle.content.specs.declared.Set.{Set}
-use Rattle.content.specs.Content.{part, fields, size, blocks, Proper}
+use Rattle.content.specs.Content.{part, fields, size, blockCount, Proper}
 use Rattle.content.specs.Laws.{blocks-bounds, take-laid}
 use Rattle.content.specs.Pieces.{length-part}
 use Rattle.one_time.specs.OneTime.{nonceOf}
@@ -109,15 +109,15 @@ firstBlocks-take key p set m (suc k) h l =
     ap₂ (λ (a b : List ℕ). a ++ block key set k b) (firstBlocks-take key p set m k h (omega arith)) front
 
 module _ (key name : List ℕ) (party : ℕ) (s : Set) (named : length name ≡ 16) (p : Proper s) where
-  pub few-blocks : blocks (s .n) ≤ 16
+  pub few-blocks : blockCount (s .n) ≤ 16
   few-blocks = blocks-bounds (s .n) (p .some) (p .most) .1
 
-  pub half-law : (laid out0 out : List ℕ) (count : ℕ) → laid ≡ flat (fields name party s) ++ replicate (7744 - size (s .n)) 0 → length laid ≡ 7744 → count ≡ blocks (s .n)
+  pub half-law : (laid out0 out : List ℕ) (count : ℕ) → laid ≡ flat (fields name party s) ++ replicate (7744 - size (s .n)) 0 → length laid ≡ 7744 → count ≡ blockCount (s .n)
       → out ≡ over 0 (firstBlocks key (s .number) laid count) out0 → out ≡ over 0 (half key name party s) out0
   unfolding half
   half-law laid out0 out count e size ec eo =
       eo
       ∙ ap (λ (l : List ℕ). over 0 l out0)
       (ap (firstBlocks key (s .number) laid) ec
-      ∙ firstBlocks-take key laid (s .number) (484 * blocks (s .n)) (blocks (s .n)) (omega (arith, few-blocks)) (omega arith)
-      ∙ ap (λ (l : List ℕ). firstBlocks key (s .number) l (blocks (s .n))) (ap (take (484 * blocks (s .n))) e ∙ take-laid name party s named p))
+      ∙ firstBlocks-take key laid (s .number) (484 * blockCount (s .n)) (blockCount (s .n)) (omega (arith, few-blocks)) (omega arith)
+      ∙ ap (λ (l : List ℕ). firstBlocks key (s .number) l (blockCount (s .n))) (ap (take (484 * blockCount (s .n))) e ∙ take-laid name party s named p))

@@ -14,10 +14,10 @@ use Rattle.measure.specs.Order.{both}
 use Rattle.messages.specs.Messages.{unless}
 use Rattle.messages.specs.Laws.{passed}
 use Rattle.content.specs.declared.Set.{Set}
-use Rattle.content.specs.Content.{part, blocks, plain, lengthIn, contentFits, Proper}
+use Rattle.content.specs.Content.{part, blockCount, plain, lengthIn, contentFits, Proper}
 use Rattle.content.specs.Pieces.{part-is, length-part}
 use Rattle.content.specs.Laws.{fits-length, blocks-bounds, length-plain, lengthIn-plain, lengthIn-take, setIn-plain, fits-plain}
-use Rattle.half.specs.Half.{block, firstBlocks, half, blockAt, setNumber, blockFits, firstFit, openedText, wholeBlocks, whyNotOpened, whyNot, openedSet}
+use Rattle.half.specs.Half.{block, firstBlocks, half, blockAt, setNumber, blockFits, firstFit, openedBlocks, wholeBlocks, whyNotOpened, whyNot, openedSet}
 use Rattle.half.specs.Laws.{length-blocks, block-at, set-of-block, index-of-block, are-fit, are-opened}
 
 -- ---- a set's own half
@@ -33,7 +33,7 @@ module _ (key name : List ℕ) (party : ℕ) (named : length name ≡ 16) where
     text = plain name party s
 
     abbrev count : ℕ
-    count = blocks (s .n)
+    count = blockCount (s .n)
 
     long : length text ≡ 484 * count
     long = length-plain name party s named p
@@ -58,7 +58,7 @@ module _ (key name : List ℕ) (party : ℕ) (named : length name ≡ 16) where
     counted : length (half key name party s) / 512 ≡ count
     counted = omega (arith, length-half)
 
-    opens-to : openedText key (half key name party s) count ≡ text
+    opens-to : openedBlocks key (half key name party s) count ≡ text
     opens-to = are-opened key (s .number) text (half key name party s) count (omega (arith, long)) are ∙ take-all (484 * count) text (omega (arith, long))
 
     -- it is taken where the last number is below its own ..
@@ -91,7 +91,7 @@ module _ (key name : List ℕ) (party : ℕ) (named : length name ≡ 16) where
     whole : length h ≡ 512 * (length h / 512)
     three : 3 ≤ length h / 512
     fit : firstFit key h (length h / 512) ≡ true
-    content : contentFits name party (length h / 512) (openedText key h (length h / 512)) ≡ true
+    content : contentFits name party (length h / 512) (openedBlocks key h (length h / 512)) ≡ true
 
   taken : (last : ℕ) (h : List ℕ) → whyNot key name party last h ≡ 0 → Taken h
   unfolding whyNot whyNotOpened wholeBlocks
@@ -132,7 +132,7 @@ module _ (key name : List ℕ) (party : ℕ) (named : length name ≡ 16) where
       pub set : Set
       pub dealt : D set
       pub place : ℕ
-      pub among : place < blocks (set .n)
+      pub among : place < blockCount (set .n)
       pub is : b ≡ blockAt (half key name party set) place
 
     module _ (h : List ℕ) (wrote : (i : ℕ) → i < length h / 512 → Wrote (blockAt h i)) (t : Taken h) where
@@ -166,25 +166,25 @@ module _ (key name : List ℕ) (party : ℕ) (named : length name ≡ 16) where
       proper : Proper deal
       proper = sound deal (wrote 0 none .dealt)
 
-      all-its : (i : ℕ) (l : i < length h / 512) → (i < blocks (deal .n)) × (blockAt h i ≡ block key (deal .number) i (part (484 * i) 484 (plain name party deal)))
+      all-its : (i : ℕ) (l : i < length h / 512) → (i < blockCount (deal .n)) × (blockAt h i ≡ block key (deal .number) i (part (484 * i) 484 (plain name party deal)))
       all-its i l =
           let w = wrote i l in
           let same : w .set ≡ deal = one (w .set) deal (w .dealt) (wrote 0 none .dealt) (placed i l .1 ∙ sym (placed 0 none .1)) in
-          let among : i < blocks (deal .n) = subst (λ (s : Set). i < blocks (s .n)) same (subst (λ (k : ℕ). k < blocks (w .set .n)) (placed i l .0) (w .among)) in
+          let among : i < blockCount (deal .n) = subst (λ (s : Set). i < blockCount (s .n)) same (subst (λ (k : ℕ). k < blockCount (w .set .n)) (placed i l .0) (w .among)) in
           (among, w .is ∙ ap₂ (λ (s : Set) (k : ℕ). blockAt (half key name party s) k) same (placed i l .0) ∙ are deal proper i among)
 
       -- as many blocks as it has
-      counts : length h / 512 ≡ blocks (deal .n)
+      counts : length h / 512 ≡ blockCount (deal .n)
       counts =
           let k = length h / 512 in
           let text = plain name party deal in
           let last : k - 1 < k = omega (arith, t .three) in
-          let fewer : k ≤ blocks (deal .n) = omega (arith, all-its (k - 1) last .0) in
+          let fewer : k ≤ blockCount (deal .n) = omega (arith, all-its (k - 1) last .0) in
           let enough : 484 * k ≤ length text = omega (arith, length-plain name party deal named proper) in
-          let opened : openedText key h k ≡ take (484 * k) text = are-opened key (deal .number) text h k enough (λ i l. all-its i l .1) in
-          let n : lengthIn (openedText key h k) ≡ deal .n = ap lengthIn opened ∙ lengthIn-take (484 * k) text (omega (arith, t .three)) ∙ lengthIn-plain name party deal named proper in
-          let e = fits-length name party k (openedText key h k) (t .content) .1 in
-          sym (sym (ap blocks n) ∙ e)
+          let opened : openedBlocks key h k ≡ take (484 * k) text = are-opened key (deal .number) text h k enough (λ i l. all-its i l .1) in
+          let n : lengthIn (openedBlocks key h k) ≡ deal .n = ap lengthIn opened ∙ lengthIn-take (484 * k) text (omega (arith, t .three)) ∙ lengthIn-plain name party deal named proper in
+          let e = fits-length name party k (openedBlocks key h k) (t .content) .1 in
+          sym (sym (ap blockCount n) ∙ e)
 
       is-its : h ≡ half key name party deal
       unfolding half

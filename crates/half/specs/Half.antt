@@ -8,7 +8,7 @@ use Rattle.poly1305.specs.Poly1305.{bytes, number}
 use Rattle.aead.specs.Aead.{cipher, tagFor, opens}
 use Rattle.messages.specs.Messages.{unless}
 use Rattle.content.specs.declared.Set.{Set}
-use Rattle.content.specs.Content.{part, blocks, plain, setIn, contentFits}
+use Rattle.content.specs.Content.{part, blockCount, plain, setIn, contentFits}
 
 -- "A block is 512 bytes: set number (8, little-endian), block index from 0 (4, little-endian), 484 sealed bytes, tag (16). Sealing is RFC 8439's ChaCha20-Poly1305 under
 -- the box's key, with the first twelve bytes as nonce and as additional data"
@@ -28,7 +28,7 @@ firstBlocks key set p (suc i) = firstBlocks key set p i ++ block key set i (part
 
 -- a party's half of a set, under the box's key and the padded name
 unfoldable pub half : List ℕ → List ℕ → ℕ → Set → List ℕ
-half key name party s = firstBlocks key (s .number) (plain name party s) (blocks (s .n))
+half key name party s = firstBlocks key (s .number) (plain name party s) (blockCount (s .n))
 
 -- ---- what a half handed in holds
 
@@ -49,9 +49,9 @@ firstFit key h zero = true
 firstFit key h (suc i) = firstFit key h i && blockFits key (setNumber h) i (blockAt h i)
 
 -- what its first i blocks open to
-unfoldable pub openedText : List ℕ → List ℕ → ℕ → List ℕ
-openedText key h zero = []
-openedText key h (suc i) = openedText key h i ++ cipher key (part 0 12 (blockAt h i)) (part 12 484 (blockAt h i))
+unfoldable pub openedBlocks : List ℕ → List ℕ → ℕ → List ℕ
+openedBlocks key h zero = []
+openedBlocks key h (suc i) = openedBlocks key h i ++ cipher key (part 0 12 (blockAt h i)) (part 12 484 (blockAt h i))
 
 -- "a half 3 to 16 whole blocks"
 unfoldable pub wholeBlocks : List ℕ → Bool
@@ -61,7 +61,7 @@ wholeBlocks h = eqb (length h % 512) 0 && (leb 3 (length h / 512) && leb (length
 unfoldable pub whyNotOpened : List ℕ → List ℕ → ℕ → List ℕ → ℕ
 whyNotOpened key name party h =
     let count : ℕ = length h / 512 in
-    unless (firstFit key h count) 10 (unless (contentFits name party count (openedText key h count)) 11 0)
+    unless (firstFit key h count) 10 (unless (contentFits name party count (openedBlocks key h count)) 11 0)
 
 -- why a half is turned down where the box's last number is `last`
 unfoldable pub whyNot : List ℕ → List ℕ → ℕ → ℕ → List ℕ → ℕ
@@ -69,4 +69,4 @@ whyNot key name party last h = unless (wholeBlocks h) 4 (unless (ltb last (setNu
 
 -- the set that it opens to
 unfoldable pub openedSet : List ℕ → List ℕ → Set
-openedSet key h = setIn (setNumber h) (openedText key h (length h / 512))
+openedSet key h = setIn (setNumber h) (openedBlocks key h (length h / 512))

@@ -17,7 +17,7 @@ use Rattle.aead.specs.Aead.{cipher, tagFor, opens, polyKey, macData}
 use Rattle.aead.specs.Claims.{length-cipher, opens-if, cipher-twice}
 use Rattle.content.specs.Content.{part}
 use Rattle.content.specs.Pieces.{length-part}
-use Rattle.half.specs.Half.{header, block, firstBlocks, blockAt, blockFits, firstFit, setNumber, openedText}
+use Rattle.half.specs.Half.{header, block, firstBlocks, blockAt, blockFits, firstFit, setNumber, openedBlocks}
 
 -- ---- parts of a list made of two
 
@@ -149,8 +149,8 @@ module _ (key : List ℕ) (set : ℕ) (p : List ℕ) where
         rw (are-fit k (omega arith) s (omega arith) e (λ i g. f i (omega arith)), e, f k (omega arith))
         (block-fits key set k (part (484 * k) 484 p) (length-part p (484 * k) 484 (omega arith)) s (omega arith))
 
-    pub are-opened : (k : ℕ) → 484 * k ≤ length p → Are k → openedText key h k ≡ take (484 * k) p
-    unfolding openedText part
+    pub are-opened : (k : ℕ) → 484 * k ≤ length p → Are k → openedBlocks key h k ≡ take (484 * k) p
+    unfolding openedBlocks part
     are-opened zero l f = refl
     are-opened (suc k) l f =
         let more : 484 * suc k ≡ 484 * k + 484 = omega arith in

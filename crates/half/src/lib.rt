@@ -4,7 +4,7 @@ ghost use Prim.Native.Nat.{_*_, _/_, _%_, _^_, _≤_, _<_};
 ghost use lib.ListN.{length};
 ghost use Rattle.words.specs.List.{over};
 ghost use Rattle.aead.specs.Aead.{polyKey};
-ghost use Rattle.content.specs.Content.{blocks, Proper};
+ghost use Rattle.content.specs.Content.{blockCount, Proper};
 ghost use Rattle.half.specs.Half.{header as headerOf, block, firstBlocks, half};
 ghost use Rattle.half.specs.OneTime.{KeysFor};
 use content::Set;
@@ -77,7 +77,7 @@ pub fn write_blocks(key: &[u8; 32], number: u64, count: usize, p: &[u8], out: &m
 
 // A party's half of a set, from the start of out.
 pub fn write_half(key: &[u8; 32], name: [u8; 16], party: u32, s: Set, out: &mut [u8])
-    requires { ⌜ (party < 256) × (512 * blocks (s .n) ≤ length (now out)) ⌝ }
+    requires { ⌜ (party < 256) × (512 * blockCount (s .n) ≤ length (now out)) ⌝ }
     requires { ⌜ Proper s ⌝ }
     ensures { λ _. ⌜ now (out .exit) ≡ over 0 (half (now (key .entry)) name party s) (now (out .entry)) ⌝ }
 {

@@ -13,7 +13,7 @@ use Rattle.measure.specs.Measure.{isCode}
 use Rattle.measure.specs.Order.{both}
 use Rattle.messages.specs.Laws.{passed, taken}
 use Rattle.content.specs.declared.Set.{Set}
-use Rattle.content.specs.Content.{size, blocks, field, setIn, noSet, lengthFits, flagsFit, zeros, contentFits, FlagBytes, Proper}
+use Rattle.content.specs.Content.{size, blockCount, field, setIn, noSet, lengthFits, flagsFit, zeros, contentFits, FlagBytes, Proper}
 use Rattle.dealing.specs.Dealing.{dealtSet}
 use Rattle.dealing.specs.Laws.{proper}
 use Rattle.opening.specs.declared.Examined.{Examined}
@@ -40,7 +40,7 @@ fits-laid : (name : List ℕ) (party count number : ℕ) (b : List ℕ) → cont
 unfolding contentFits setIn isCode lengthFits
 fits-laid name party count number b h =
     let s : Set = setIn number b in
-    let t = tests (same (field b 0) name) (eqb (getD (field b 1) 0 0) party) (isCode (s .code)) (lengthFits (s .n)) (eqb (blocks (s .n)) count) (flagsFit (s .key .corrections)) (zeros (drop (size (s .n)) b)) h in
+    let t = tests (same (field b 0) name) (eqb (getD (field b 1) 0 0) party) (isCode (s .code)) (lengthFits (s .n)) (eqb (blockCount (s .n)) count) (flagsFit (s .key .corrections)) (zeros (drop (size (s .n)) b)) h in
     (omega (arith, ltb-true (s .code) 3 (t .0)), leb-true (s .n) 512 (both (leb 1 (s .n)) (leb (s .n) 512) (t .1) .1), flag-bytes (s .key .corrections) (t .2))
   where
     tests : (a b c d e f g : Bool) → a && (b && (c && (d && (e && (f && g))))) ≡ true → (c ≡ true) × (d ≡ true) × (f ≡ true)

@@ -21,7 +21,7 @@ use Rattle.content.specs.Content.{part, size}
 use Rattle.content.specs.Pieces.{part-is, length-part, wordAt-part}
 use Rattle.one_time.proofs.Laws.{nonce-words}
 use Rattle.half.specs.OneTime.{header-words}
-use Rattle.half.specs.Half.{header, setNumber, blockFits, firstFit, blockAt, openedText}
+use Rattle.half.specs.Half.{header, setNumber, blockFits, firstFit, blockAt, openedBlocks}
 use Rattle.half.specs.Laws.{put-over}
 
 pub load-law : (b : List ℕ) (x y : ℕ) → 8 ≤ length b → x ≡ wordAt b 0 → y ≡ wordAt b 4 → x + y * 2 ^ 32 ≡ setNumber b
@@ -94,13 +94,13 @@ module _ (key b : List ℕ) (set i : ℕ) (lb : length b ≡ 512) where
     pub block-fits : (r : Bool) → not headed ≡ false → r ≡ opened → r ≡ blockFits key set i b
     block-fits r e er = er ∙ ap (λ (h : Bool). h && opened) (sym (not-false headed e) ∙ eh) ∙ tests
 
-length-opened : (key h : List ℕ) (i : ℕ) → 512 * i ≤ length h → length (openedText key h i) ≡ 484 * i
-unfolding openedText blockAt
+length-opened : (key h : List ℕ) (i : ℕ) → 512 * i ≤ length h → length (openedBlocks key h i) ≡ 484 * i
+unfolding openedBlocks blockAt
 length-opened key h zero l = refl
 length-opened key h (suc i) l =
     let b : List ℕ = part (512 * i) 512 h in
     let size : length (cipher key (part 0 12 b) (part 12 484 b)) ≡ 484 = length-cipher key (part 0 12 b) (part 12 484 b) ∙ length-part b 12 484 (omega (arith, length-part h (512 * i) 512 (omega arith))) in
-    omega (arith, length-append (openedText key h i) (cipher key (part 0 12 b) (part 12 484 b)), length-opened key h i (omega arith), size)
+    omega (arith, length-append (openedBlocks key h i) (cipher key (part 0 12 b) (part 12 484 b)), length-opened key h i (omega arith), size)
 
 -- one block more
 module _ (key h out0 out b : List ℕ) (set i k m : ℕ) (fit this : Bool) (es : set ≡ setNumber h) (ek : k ≡ 512) where
@@ -108,10 +108,10 @@ module _ (key h out0 out b : List ℕ) (set i k m : ℕ) (fit this : Bool) (es :
   unfolding firstFit blockAt part
   fit-more e f = rw (add-one i, e, f, es, ek) refl
 
-  pub opened-more : m ≡ 484 → 512 * (i + 1) ≤ length h → 484 * (i + 1) ≤ length out → length b ≡ 484 → (fit ≡ true → out ≡ over 0 (openedText key h i) out0)
+  pub opened-more : m ≡ 484 → 512 * (i + 1) ≤ length h → 484 * (i + 1) ≤ length out → length b ≡ 484 → (fit ≡ true → out ≡ over 0 (openedBlocks key h i) out0)
       → (this ≡ true → b ≡ cipher key (part 0 12 (take k (drop (512 * i) h))) (part 12 484 (take k (drop (512 * i) h)))) → fit && this ≡ true
-      → putMid (484 * i) m out b ≡ over 0 (openedText key h (i + 1)) out0
-  unfolding openedText blockAt
+      → putMid (484 * i) m out b ≡ over 0 (openedBlocks key h (i + 1)) out0
+  unfolding openedBlocks blockAt
   opened-more em lh lo lb f g ok =
       let block : List ℕ = part (512 * i) 512 h in
       let fits = both fit this ok in
@@ -119,11 +119,11 @@ module _ (key h out0 out b : List ℕ) (set i k m : ℕ) (fit this : Bool) (es :
       let is : b ≡ cipher key (part 0 12 block) (part 12 484 block) =
       g (fits .1) ∙ ap (λ (n : ℕ). cipher key (part 0 12 (take n (drop (512 * i) h))) (part 12 484 (take n (drop (512 * i) h)))) ek ∙ unfolded in
       rw (add-one i)
-      (over-next (openedText key h i) (cipher key (part 0 12 block) (part 12 484 block)) out0 out (putMid (484 * i) m out b) 0 (484 * i) (length-opened key h i (omega arith)) e
+      (over-next (openedBlocks key h i) (cipher key (part 0 12 block) (part 12 484 block)) out0 out (putMid (484 * i) m out b) 0 (484 * i) (length-opened key h i (omega arith)) e
       (put-over (484 * i) m out b (lb ∙ sym em) (omega arith) ∙ ap₂ (λ (n : ℕ) (l : List ℕ). over n l out) (omega arith) is))
     where
       unfolded : cipher key (part 0 12 (take 512 (drop (512 * i) h))) (part 12 484 (take 512 (drop (512 * i) h))) ≡ cipher key (part 0 12 (part (512 * i) 512 h)) (part 12 484 (part (512 * i) 512 h))
       unfolded = ap (λ (l : List ℕ). cipher key (part 0 12 l) (part 12 484 l)) (part-is (512 * i) 512 h)
 
-pub opened-all : (key h out0 out : List ℕ) (count : ℕ) → 512 * count ≤ length h → length out0 ≡ 484 * count → out ≡ over 0 (openedText key h count) out0 → out ≡ openedText key h count
-opened-all key h out0 out count l lo e = e ∙ over-all (openedText key h count) out0 (length-opened key h count l ∙ sym lo)
+pub opened-all : (key h out0 out : List ℕ) (count : ℕ) → 512 * count ≤ length h → length out0 ≡ 484 * count → out ≡ over 0 (openedBlocks key h count) out0 → out ≡ openedBlocks key h count
+opened-all key h out0 out count l lo e = e ∙ over-all (openedBlocks key h count) out0 (length-opened key h count l ∙ sym lo)

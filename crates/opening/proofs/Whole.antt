@@ -14,7 +14,7 @@ use Rattle.content.specs.declared.Set.{Set}
 use Rattle.content.specs.Content.{size, lengthIn, setIn, contentFits, noSet}
 use Rattle.content.specs.Laws.{fits-reads}
 use Rattle.opening.specs.declared.Examined.{Examined}
-use Rattle.half.specs.Half.{setNumber, firstFit, openedText, wholeBlocks, whyNotOpened, whyNot, openedSet}
+use Rattle.half.specs.Half.{setNumber, firstFit, openedBlocks, wholeBlocks, whyNotOpened, whyNot, openedSet}
 use Rattle.opening.specs.Examined.{refused, answerFor, examined}
 
 -- an answer that refuses, and one that does not
@@ -31,11 +31,11 @@ module _ (key name h : List ℕ) (party : ℕ) (fits : Bool) (ef : fits ≡ firs
   unfolding whyNotOpened
   whole-10 r e er = refused-as _ 10 key h r er (turned-down _ 10 _ (rw ef at e)) (λ z. omega arith)
 
-  module _ (left : not fits ≡ false) (t : List ℕ) (opens : fits ≡ true → t ≡ openedText key h (length h / 512)) (fit : Bool) (ec : fit ≡ contentFits name party (length h / 512) t) where
-    et : t ≡ openedText key h (length h / 512)
+  module _ (left : not fits ≡ false) (t : List ℕ) (opens : fits ≡ true → t ≡ openedBlocks key h (length h / 512)) (fit : Bool) (ec : fit ≡ contentFits name party (length h / 512) t) where
+    et : t ≡ openedBlocks key h (length h / 512)
     et = opens (not-false fits left)
 
-    tested : fit ≡ contentFits name party (length h / 512) (openedText key h (length h / 512))
+    tested : fit ≡ contentFits name party (length h / 512) (openedBlocks key h (length h / 512))
     tested = ec ∙ ap (contentFits name party (length h / 512)) et
 
     pub whole-11 : (r : Examined) → not fit ≡ true → r ≡ refused 11 → r ≡ answerFor (whyNotOpened key name party h) key h

@@ -8,7 +8,7 @@ ghost use lib.ListN.{length};
 ghost use Rattle.words.specs.Bytes.{wordAt, wordsAt};
 ghost use Rattle.aead.specs.Aead.{polyKey, cipher, opens};
 ghost use Rattle.content.specs.Content.{part};
-ghost use Rattle.half.specs.Half.{header, blockFits, firstFit, openedText, setNumber, whyNotOpened};
+ghost use Rattle.half.specs.Half.{header, blockFits, firstFit, openedBlocks, setNumber, whyNotOpened};
 ghost use Rattle.opening.specs.Examined.{refused as refusedFor, answerFor, examined};
 use content::Set;
 
@@ -82,7 +82,7 @@ fn open_block(
 fn open_blocks(key: &[u8; 32], number: u64, count: usize, h: &[u8], out: &mut [u8]) -> bool
     requires { ⌜ (count ≤ 16) × (512 * count ≤ length (now h)) × (length (now out) ≡ 484 * count) × (number ≡ setNumber (now h)) ⌝ }
     ensures { λ r. ⌜ r ≡ firstFit (now (key .entry)) (now (h .entry)) count ⌝ }
-    ensures { λ r. ⌜ (r ≡ true → now (out .exit) ≡ openedText (now (key .entry)) (now (h .entry)) count) ⌝ }
+    ensures { λ r. ⌜ (r ≡ true → now (out .exit) ≡ openedBlocks (now (key .entry)) (now (h .entry)) count) ⌝ }
 {
     let keys = half::one_time_keys(key, number, count);
     let mut fit = true;

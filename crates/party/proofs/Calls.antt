@@ -159,15 +159,15 @@ module _ (s : Party) (t : Bool) (et : t ≡ stateFits (s .party) (s .phase) (s .
           let b = passed _ (a .1) in
           (open-most 1 s (a .0), omega (arith, eqb-true (length v) (s .set .n) (both (eqb (length name) 16) _ (b .0) .1)))
 
-      pub take-refused : (k ≡ 0 → ⊥) → told k s 0 ≡ P.take s l name v
-      unfolding P.take
+      pub take-refused : (k ≡ 0 → ⊥) → told k s 0 ≡ P.takeVector s l name v
+      unfolding P.takeVector
       take-refused some = keeps-silent k _ _ s _ why-take some
 
-      pub take-taken : (x w : ℕ) → k ≡ 0 → x ≡ boxShare (s .party) (s .set .n) (s .set .c) (s .masked) v (s .set .x) (s .set .y) → w ≡ Share.word (s .set .code) x (s .own) (s .set .r)
-          → told k (record { name = s .name; party = s .party; key = s .key; last = s .last; phase = 3; set = s .set; masked = s .masked; own = s .own; word = w }) w ≡ P.take s l name v
-      unfolding P.take worded wordOf
+      pub take-taken : (x w : ℕ) → k ≡ 0 → x ≡ boxShare (s .party) (s .set .n) (s .set .c) (s .masked) v (s .set .x) (s .set .y) → w ≡ Share.boxWord (s .set .code) x (s .own) (s .set .r)
+          → told k (record { name = s .name; party = s .party; key = s .key; last = s .last; phase = 3; set = s .set; masked = s .masked; own = s .own; word = w }) w ≡ P.takeVector s l name v
+      unfolding P.takeVector worded wordOf
       take-taken x w none ex ew =
-          let is : w ≡ wordOf (s .set) (s .party) (s .masked) (s .own) v = ew ∙ ap (λ (y : ℕ). Share.word (s .set .code) y (s .own) (s .set .r)) ex in
+          let is : w ≡ wordOf (s .set) (s .party) (s .masked) (s .own) v = ew ∙ ap (λ (y : ℕ). Share.boxWord (s .set .code) y (s .own) (s .set .r)) ex in
           moves-telling k _ _ _ s w _ why-take none (ap (worded s) is) is
 
   module _ (l : Label) (name : List ℕ) (w : ℕ) (f : Bool) (from : ℕ) (eo : from ≡ 1 - s .party) (ef : f ≡ expected 1 (s .name) from l name) (k : ℕ)
@@ -192,12 +192,12 @@ module _ (s : Party) (t : Bool) (et : t ≡ stateFits (s .party) (s .phase) (s .
   unfolding sound
   drop-turn = ap (λ (b : Bool). not (eqb (s .phase) 0) && b) et
 
-  pub drop-refused : not (not (eqb (s .phase) 0) && t) ≡ true → told 3 s 0 ≡ P.drop s
-  unfolding P.drop whyNotDrop
+  pub drop-refused : not (not (eqb (s .phase) 0) && t) ≡ true → told 3 s 0 ≡ P.dropSet s
+  unfolding P.dropSet whyNotDrop
   drop-refused e = keeps 3 _ _ s (turned-down _ 3 _ (rw drop-turn at e)) (λ z. omega arith)
 
-  pub drop-taken : (q : Party) → not (not (eqb (s .phase) 0) && t) ≡ false → q ≡ idle (s .name) (s .party) (s .key) (s .last) → told 0 q 0 ≡ P.drop s
-  unfolding P.drop whyNotDrop closed
+  pub drop-taken : (q : Party) → not (not (eqb (s .phase) 0) && t) ≡ false → q ≡ idle (s .name) (s .party) (s .key) (s .last) → told 0 q 0 ≡ P.dropSet s
+  unfolding P.dropSet whyNotDrop closed
   drop-taken q e eq = moves 0 _ _ _ s (goes-on _ 3 _ (rw drop-turn at e) refl) refl eq
 
 -- ---- start

@@ -112,14 +112,14 @@ boxShare party n c ownMasked other x y =
 
 -- "its word: k × (share) + own + its r"
 unfoldable pub wordOf : Set → ℕ → List ℕ → ℕ → List ℕ → ℕ
-wordOf set party ownMasked own other = Share.word (set .code) (boxShare party (set .n) (set .c) ownMasked other (set .x) (set .y)) own (set .r)
+wordOf set party ownMasked own other = Share.boxWord (set .code) (boxShare party (set .n) (set .c) ownMasked other (set .x) (set .y)) own (set .r)
 
 unfoldable pub worded : Party → ℕ → Party
 worded s w =
     record { name = s .name; party = s .party; key = s .key; last = s .last; phase = 3; set = s .set; masked = s .masked; own = s .own; word = w }
 
-unfoldable pub take : Party → Label → List ℕ → List ℕ → PartyAnswer
-take s l name v =
+unfoldable pub takeVector : Party → Label → List ℕ → List ℕ → PartyAnswer
+takeVector s l name v =
     let why : ℕ = whyNotTake s l name v in
     let w : ℕ = wordOf (s .set) (s .party) (s .masked) (s .own) v in
     record { why = why; party = ifTaken why (worded s w) s; word = ifTaken why w 0 }
@@ -147,7 +147,7 @@ finish s l name w =
 unfoldable pub whyNotDrop : Party → ℕ
 whyNotDrop s = unless (not (eqb (s .phase) 0) && sound s) 3 0
 
-unfoldable pub drop : Party → PartyAnswer
-drop s =
+unfoldable pub dropSet : Party → PartyAnswer
+dropSet s =
     let why : ℕ = whyNotDrop s in
     record { why = why; party = ifTaken why (closed s) s; word = 0 }

@@ -10,7 +10,7 @@ ghost use Rattle.measure.specs.Measure.{allInRange};
 ghost use Rattle.share.specs.Share.{plus};
 ghost use Rattle.messages.specs.Messages.{unless};
 ghost use Rattle.content.specs.Content.{fill, lengthFits};
-ghost use Rattle.party.specs.Party.{idle as idleOf, whyNotParty, startParty, stateFits, load as loadOf, mask as maskOf, maskOut, take as takeOf, boxShare, finish as finishOf, drop as dropOf};
+ghost use Rattle.party.specs.Party.{idle as idleOf, whyNotParty, startParty, stateFits, load as loadOf, mask as maskOf, maskOut, takeVector as takeOf, boxShare, finish as finishOf, dropSet as dropOf};
 use content::Set;
 use messages::Label;
 

@@ -12,7 +12,7 @@ use Rattle.algebra.specs.Ring.{ring=, reify}
 use Rattle.words.specs.List.{over}
 use Rattle.words.specs.Bytes.{le32, wordAt}
 use Rattle.poly1305.specs.Poly1305.{number, bytes, clamp, rOf, sOf, tagOf}
-use Rattle.poly1305.specs.Numbers.{number4, last4, word, word-after}
+use Rattle.poly1305.specs.Numbers.{number4, last4, number-of-word, word-after}
 use Rattle.limbs.specs.Limbs.{words4, low128}
 
 -- ---- words out of bytes
@@ -37,7 +37,7 @@ pub number16 : (m : List ℕ) (i : ℕ) → i + 16 ≤ length m
 unfolding number
 number16 m i h =
     words (wordAt m i) (wordAt m (i + 4)) (wordAt m (i + 8)) (wordAt m (i + 12))
-    (word m i 12 (omega arith))
+    (number-of-word m i 12 (omega arith))
     (word-after m i 4 8 8 (omega arith) (omega arith))
     (word-after m i 8 12 4 (omega arith) (omega arith))
     (word-after m i 12 16 0 (omega arith) (omega arith))

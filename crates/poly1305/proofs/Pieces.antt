@@ -10,7 +10,7 @@ use Rattle.algebra.specs.Mod.{Mod, m-refl, m-eq, m-sym, m-trans, m-add, m-mul, 
 use Rattle.words.specs.List.{over, over-eq}
 use Rattle.limbs.specs.Limbs.{prime}
 use Rattle.poly1305.specs.Poly1305.{number, piece, firstPieces, pieces, absorb, absorbAll, pad16}
-use Rattle.poly1305.specs.Blocks.{blocks}
+use Rattle.poly1305.specs.Blocks.{unreduced}
 use Rattle.poly1305.specs.Laws.{absorb-mod, absorbAll-append, firstPieces-of, length-pad16, padded-same}
 use Rattle.poly1305.proofs.Bytes.{number-append}
 
@@ -50,15 +50,15 @@ zeros-after s n =
 pub record Absorbed (r t h : ℕ) (m : List ℕ) (a at : ℕ) : Type 0 where
   pub within : at ≤ length m
   pub whole : at % 16 ≡ 0
-  pub is : Mod prime a (blocks r t h m (at / 16))
+  pub is : Mod prime a (unreduced r t h m (at / 16))
 
 pub absorbed-none : (r t h : ℕ) (m : List ℕ) → Absorbed r t h m h 0
-unfolding blocks
+unfolding unreduced
 absorbed-none r t h m = record { within = omega arith; whole = refl; is = m-refl }
 
 pub absorbed-more : (r t h : ℕ) (m : List ℕ) {a x : ℕ} (at : ℕ) → Absorbed r t h m a at → at + 16 ≤ length m
     → Mod prime x ((a + (number (take 16 (drop at m)) + t)) * r) → Absorbed r t h m x (at + 16)
-unfolding blocks piece
+unfolding unreduced piece
 absorbed-more r t h m {a} {x} at A l k =
     record { within = l; whole = omega (arith, A .whole); is = rw next (m-trans k (m-mul (m-add (A .is) (m-eq block)) m-refl)) }
   where
@@ -72,7 +72,7 @@ absorbed-more r t h m {a} {x} at A l k =
     block = ap (λ (i : ℕ). number (take 16 (drop i m)) + t) start
 
 -- no whole block is left
-pub absorbed-all : (r t h : ℕ) (m : List ℕ) {a : ℕ} (at : ℕ) → Absorbed r t h m a at → length m - at < 16 → Mod prime a (blocks r t h m (length m / 16))
+pub absorbed-all : (r t h : ℕ) (m : List ℕ) {a : ℕ} (at : ℕ) → Absorbed r t h m a at → length m - at < 16 → Mod prime a (unreduced r t h m (length m / 16))
 absorbed-all r t h m {a} at A l = rw (sym count) (A .is)
   where
     count : at / 16 ≡ length m / 16
@@ -83,16 +83,16 @@ length-piece : (m : List ℕ) (n : ℕ) → 16 * suc n ≤ length m → length (
 unfolding piece
 length-piece m n h = length-take-le 16 (drop (16 * n) m) (omega (arith, length-drop (16 * n) m))
 
-blocks-pieces : (r a : ℕ) (m : List ℕ) (n : ℕ) → 16 * n ≤ length m → Mod prime (blocks r (2 ^ 24 * 2 ^ 104) a m n) (absorbAll r a (firstPieces m n))
-unfolding blocks firstPieces absorbAll
+blocks-pieces : (r a : ℕ) (m : List ℕ) (n : ℕ) → 16 * n ≤ length m → Mod prime (unreduced r (2 ^ 24 * 2 ^ 104) a m n) (absorbAll r a (firstPieces m n))
+unfolding unreduced firstPieces absorbAll
 blocks-pieces r a m zero h = m-refl
 blocks-pieces r a m (suc n) h = absorb-next r a (firstPieces m n) (piece m n) (blocks-pieces r a m n (omega arith)) m-refl (bit-above (piece m n) (length-piece m n h))
 
 -- a single block
-one-block : (r t a : ℕ) (b : List ℕ) → length b ≡ 16 → blocks r t a b (length b / 16) ≡ (a + (number b + t)) * r
-unfolding blocks piece
+one-block : (r t a : ℕ) (b : List ℕ) → length b ≡ 16 → unreduced r t a b (length b / 16) ≡ (a + (number b + t)) * r
+unfolding unreduced piece
 one-block r t a b l =
-    ap (λ (n : ℕ). blocks r t a b (n / 16)) l ∙ ap (λ (s : List ℕ). (a + (number s + t)) * r) (take-all 16 b (omega arith))
+    ap (λ (n : ℕ). unreduced r t a b (n / 16)) l ∙ ap (λ (s : List ℕ). (a + (number s + t)) * r) (take-all 16 b (omega arith))
 
 -- ---- what is left after the whole pieces
 
@@ -190,7 +190,7 @@ module _ (m : List ℕ) where
 
 -- ---- a whole message, whose whole blocks left a
 
-module _ (r h : ℕ) (m : List ℕ) {a : ℕ} (A : Mod prime a (blocks r (2 ^ 24 * 2 ^ 104) h m (length m / 16))) where
+module _ (r h : ℕ) (m : List ℕ) {a : ℕ} (A : Mod prime a (unreduced r (2 ^ 24 * 2 ^ 104) h m (length m / 16))) where
   first : Mod prime a (absorbAll r h (firstPieces m (length m / 16)))
   first = m-trans A (blocks-pieces r h m (length m / 16) (omega arith))
 
@@ -199,7 +199,7 @@ module _ (r h : ℕ) (m : List ℕ) {a : ℕ} (A : Mod prime a (blocks r (2 ^ 24
   absorb-none e = rw (none-left m e) at first
 
   pub absorb-left : (b : List ℕ) {x : ℕ} → (length m % 16 ≡ 0 → ⊥) → b ≡ piece m (length m / 16) ++ replicate (16 - length m % 16) 0
-      → Mod prime x (blocks r (0 * 2 ^ 104) a (set b (length m % 16) 1) (length (set b (length m % 16) 1) / 16)) → Mod prime x (absorbAll r h (pieces m))
+      → Mod prime x (unreduced r (0 * 2 ^ 104) a (set b (length m % 16) 1) (length (set b (length m % 16) 1) / 16)) → Mod prime x (absorbAll r h (pieces m))
   absorb-left b n e k =
       rw (some-left m n) at
       (absorb-next r h (firstPieces m (length m / 16)) (piece m (length m / 16)) first
@@ -211,7 +211,7 @@ module _ (r h : ℕ) (m : List ℕ) {a : ℕ} (A : Mod prime a (blocks r (2 ^ 24
   padded-none e = rw (none-padded m e) at first
 
   pub padded-left : (b : List ℕ) {x : ℕ} → (length m % 16 ≡ 0 → ⊥) → b ≡ piece m (length m / 16) ++ replicate (16 - length m % 16) 0
-      → Mod prime x (blocks r (2 ^ 24 * 2 ^ 104) a b (length b / 16)) → Mod prime x (absorbAll r h (pieces (m ++ pad16 m)))
+      → Mod prime x (unreduced r (2 ^ 24 * 2 ^ 104) a b (length b / 16)) → Mod prime x (absorbAll r h (pieces (m ++ pad16 m)))
   padded-left b n e k =
       rw (some-padded m n) at
       (absorb-next r h (firstPieces m (length m / 16)) (piece m (length m / 16) ++ replicate (16 - length m % 16) 0) first

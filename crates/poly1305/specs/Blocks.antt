@@ -4,6 +4,6 @@ use Prim.Native.Nat.{ℕ, zero, suc, _+_, _*_}
 use Rattle.poly1305.specs.Poly1305.{number, piece}
 
 -- the accumulator a after the first n blocks of m, with t added to each, before the remainder
-unfoldable pub blocks : ℕ → ℕ → ℕ → List ℕ → ℕ → ℕ
-blocks r t a m zero = a
-blocks r t a m (suc n) = (blocks r t a m n + (number (piece m n) + t)) * r
+unfoldable pub unreduced : ℕ → ℕ → ℕ → List ℕ → ℕ → ℕ
+unreduced r t a m zero = a
+unreduced r t a m (suc n) = (unreduced r t a m n + (number (piece m n) + t)) * r

@@ -67,9 +67,9 @@ pub drop-more : (m : List ℕ) (i k j : ℕ) → i + k < length m → i + k + 1 
 drop-more m i k j h e = drop-one m (i + k) h ∙ ap (λ (n : ℕ). getD m (i + k) 0 ∷ drop n m) e
 
 -- a number whose lowest word stands at i
-pub word : (m : List ℕ) (i n : ℕ) → i + 4 ≤ length m → number (take (suc (suc (suc (suc n)))) (drop i m)) ≡ wordAt m i + number (take n (drop (i + 4) m)) * 2 ^ 32
+pub number-of-word : (m : List ℕ) (i n : ℕ) → i + 4 ≤ length m → number (take (suc (suc (suc (suc n)))) (drop i m)) ≡ wordAt m i + number (take n (drop (i + 4) m)) * 2 ^ 32
 unfolding wordAt
-word m i n h = ap (λ (l : List ℕ). number (take (suc (suc (suc (suc n)))) l)) four ∙ number4 (getD m i 0) (getD m (i + 1) 0) (getD m (i + 2) 0) (getD m (i + 3) 0) (take n (drop (i + 4) m))
+number-of-word m i n h = ap (λ (l : List ℕ). number (take (suc (suc (suc (suc n)))) l)) four ∙ number4 (getD m i 0) (getD m (i + 1) 0) (getD m (i + 2) 0) (getD m (i + 3) 0) (take n (drop (i + 4) m))
   where
     four : drop i m ≡ getD m i 0 ∷ getD m (i + 1) 0 ∷ getD m (i + 2) 0 ∷ getD m (i + 3) 0 ∷ drop (i + 4) m
     four =
@@ -80,12 +80,12 @@ word m i n h = ap (λ (l : List ℕ). number (take (suc (suc (suc (suc n)))) l))
 
 pub word-after : (m : List ℕ) (i k j n : ℕ) → i + k + 4 ≤ length m → i + k + 4 ≡ i + j
     → number (take (suc (suc (suc (suc n)))) (drop (i + k) m)) ≡ wordAt m (i + k) + number (take n (drop (i + j) m)) * 2 ^ 32
-word-after m i k j n h e = word m (i + k) n h ∙ ap (λ (x : ℕ). wordAt m (i + k) + number (take n (drop x m)) * 2 ^ 32) e
+word-after m i k j n h e = number-of-word m (i + k) n h ∙ ap (λ (x : ℕ). wordAt m (i + k) + number (take n (drop x m)) * 2 ^ 32) e
 
 -- a word, and a number of two words
 pub number-word : (m : List ℕ) (i : ℕ) → i + 4 ≤ length m → number (take 4 (drop i m)) ≡ wordAt m i
 unfolding number
-number-word m i h = word m i 0 h ∙ omega arith
+number-word m i h = number-of-word m i 0 h ∙ omega arith
 
 pub number-words : (m : List ℕ) (i : ℕ) → i + 8 ≤ length m → number (take 8 (drop i m)) ≡ wordAt m i + wordAt m (i + 4) * 2 ^ 32
-number-words m i h = word m i 4 (omega arith) ∙ ap (λ (x : ℕ). wordAt m i + x * 2 ^ 32) (number-word m (i + 4) (omega arith))
+number-words m i h = number-of-word m i 4 (omega arith) ∙ ap (λ (x : ℕ). wordAt m i + x * 2 ^ 32) (number-word m (i + 4) (omega arith))

@@ -8,7 +8,7 @@ ghost use lib.ListN.{length, take, drop, replicate};
 ghost use Rattle.algebra.specs.Mod.{Mod};
 ghost use Rattle.limbs.specs.Limbs.{prime, value, words4, Below, Limbs, modPrime};
 ghost use Rattle.poly1305.specs.Poly1305.{number, rOf, sOf, piece, pieces, pad16, absorbAll, tagOf, mac as macOf};
-ghost use Rattle.poly1305.specs.Blocks.{blocks};
+ghost use Rattle.poly1305.specs.Blocks.{unreduced};
 
 // The two halves of a key: r, clamped, in limbs; and s, in words, lowest first.
 pub struct OneTimeKey {
@@ -52,7 +52,7 @@ fn absorb_blocks(h: [u64; 5], r: [u64; 5], m: &[u8], top: u64) -> [u64; 5]
     requires { ⌜ Limbs r ⌝ }
     requires { ⌜ top ≤ 2 ^ 24 ⌝ }
     ensures { λ a. ⌜ Limbs a ⌝ }
-    ensures { λ a. ⌜ Mod prime (value a) (blocks (value r) (top * 2 ^ 104) (value h) (now (m .entry)) (length (now (m .entry)) / 16)) ⌝ }
+    ensures { λ a. ⌜ Mod prime (value a) (unreduced (value r) (top * 2 ^ 104) (value h) (now (m .entry)) (length (now (m .entry)) / 16)) ⌝ }
 {
     let mut a = h;
     let mut at: usize = 0;

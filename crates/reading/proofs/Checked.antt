@@ -12,7 +12,7 @@ use lib.Seq.{take-suc, take-all}
 use Rattle.words.specs.List.{same}
 use Rattle.node.specs.declared.Correction.{Correction}
 use Rattle.measure.specs.Measure.{isCode}
-use Rattle.content.specs.Content.{widths, size, blocks, lengthIn, field, correctionIn, correctionsIn, setIn, lengthFits, flagsFit, zeros, contentFits}
+use Rattle.content.specs.Content.{widths, size, blockCount, lengthIn, field, correctionIn, correctionsIn, setIn, lengthFits, flagsFit, zeros, contentFits}
 use Rattle.content.specs.Pieces.{offset, getD-part}
 use Rattle.reading.proofs.Read.{between, byte-at}
 
@@ -51,7 +51,7 @@ module _ (name : List ℕ) (party count : ℕ) (b : List ℕ) (n : ℕ) (is : n 
   unfolding contentFits setIn
   out-of-range e =
       refused (same (field b 0) name) (eqb (getD (field b 1) 0 0) party) (isCode (getD (field b 2) 0 0))
-      (ap (λ (l : Bool). l && (eqb (blocks (lengthIn b)) count && (flagsFit (correctionsIn (field b 10) 32) && zeros (drop (size (lengthIn b)) b)))) (ap lengthFits (sym is) ∙ e))
+      (ap (λ (l : Bool). l && (eqb (blockCount (lengthIn b)) count && (flagsFit (correctionsIn (field b 10) 32) && zeros (drop (size (lengthIn b)) b)))) (ap lengthFits (sym is) ∙ e))
 
   pub too-short : n < 1 → false ≡ contentFits name party count b
   unfolding lengthFits
@@ -62,22 +62,22 @@ module _ (name : List ℕ) (party count : ℕ) (b : List ℕ) (n : ℕ) (is : n 
   too-long h = out-of-range (ap (λ (l : Bool). leb 1 n && l) (lt-leb n 512 h) ∙ and-false (leb 1 n))
 
   -- L asks for another number of blocks
-  pub other-count : (k : ℕ) → k ≡ blocks n → (k ≡ count → ⊥) → false ≡ contentFits name party count b
+  pub other-count : (k : ℕ) → k ≡ blockCount n → (k ≡ count → ⊥) → false ≡ contentFits name party count b
   unfolding contentFits setIn
   other-count k e h =
       refused (same (field b 0) name) (eqb (getD (field b 1) 0 0) party) (isCode (getD (field b 2) 0 0))
       (ap (λ (l : Bool). lengthFits (lengthIn b) && (l && (flagsFit (correctionsIn (field b 10) 32) && zeros (drop (size (lengthIn b)) b))))
-      (ap (λ (m : ℕ). eqb m count) (ap blocks (sym is) ∙ sym e) ∙ ne-eqb k count h)
+      (ap (λ (m : ℕ). eqb m count) (ap blockCount (sym is) ∙ sym e) ∙ ne-eqb k count h)
       ∙ and-false (lengthFits (lengthIn b)))
 
-  pub fits-law : (k owner code : ℕ) (named coded flags filled : Bool) → 1 ≤ n → n ≤ 512 → k ≡ blocks n → k ≡ count
+  pub fits-law : (k owner code : ℕ) (named coded flags filled : Bool) → 1 ≤ n → n ≤ 512 → k ≡ blockCount n → k ≡ count
       → named ≡ same (take 16 b) name → owner ≡ getD b 16 0 → code ≡ getD b 17 0 → coded ≡ isCode code
       → flags ≡ flagsFit (correctionsIn (take (1244 + 12 * n - (60 + 12 * n)) (drop (60 + 12 * n) b)) 32) → filled ≡ zeros (take (length b - (1248 + 12 * n)) (drop (1248 + 12 * n) b))
       → (((named && eqb owner party) && coded) && flags) && filled ≡ contentFits name party count b
   unfolding contentFits setIn lengthFits size widths offset
   fits-law k owner code named coded flags filled h l ek e e₀ e₁ e₂ e₃ e₄ e₅ =
       let long : leb 1 (lengthIn b) && leb (lengthIn b) 512 ≡ true = ap₂ _&&_ (le-leb 1 (lengthIn b) (omega arith)) (le-leb (lengthIn b) 512 (omega arith)) in
-      let many : eqb (blocks (lengthIn b)) count ≡ true = eq-eqb (blocks (lengthIn b)) count (ap blocks (sym is) ∙ sym ek ∙ e) in
+      let many : eqb (blockCount (lengthIn b)) count ≡ true = eq-eqb (blockCount (lengthIn b)) count (ap blockCount (sym is) ∙ sym ek ∙ e) in
       let p₀ = e₀ ∙ ap (λ (f : List ℕ). same f name) (between b 0 0 16 refl refl) in
       let p₁ = ap (λ (x : ℕ). eqb x party) (e₁ ∙ byte-at b 1 16 refl refl) in
       let p₂ = e₃ ∙ ap isCode (e₂ ∙ byte-at b 2 17 refl refl) in

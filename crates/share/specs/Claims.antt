@@ -19,7 +19,7 @@ use Rattle.node.specs.Node.{keyFor, valueAt}
 use Rattle.node.specs.Claims.{shares}
 use Rattle.measure.specs.Measure.{measure, reached, allInRange, thresholdFits, kWord, ownWord}
 use Rattle.measure.specs.Laws.{measure≈, reached-sign}
-use Rattle.share.specs.Share.{plus, inner, otherC, otherR, share, word, answer, idealGate}
+use Rattle.share.specs.Share.{plus, inner, otherC, otherR, share, boxWord, answer, idealGate}
 
 -- ---- the products: X · Y = MX · MY + mx · my - MX · my - MY · mx, where MX = X + mx and mx = x0 + x1
 
@@ -78,10 +78,10 @@ module _ (code n t : ℕ) (x y x0 x1 y0 y1 : List ℕ) (c0 r r0 : ℕ) where
   maskedY = plus n y maskY
 
   abbrev pub word0 : ℕ
-  word0 = word code (share 0 n c0 maskedX maskedY x0 y0) (ownWord code n x) r0
+  word0 = boxWord code (share 0 n c0 maskedX maskedY x0 y0) (ownWord code n x) r0
 
   abbrev pub word1 : ℕ
-  word1 = word code (share 1 n (otherC n maskX maskY c0) maskedX maskedY x1 y1) (ownWord code n y) (otherR r t r0)
+  word1 = boxWord code (share 1 n (otherC n maskX maskY c0) maskedX maskedY x1 y1) (ownWord code n y) (otherR r t r0)
 
   inners : inner n x y
       ≈ sub (sub (add (inner n maskedX maskedY) (inner n maskX maskY)) (add (inner n maskedX y0) (inner n maskedX y1))) (add (inner n maskedY x0) (inner n maskedY x1))
@@ -104,7 +104,7 @@ module _ (code n t : ℕ) (x y x0 x1 y0 y1 : List ℕ) (c0 r r0 : ℕ) where
 
   -- the words open to the products and the own terms, less T and under r
   words-open : add word0 word1 ≈ add (add (add (ownWord code n x) (ownWord code n y)) (mul (kWord code) (inner n x y))) (sub r t)
-  unfolding word share otherC otherR only odd
+  unfolding boxWord share otherC otherR only odd
   words-open = open-sum (inner n x y) _ _ _ _ _ _ (kWord code) (ownWord code n x) (ownWord code n y) c0 r t r0 inners
     where
       open-sum : (s A B C D E F k o p c r t r0 : ℕ) → s ≈ sub (sub (add A B) (add C D)) (add E F)

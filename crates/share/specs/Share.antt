@@ -33,8 +33,8 @@ share party n c maskedX maskedY shareX shareY =
     add (sub (sub c (inner n maskedX shareY)) (inner n maskedY shareX)) (only (odd party) (inner n maskedX maskedY))
 
 -- call 3: "its word: k × (share) + own + its r"
-unfoldable pub word : ℕ → ℕ → ℕ → ℕ → ℕ
-word code s own r = add (add (mul (kWord code) s) own) r
+unfoldable pub boxWord : ℕ → ℕ → ℕ → ℕ → ℕ
+boxWord code s own r = add (add (mul (kWord code) s) own) r
 
 -- call 4: "its answer is value at Z + 2^31 minus value at Z, and party 1 adds 1 if Z < 2^31"
 unfoldable pub answer : ℕ → Key → List ℕ → ℕ → ℕ

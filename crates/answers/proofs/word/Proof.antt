@@ -1,6 +1,6 @@
 use mathlib.Core.Path.{_∙_, ap}
 use Rattle.algebra.specs.Word.{add, mul}
-use Rattle.share.specs.Share.{word}
+use Rattle.share.specs.Share.{boxWord}
 use borrow.Author.Needs.{needs}
 use Rattle.answers.proofs.word.Statement.{statement}
 use Rattle.answers.proofs.word.Tie as tie
@@ -18,7 +18,7 @@ add-requires-2 : tie.Need-add-requires-2
 add-requires-2 c κs = search needs
 
 returns : tie.Need-returns
-unfolding word
+unfolding boxWord
 returns c =
     let at-add = c .before in
     let at-mul = at-add .before in

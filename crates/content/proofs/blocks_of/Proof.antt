@@ -1,5 +1,5 @@
 use mathlib.Core.Path.{refl}
-use Rattle.content.specs.Content.{blocks, size}
+use Rattle.content.specs.Content.{blockCount, size}
 use borrow.Author.Needs.{needs}
 use Rattle.content.proofs.blocks_of.Statement.{statement}
 use Rattle.content.proofs.blocks_of.Tie as tie
@@ -14,7 +14,7 @@ add-result-2 : tie.Need-add-result-2
 add-result-2 c = search needs
 
 returns : tie.Need-returns
-unfolding blocks size
+unfolding blockCount size
 returns c = refl
 
 pub blocks-of-spec : {M : Type 1} → statement M

@@ -1,4 +1,4 @@
-use Rattle.half.specs.Half.{firstFit, openedText}
+use Rattle.half.specs.Half.{firstFit, openedBlocks}
 use Rattle.words.specs.List.{over}
 use lib.ListN.{length}
 use native.Mathlib.Omega.{arith}
@@ -11,7 +11,7 @@ use Rattle.opening.proofs.open_blocks.Statement.{statement}
 use Rattle.opening.proofs.open_blocks.Tie as tie
 
 abbrev Inv-loop : tie.InvT-loop
-Inv-loop key number count h out₀ keys fit₀ i₀ out fit i = (i ≤ count) × (length out ≡ length out₀) × (fit ≡ firstFit key h i) × (fit ≡ true → out ≡ over 0 (openedText key h i) out₀)
+Inv-loop key number count h out₀ keys fit₀ i₀ out fit i = (i ≤ count) × (length out ≡ length out₀) × (fit ≡ firstFit key h i) × (fit ≡ true → out ≡ over 0 (openedBlocks key h i) out₀)
 
 abbrev μ-loop : tie.MeasureT-loop
 μ-loop key number count h out₀ keys fit₀ i₀ out fit i = count - i
@@ -20,7 +20,7 @@ one-time-keys-requires : tie.Need-one-time-keys-requires Inv-loop μ-loop
 one-time-keys-requires c κs = search needs
 
 loop-holds : tie.Need-loop-holds Inv-loop μ-loop
-unfolding over firstFit openedText
+unfolding over firstFit openedBlocks
 loop-holds c = (search needs, refl, refl, λ _. refl)
 
 slice-aggregate-key-at : tie.Need-slice-aggregate-key-at Inv-loop μ-loop

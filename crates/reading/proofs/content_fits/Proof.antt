@@ -1,7 +1,7 @@
 use mathlib.Core.Path.{sym}
 use native.Mathlib.Omega.{arith}
 use lib.Seq.{length-take-le}
-use Rattle.content.specs.Content.{blocks, size}
+use Rattle.content.specs.Content.{blockCount, size}
 use Rattle.reading.proofs.Checked.{too-short, too-long, other-count, fits-law}
 use borrow.Author.Needs.{needs}
 use Rattle.reading.proofs.content_fits.Statement.{statement}
@@ -65,18 +65,18 @@ part-flags-fit-start : tie.Need-part-flags-fit-start
 part-flags-fit-start c = search needs
 
 part-flags-fit-end : tie.Need-part-flags-fit-end
-unfolding blocks size
+unfolding blockCount size
 part-flags-fit-end c = search needs
 
 flags-fit-requires : tie.Need-flags-fit-requires
 flags-fit-requires c κs = search needs
 
 sub-all-zero : tie.Need-sub-all-zero
-unfolding blocks size
+unfolding blockCount size
 sub-all-zero c = search needs
 
 part-all-zero-start : tie.Need-part-all-zero-start
-unfolding blocks size
+unfolding blockCount size
 part-all-zero-start c = search needs
 
 part-all-zero-end : tie.Need-part-all-zero-end
