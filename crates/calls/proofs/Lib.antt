@@ -11,8 +11,10 @@ pub mod Made
 pub mod NotEmpty
 pub mod Once
 pub mod Parts
+pub mod Refusals
 pub mod Runs
 pub mod Slots
+pub mod Stays
 pub mod Tidy
 pub mod Unmoved
 pub mod Written

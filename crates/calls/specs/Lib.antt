@@ -1,3 +1,4 @@
 pub mod Demand
 pub mod Lists
+pub mod Refusals
 pub mod States

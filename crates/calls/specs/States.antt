@@ -1,11 +1,36 @@
--- What a box's state holds after any list of calls, whatever was handed in (01, "One check at a box"). No proof stands here. Assumes nothing.
+-- What a box's state holds after any list of calls, whatever was handed in (01, "One check at a box"). No proof stands
+-- here. Assumes nothing.
 use mathlib.Core.Path.{_≡_}
 use mathlib.Core.List.{List}
 use Prim.Native.Nat.{ℕ, _≤_}
 use lib.ListN.{getD, replicate}
 use Rattle.content.specs.Content.{noSet}
 use Rattle.party.specs.declared.Party.{Party}
-use Rattle.calls.specs.Lists.{Box, Starts, beginning, Call, after}
+use Rattle.calls.specs.Lists.{Box, World, Starts, beginning, Call, Event, sent, answer, dropped, after, events, In}
+
+-- ---- until a set is closed or dropped
+
+-- "Drop ends the open set. .. call 4 closes it": the events that end the set open at b
+pub data Ends (b : Box) : Event → Type 0 where
+  by-call-4 : (n a : ℕ) → Ends b (sent b n (answer a))
+  by-drop : Ends b (dropped b)
+
+-- "What a set has brought into the state stays there", from s to t: load brings the set, call 2 the masked vector and
+-- own, call 3 the word, and each call its phase
+pub record Stays (s t : Party) : Type 0 where
+  pub not-back : s .phase ≤ t .phase
+  pub same-set : t .set ≡ s .set
+  pub same-masked : 2 ≤ s .phase → t .masked ≡ s .masked
+  pub same-own : 2 ≤ s .phase → t .own ≡ s .own
+  pub same-word : 3 ≤ s .phase → t .word ≡ s .word
+
+-- ".. until it is closed or dropped": with a set open at b, over any list of calls from any states on, none of which
+-- ends it
+unfoldable pub StaysUntilEnded : Type 0
+StaysUntilEnded = (w : World) (b : Box) → 1 ≤ w .box b .phase → (cs : List Call)
+    → ((e : Event) → In e (events w cs) → Ends b e → ⊥) → Stays (w .box b) (after w cs .box b)
+
+-- ---- what else it holds
 
 -- "with no set open all of it is zero, code and L included, and array places past L are always zero"
 pub record Tidy (s : Party) : Type 0 where
