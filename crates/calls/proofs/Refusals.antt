@@ -72,7 +72,7 @@ alone w c k why e n q f p =
     record { a-number = λ z. said .1 (said .0 ∙ z); same-states = left .0; same-bytes = left .1 }
 
 pub refusals-change-nothing : RefusalsChangeNothing
-unfolding RefusalsChangeNothing DealerCalls.deal DealerCalls.dealOut BoxCalls.load BoxCalls.mask BoxCalls.maskOut BoxCalls.take BoxCalls.finish BoxCalls.drop LockCalls.join
+unfolding RefusalsChangeNothing DealerCalls.deal DealerCalls.dealOut BoxCalls.load BoxCalls.mask BoxCalls.maskOut BoxCalls.takeVector BoxCalls.finish BoxCalls.dropSet LockCalls.join
 refusals-change-nothing w (deal d out0 out1) k =
     alone w _ k _ _ refl refl
     (λ z. (same-dealer w _ (old _ _ _ z), buffers (old _ _ out0 z) (buffers (old _ _ out1 z) refl)))

@@ -64,7 +64,7 @@ on-box w b why new e f =
     put-all (λ c t. Spares c (w .box c) (eventOf why e) t) (w .box) b _ called (λ o h. still (w .box (other b)))
 
 pub step-stays : (w : World) (c : Call) (b : Box) → Spares b (w .box b) (step w c .event) (step w c .world .box b)
-unfolding BoxCalls.load BoxCalls.mask BoxCalls.take BoxCalls.finish BoxCalls.drop masked worded
+unfolding BoxCalls.load BoxCalls.mask BoxCalls.takeVector BoxCalls.finish BoxCalls.dropSet masked worded
 step-stays w (deal d out0 out1) = λ b o h. still (w .box b)
 step-stays w (load b x) = on-box w b _ _ _ (λ z o h. absurd (omega (arith, o, load-tells (w .box b) x z .turn)))
 step-stays w (mask b v out) =

@@ -30,9 +30,9 @@ module _ (party phase code n : ℕ) where
 -- ---- states
 
 pub idle-law : (name key : List ℕ) (party last : ℕ) (s : Set) → s ≡ noSet
-    → record { name = name; party = party; key = key; last = last; phase = 0; set = s; masked = replicate 512 0; own = 0; boxWord = 0 } ≡ idle name party key last
+    → record { name = name; party = party; key = key; last = last; phase = 0; set = s; masked = replicate 512 0; own = 0; word = 0 } ≡ idle name party key last
 unfolding idle
-idle-law name key party last s e = λ i. record { name = name; party = party; key = key; last = last; phase = 0; set = e i; masked = replicate 512 0; own = 0; boxWord = 0 }
+idle-law name key party last s e = λ i. record { name = name; party = party; key = key; last = last; phase = 0; set = e i; masked = replicate 512 0; own = 0; word = 0 }
 
 -- ---- a box's share
 
