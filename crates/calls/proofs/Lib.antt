@@ -2,6 +2,7 @@ pub mod Accepted
 pub mod Boxes
 pub mod Claims
 pub mod Dealt
+pub mod Ends
 pub mod Goes
 pub mod History
 pub mod Invariant
@@ -13,6 +14,7 @@ pub mod Once
 pub mod Parts
 pub mod Runs
 pub mod Slots
+pub mod Stuck
 pub mod Tidy
 pub mod Unmoved
 pub mod Written

@@ -168,10 +168,11 @@ module _ (S : Starts) (d : Deal) (v : Box → List ℕ) where
       idle-at b [] l q = (_, q, F .above-box b)
       idle-at b (t ∷ ts) l q = absurd (omega arith)
 
-  pub answered : (c : Call) (g : Progress) (h : List Event) → Ready (door S) d v g h c → Answered d v (said S d v c)
-  answered (deal e out0 out1) g h r = tt
-  answered (load b x) g h r = tt
-  answered (mask b x out) g h r = tt
-  answered (take b m) g h r = tt
-  answered (finish b m) g h r = tt
-  answered (join m n) g h r = (refl, refl)
+  -- what each of its own calls leaves is an answer
+  pub answered : (c : Call) (g : Progress) (h : List Event) → Ready (door S) d v g h c → Answered d v c (said S d v c)
+  answered (deal e out0 out1) g h r = (halfOf S d, refl)
+  answered (load b x) g h r = refl
+  answered (mask b x out) g h r = (maskOf d b (v b), refl)
+  answered (take b m) g h r = (wordBy d v b, refl)
+  answered (finish b m) g h r = (answerBy d v b, refl)
+  answered (join m n) g h r = refl
