@@ -59,8 +59,9 @@ unfolding CanEnd
 can-end s f cs a d v R F = ended s f cs a d v R F (begins s f cs a d v F)
 
 not-empty : NotEmpty
-unfolding NotEmpty CanEnd
-not-empty = (examples can-end, some-starts)
+unfolding NotEmpty
+not-empty =
+    (λ s f cs a n code l small ok some most F. examples n code l small ok some most can-end s f cs a F, some-starts)
 
 pub demand-3 : Demand3
 unfolding Demand3

@@ -1,5 +1,5 @@
--- After an admissible list that leaves no set open a run in the right order can be made to its end, and list and run are
--- one admissible list. Assumes nothing.
+-- After an admissible list that leaves no set open a run in the right order can be made to its end, and list and run
+-- are one admissible list. Assumes nothing.
 use mathlib.Core.Path.{_≡_, refl, sym, ap, ap₂, subst, _∙_}
 use mathlib.Core.List.{List, [], _∷_, _++_}
 use Prim.Native.Nat.{ℕ, suc, _-_, _/_, _^_, _<_}
@@ -30,8 +30,8 @@ events-both w (c ∷ rs) cs = ap₂ (λ y h. step y c .event ∷ h) (after-both 
 -- ---- what a run's own call is handed is admitted, after its events h and any before them
 
 module _ (name : List ℕ) (d : Deal) (v : Box → List ℕ) where
-  as-sent : {A : Type 0} (P : Box → ℕ → A → Type 0) (kind : ℕ) (b : Box) (m : Message A) → Labelled name kind b (d .number) m
-      → P b (d .number) (m .content) → Sent name kind P m
+  as-sent : {A : Type 0} (P : Box → ℕ → A → Type 0) (kind : ℕ) (b : Box) (m : Message A)
+      → Labelled name kind b (d .number) m → P b (d .number) (m .content) → Sent name kind P m
   as-sent P kind b m a p =
       λ k n. (b, ap (λ l. l .sender) (a .0), subst (λ i. P b i (m .content)) (sym (ap (λ l. l .number) (a .0))) p)
 
@@ -56,6 +56,9 @@ module _ (name : List ℕ) (d : Deal) (v : Box → List ℕ) where
 
 -- ---- a whole run, box by box
 
+third : {e f g : Event} {h : List Event} → In e (f ∷ g ∷ e ∷ h)
+third = there (there (here refl))
+
 -- a load opens a set, calls 2 and 3 leave it open, call 4 closes it
 none-left : (k : ℕ) → k ≡ 0 → suc k - 0 - 0 - 1 ≡ 0
 none-left k e = omega (arith, e)
@@ -73,6 +76,9 @@ module _ (s : Starts) (start-ok : Started s) (cs : List Call) (list-ok : Admissi
       admissible : Admissible s (rs ++ cs)
       events-are : events world rs ≡ es
 
+    in-both : (rs : List Call) (e : Event) → In e (events world rs) → In e (history s (rs ++ cs))
+    in-both rs e i = subst (In e) (sym (events-both (beginning s) rs cs)) (in-left (events world rs) (history s cs) i)
+
     next : {g : Progress} {es : List Event} → Reached g es → (c : Call) → Ready (door s) d v g es c
         → Reached (onward g c) (said s d v c ∷ es)
     next {g} {es} t c q =
@@ -80,12 +86,14 @@ module _ (s : Starts) (start-ok : Started s) (cs : List Call) (list-ok : Admissi
         let h : List Event = events world rs in
         let r : Ready (door s) d v g h c = subst (λ z. Ready (door s) d v g z c) (sym (t .events-are)) q in
         let e = run-goes s d v (door-long s start-ok) R world A rs g (t .run) c r in
-        let f : (e : Event) → In e h → In e (history s (rs ++ cs)) = λ e i.
-        subst (In e) (sym (events-both (beginning s) rs cs)) (in-left h (history s cs) i) in
         record {
           rs = c ∷ rs;
           run = own (t .run) c r;
-          admissible = (t .admissible, fitting (door s) d v (R .number-fits) c g h r, admitted (door s) d v c g h _ f r);
+          admissible = (
+            t .admissible,
+            fitting (door s) d v (R .number-fits) c g h r,
+            admitted (door s) d v c g h (history s (rs ++ cs)) (in-both rs) r,
+          );
           events-are = ap₂ _∷_ e (t .events-are);
         }
 
@@ -107,11 +115,11 @@ module _ (s : Starts) (start-ok : Started s) (cs : List Call) (list-ok : Admissi
         let t4 = next t3 (mask camera (v camera) out) (refl, refl, room (d .n)) in
         let t5 = next t4 (mask office (v office) out) (refl, refl, room (d .n)) in
         let t6 = next t5 (take camera (maskFrom s d v office)) (refl, (refl, refl), (v office, here refl)) in
-        let t7 = next t6 (take office (maskFrom s d v camera)) (refl, (refl, refl), (v camera, there (there (here refl)))) in
+        let t7 = next t6 (take office (maskFrom s d v camera)) (refl, (refl, refl), (v camera, third)) in
         let t8 = next t7 (finish camera (wordFrom s d v office)) (refl, (refl, refl), here refl) in
-        let t9 = next t8 (finish office (wordFrom s d v camera)) (refl, (refl, refl), there (there (here refl))) in
-        let t = next t9 (join (answerFrom s d v camera) (answerFrom s d v office))
-        (refl, (refl, refl), there (here refl), (refl, refl), here refl) in
+        let t9 = next t8 (finish office (wordFrom s d v camera)) (refl, (refl, refl), third) in
+        let both-answers = join (answerFrom s d v camera) (answerFrom s d v office) in
+        let t = next t9 both-answers (refl, (refl, refl), there (here refl), (refl, refl), here refl) in
         record {
           rs = t .rs;
           g = _;

@@ -80,30 +80,30 @@ module _ (n code l : ℕ) (small : n < 2 ^ 64) (code-ok : isCode code ≡ true) 
   unfolding reached signed
   zero-verdict = (rw (no-measure code l l) refl, rw (no-measure code l l) refl)
 
-  example : (s : Starts) → Started s → (cs : List Call) → Admissible s cs → Free s (history s cs) n
-      → ((d : Deal) (v : Box → List ℕ) → InRange d v → Free s (history s cs) (d .number) → Ended s cs d v)
-      → (t bit : ℕ) → thresholdFits code t ≡ true → verdict (dealOf t) (zeros l) (zeros l) ≡ bit → Example s cs n code l bit
-  example s f cs a F ends t bit k says =
-      let R = zero-range t k in
+  example : (s : Starts) (cs : List Call) (t bit : ℕ) → thresholdFits code t ≡ true
+      → verdict (dealOf t) (zeros l) (zeros l) ≡ bit
+      → (InRange (dealOf t) (λ b. zeros l) → Ended s cs (dealOf t) (λ b. zeros l)) → Example s cs n code l bit
+  example s cs t bit k says ends =
       record {
         d = dealOf t;
         v = λ b. zeros l;
         number-is = refl;
         code-is = refl;
         length-is = refl;
-        in-range = R;
-        ended = ends (dealOf t) (λ b. zeros l) R F;
+        in-range = zero-range t k;
+        ended = ends (zero-range t k);
         says = says;
       }
 
-pub examples : CanEnd → (s : Starts) → Started s → (cs : List Call) → Admissible s cs → (n code l : ℕ) → n < 2 ^ 64
-    → isCode code ≡ true → 1 ≤ l → l ≤ 512 → Free s (history s cs) n → Example s cs n code l 1 × Example s cs n code l 0
-unfolding CanEnd
-examples ends s f cs a n code l small code-ok some most F =
-    let fits = zero-fits code in
-    let says = zero-verdict n code l small code-ok some most in
-    let one = example n code l small code-ok some most s f cs a F (ends s f cs a) in
-    (one 0 1 (fits .1) (says .0), one 1 0 (fits .2) (says .1))
+  pub examples : CanEnd → (s : Starts) → Started s → (cs : List Call) → Admissible s cs → Free s (history s cs) n
+      → Example s cs n code l 1 × Example s cs n code l 0
+  unfolding CanEnd
+  examples ends s f cs a F =
+      let run : (t : ℕ) → InRange (dealOf t) (λ b. zeros l) → Ended s cs (dealOf t) (λ b. zeros l) =
+      λ t R. ends s f cs a (dealOf t) (λ b. zeros l) R F in (
+        example s cs 0 1 (zero-fits code .1) (zero-verdict .0) (run 0),
+        example s cs 1 0 (zero-fits code .2) (zero-verdict .1) (run 1),
+      )
 
 -- ---- a door named "A", with floors of zero
 

@@ -45,6 +45,7 @@ module _ (S : Starts) (d : Deal) (v : Box → List ℕ) where
   left b (suc (suc zero)) = sent b (d .number) (word (wordBy d v b))
   left b (suc (suc (suc k))) = sent b (d .number) (answer (answerBy d v b))
 
+  -- the deal is there where it was made, and what each of a box's calls left
   record Has (g : Progress) (h : List Event) : Type 0 where
     few : (b : Box) → g .made b ≤ 4
     has-deal : g .begun ≡ true → In (dealt d (halfOf S d)) h
@@ -54,8 +55,8 @@ module _ (S : Starts) (d : Deal) (v : Box → List ℕ) where
   has-later g h e H =
       record { few = H .few; has-deal = λ t. there (H .has-deal t); has-left = λ b k l. there (H .has-left b k l) }
 
-  has-box : (g : Progress) (h : List Event) (b : Box) (k : ℕ) (e : Event) → Has g h → g .made b ≡ k → k < 4 → e ≡ left b k
-      → Has (madeOne g b) (e ∷ h)
+  has-box : (g : Progress) (h : List Event) (b : Box) (k : ℕ) (e : Event) → Has g h → g .made b ≡ k → k < 4
+      → e ≡ left b k → Has (madeOne g b) (e ∷ h)
   has-box g h b k e H m l q =
       record {
         few = put-all (λ c n. n ≤ 4) (g .made) b (suc (g .made b)) (omega (arith, m, l)) (H .few (other b));
@@ -99,8 +100,8 @@ module _ (S : Starts) (d : Deal) (v : Box → List ℕ) where
     box-next t b (suc (suc (suc (suc k)))) m l o = absurd (omega (arith, l))
 
     -- where both boxes made all of theirs
-    join-next : g .begun ≡ true → ((b : Box) → g .made b ≡ 4) → (x : Bool) → g .ended ≡ x → Whole g ⊎ Next g h
-    join-next t m true e = inl (t, m, e)
+    join-next : g .begun ≡ true → ((b : Box) → 4 ≤ g .made b) → (x : Bool) → g .ended ≡ x → Whole g ⊎ Next g h
+    join-next t m true e = inl (t, (λ b. omega (arith, m b, H .few b)), e)
     join-next t m false e =
         let sends : (b : Box) → In (left b 3) h = λ b. H .has-left b 3 (omega (arith, m b)) in
         inr (join (answerFrom camera) (answerFrom office), (e, (refl, refl), sends camera, (refl, refl), sends office))
@@ -108,7 +109,7 @@ module _ (S : Starts) (d : Deal) (v : Box → List ℕ) where
     behind : g .begun ≡ true → (b : Box) → g .made b ≤ g .made (other b) → Whole g ⊎ Next g h
     behind t b o =
         elim (decLe 4 (g .made b)) as (λ z. Whole g ⊎ Next g h) [
-          | yes p ↦ join-next t (λ c. omega (arith, each (λ c. 4 ≤ g .made c) b p (omega (arith, p, o)) c, H .few c)) (g .ended) refl
+          | yes p ↦ join-next t (each (λ c. 4 ≤ g .made c) b p (omega (arith, p, o))) (g .ended) refl
           | no p ↦ inr (box-next t b (g .made b) refl (lt-of-not-le p) o)
         ]
 

@@ -1,4 +1,5 @@
--- Demand 3 (01, "A door's list of calls"): what a list's accepted calls were, and the six claims over every list. No proof stands here. Assumes nothing.
+-- Demand 3 (01, "A door's list of calls"): what a list's accepted calls were, and the six claims over every list.
+-- No proof stands here. Assumes nothing.
 use mathlib.Core.Path.{_≡_}
 use mathlib.Core.Bool.{Bool, true, false, cond, _&&_}
 use mathlib.Core.List.{List, [], _∷_, _++_}
@@ -214,7 +215,8 @@ AlwaysAnswered = (s : Starts) → Started s → (cs : List Call) → Admissible 
 abbrev pub Whole : Progress → Type 0
 Whole g = (g .begun ≡ true) × ((b : Box) → g .made b ≡ 4) × (g .ended ≡ true)
 
--- it is never stuck: however far such a run is and whatever came in between, it is whole, or a call of its own may come next
+-- after every admissible list that leaves no set open: however far such a run is and whatever came in between, it is
+-- not stuck, but is whole or a call of its own may come next
 unfoldable pub NeverStuck : Type 0
 NeverStuck = (s : Starts) → Started s → (cs : List Call) → Admissible s cs → (d : Deal) (v : Box → List ℕ) → InRange d v
     → Free s (history s cs) (d .number)
@@ -257,7 +259,8 @@ pub record Example (s : Starts) (cs : List Call) (n code l bit : ℕ) : Type 0 w
 -- one run says 1 and one says 0; and there are accepted starts, with every number from 1 on free
 unfoldable pub NotEmpty : Type 0
 NotEmpty = ((s : Starts) → Started s → (cs : List Call) → Admissible s cs → (n code l : ℕ) → n < 2 ^ 64
-    → isCode code ≡ true → 1 ≤ l → l ≤ 512 → Free s (history s cs) n → Example s cs n code l 1 × Example s cs n code l 0)
+    → isCode code ≡ true → 1 ≤ l → l ≤ 512 → Free s (history s cs) n
+    → Example s cs n code l 1 × Example s cs n code l 0)
     × ((s : Starts) × Started s × Free s [] 1)
 
 -- ---- demand 3, whole
