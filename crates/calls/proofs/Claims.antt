@@ -4,7 +4,7 @@ use mathlib.Core.List.{List, [], _∷_}
 use Prim.Native.Nat.{ℕ}
 use Rattle.dealer.specs.Dealer.{Deal}
 use Rattle.calls.specs.Lists.{Box, Starts, Started, beginning, Call, camera, office, joined, after, events, history, Admissible}
-use Rattle.calls.specs.Demand.{nothingMade, Answered, InRange, Free, NoWrongReport, NoReuse, AlwaysAnswered, NeverStuck, CanEnd, NotEmpty, Demand3}
+use Rattle.calls.specs.Demand.{nothingMade, Answered, Free, NoWrongReport, NoReuse, AlwaysAnswered, NeverStuck, CanEnd, NotEmpty, Demand3}
 use Rattle.calls.proofs.Once.{single}
 use Rattle.calls.proofs.History.{look, in-deals, in-vectors}
 use Rattle.calls.proofs.Invariant.{Inv, starts, door-long}

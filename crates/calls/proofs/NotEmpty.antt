@@ -1,12 +1,12 @@
 -- The claims are not empty: at every measure and length both reports can be had, and there are accepted starts.
 -- Assumes nothing.
-use mathlib.Core.Path.{_≡_, refl, ap, ap₂, _∙_}
-use mathlib.Core.Bool.{true, cond, _&&_}
+use mathlib.Core.Path.{_≡_, refl, ap₂}
+use mathlib.Core.Bool.{true, _&&_}
 use mathlib.Core.List.{List, [], _∷_}
 use Prim.Native.Nat.{ℕ, zero, suc, _^_, _<_, _≤_}
 use native.Mathlib.Omega.{arith}
 use lib.IntN.{ℤ, pos, _+ℤ_, _*ℤ_}
-use lib.ListN.{length, getD, replicate, length-replicate}
+use lib.ListN.{replicate, length-replicate}
 use Rattle.algebra.specs.Word.{signed}
 use Rattle.algebra.specs.Sum.{sumℤ}
 use Rattle.measure.specs.Measure.{row, scalarProduct, squaredEuclid, hamming, element, measure, reached, isCode, within, inRange, allInRange, thresholdFits}
@@ -16,7 +16,7 @@ use Rattle.messages.specs.Messages.{unless, nameFits, printable, isKey}
 use Rattle.party.specs.Party.{startParty, whyNotParty}
 use Rattle.lock.specs.Lock.{startLock, whyNotLock}
 use Rattle.dealer.specs.Dealer.{Deal, dealFrom, startDealer, whyNotDealer}
-use Rattle.calls.specs.Lists.{Box, camera, office, partyOf, Starts, Started, boxStart, Call, history, Admissible}
+use Rattle.calls.specs.Lists.{partyOf, Starts, Started, Call, history, Admissible}
 use Rattle.calls.specs.Demand.{verdict, InRange, Free, Ended, CanEnd, Example}
 use Rattle.calls.proofs.Boxes.{both}
 
