@@ -1,10 +1,10 @@
--- Demand 3, whole: no wrong report, no reuse, always answered, never stuck, can be ended, not empty. Assumes nothing.
-use mathlib.Core.Path.{sym, subst}
+-- Demand 3, whole: no wrong report, no reuse, always answered, never stuck, can be ended, can be dropped, not empty. Assumes nothing.
+use mathlib.Core.Path.{sym, ap, subst, _∙_}
 use mathlib.Core.List.{List, [], _∷_}
 use Prim.Native.Nat.{ℕ}
 use Rattle.dealer.specs.Dealer.{Deal}
 use Rattle.calls.specs.Lists.{Box, Starts, Started, beginning, Call, camera, office, joined, after, events, history, Admissible}
-use Rattle.calls.specs.Demand.{nothingMade, Answered, Free, NoWrongReport, NoReuse, AlwaysAnswered, NeverStuck, CanEnd, NotEmpty, Demand3}
+use Rattle.calls.specs.Demand.{openSets, nothingMade, Answered, Free, NoWrongReport, NoReuse, AlwaysAnswered, NeverStuck, CanEnd, CanDrop, NotEmpty, Demand3}
 use Rattle.calls.proofs.Once.{single}
 use Rattle.calls.proofs.History.{look, in-deals, in-vectors}
 use Rattle.calls.proofs.Invariant.{Inv, starts, door-long}
@@ -12,6 +12,7 @@ use Rattle.calls.proofs.Keeps.{keeps}
 use Rattle.calls.proofs.Runs.{At, ready, run-goes, answered}
 use Rattle.calls.proofs.Stuck.{never}
 use Rattle.calls.proofs.Ends.{ended}
+use Rattle.calls.proofs.Drops.{dropped-then}
 use Rattle.calls.proofs.NotEmpty.{examples, some-starts}
 
 always : (s : Starts) → Started s → (cs : List Call) → Admissible s cs → Inv s (history s cs) (after (beginning s) cs)
@@ -58,6 +59,13 @@ can-end : CanEnd
 unfolding CanEnd
 can-end s f cs a d v R F = ended s f cs a d v R F (begins s f cs a d v F)
 
+can-drop : CanDrop
+unfolding CanDrop
+can-drop s f cs a b o =
+    let h = history s cs in
+    let (e, n) = dropped-then s h (after (beginning s) cs) (always s f cs a) b o in
+    (ap (λ x. x ∷ h) e, ap (λ x. openSets b (x ∷ h)) e ∙ n)
+
 not-empty : NotEmpty
 unfolding NotEmpty
 not-empty =
@@ -65,4 +73,4 @@ not-empty =
 
 pub demand-3 : Demand3
 unfolding Demand3
-demand-3 = (no-wrong-report, no-reuse, always-answered, never-stuck, can-end, not-empty)
+demand-3 = (no-wrong-report, no-reuse, always-answered, never-stuck, can-end, can-drop, not-empty)

@@ -2,6 +2,7 @@ pub mod Accepted
 pub mod Boxes
 pub mod Claims
 pub mod Dealt
+pub mod Drops
 pub mod Ends
 pub mod Goes
 pub mod History

@@ -1,4 +1,4 @@
--- Demand 3 (01, "A door's list of calls"): what a list's accepted calls were, and the six claims over every list.
+-- Demand 3 (01, "A door's list of calls"): what a list's accepted calls were, and the seven claims over every list.
 -- No proof stands here. Assumes nothing.
 use mathlib.Core.Path.{_≡_}
 use mathlib.Core.Bool.{Bool, true, false, cond, _&&_}
@@ -241,6 +241,11 @@ unfoldable pub CanEnd : Type 0
 CanEnd = (s : Starts) → Started s → (cs : List Call) → Admissible s cs → (d : Deal) (v : Box → List ℕ) → InRange d v
     → Free s (history s cs) (d .number) → Ended s cs d v
 
+-- "Drop ends the open set": after every admissible list, a box with a set open is not refused its drop, and then has none
+unfoldable pub CanDrop : Type 0
+CanDrop = (s : Starts) → Started s → (cs : List Call) → Admissible s cs → (b : Box) → 1 ≤ openSets b (history s cs)
+    → (history s (drop b ∷ cs) ≡ dropped b ∷ history s cs) × (openSets b (history s (drop b ∷ cs)) ≡ 0)
+
 -- ---- not empty
 
 -- after the list cs, a whole run under n, with this code and length, whose join says `bit`: so the hypotheses of each
@@ -266,4 +271,4 @@ NotEmpty = ((s : Starts) → Started s → (cs : List Call) → Admissible s cs 
 -- ---- demand 3, whole
 
 unfoldable pub Demand3 : Type 0
-Demand3 = NoWrongReport × NoReuse × AlwaysAnswered × NeverStuck × CanEnd × NotEmpty
+Demand3 = NoWrongReport × NoReuse × AlwaysAnswered × NeverStuck × CanEnd × CanDrop × NotEmpty
