@@ -15,6 +15,7 @@ pub mod Once
 pub mod Parts
 pub mod Runs
 pub mod Slots
+pub mod Still
 pub mod Stuck
 pub mod Tidy
 pub mod Unmoved

@@ -10,7 +10,7 @@ use native.Mathlib.Omega.{arith}
 use lib.ListN.{length, replicate, length-replicate}
 use Rattle.dealer.specs.Dealer.{Deal, halfSize}
 use Rattle.calls.specs.Lists.{Box, camera, office, partyOf, other, World, Starts, Message, Call, deal, load, mask, take, finish, join, Event, dealt, loaded, sent, vector, word, answer, events, In, here, there}
-use Rattle.calls.specs.Demand.{Progress, nothingMade, madeOne, onward, Ready, Run, start, own, aside, InRange, Whole}
+use Rattle.calls.specs.Demand.{Progress, nothingMade, madeOne, onward, Ready, Run, start, own, aside, turned, InRange, Whole}
 use Rattle.calls.proofs.Boxes.{each, put-all}
 use Rattle.calls.proofs.Dealt.{maskOf, wordBy, answerBy}
 use Rattle.calls.proofs.History.{door, halfOf}
@@ -133,6 +133,7 @@ module _ (S : Starts) (d : Deal) (v : Box → List ℕ) where
         }
     run-has (own {cs} {g} r c q) = has-next g (events w cs) (run-has r) c q _ (run-goes S d v long R w A cs g r c q)
     run-has (aside {cs} {g} r c q) = has-later g (events w cs) _ (run-has r)
+    run-has (turned {cs} {g} r c why q) = has-later g (events w cs) _ (run-has r)
 
     pub never : (cs : List Call) (g : Progress) → Run (door S) d v w cs g → Whole g ⊎ Next g (events w cs)
     never cs g r = goes-on g (events w cs) (run-has r) (g .begun) refl

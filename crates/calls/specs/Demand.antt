@@ -167,11 +167,14 @@ module _ (door : List ℕ) (d : Deal) (v : Box → List ℕ) where
       (g .ended ≡ false) × Labelled door 2 camera (d .number) m × SentAnswer h camera (d .number) (m .content) × Labelled door 2 office (d .number) n
       × SentAnswer h office (d .number) (n .content)
 
-  -- its calls so far: "mixed at most with calls that change no state"
+  -- its calls so far: "mixed at most with calls that change no state", and with any that are turned down, of which 01 says
+  -- so ("no state and no byte changes")
   pub data Run (w : World) : List Call → Progress → Type 0 where
     start : Run w [] nothingMade
     own : {cs : List Call} {g : Progress} → Run w cs g → (c : Call) → Ready g (events w cs) c → Run w (c ∷ cs) (onward g c)
     aside : {cs : List Call} {g : Progress} → Run w cs g → (c : Call) → step (after w cs) c .world ≡ after w cs → Run w (c ∷ cs) g
+    turned : {cs : List Call} {g : Progress} → Run w cs g → (c : Call) (why : ℕ) → step (after w cs) c .event ≡ refused why
+        → Run w (c ∷ cs) g
 
 -- "answered means that none of the run's own calls is refused": what call c of the run left is the run's own, by the
 -- call's box and "all under one number", and a join reports what it should
