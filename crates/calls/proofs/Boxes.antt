@@ -22,6 +22,14 @@ pub same-both : (b : Box) (n : ℕ) → T (sameBox b b && eqb n n)
 same-both camera n = eqb-refl n
 same-both office n = eqb-refl n
 
+pub both : (P : Box → Type 0) → P camera → P office → (b : Box) → P b
+both P p q camera = p
+both P p q office = q
+
+pub each : (P : Box → Type 0) (b : Box) → P b → P (other b) → (c : Box) → P c
+each P camera p q = both P p q
+each P office p q = both P q p
+
 -- ---- parties
 
 pub party-fits : (b : Box) → partyOf b ≤ 1

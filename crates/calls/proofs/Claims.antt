@@ -1,13 +1,18 @@
--- Demand 3, whole: no wrong report, no reuse, always answered, not empty. Assumes nothing.
-use mathlib.Core.Path.{sym, subst}
+-- Demand 3, whole: no wrong report, no reuse, always answered, never stuck, can be ended, can be dropped, not empty. Assumes nothing.
+use mathlib.Core.Path.{sym, ap, subst, _∙_}
 use mathlib.Core.List.{List, [], _∷_}
-use Rattle.calls.specs.Lists.{Starts, Started, beginning, Call, camera, office, joined, after, events, history, Admissible}
-use Rattle.calls.specs.Demand.{Answered, NoWrongReport, NoReuse, AlwaysAnswered, NotEmpty, Demand3}
+use Prim.Native.Nat.{ℕ}
+use Rattle.dealer.specs.Dealer.{Deal}
+use Rattle.calls.specs.Lists.{Box, Starts, Started, beginning, Call, camera, office, joined, after, events, history, Admissible}
+use Rattle.calls.specs.Demand.{openSets, nothingMade, Answered, Free, NoWrongReport, NoReuse, AlwaysAnswered, NeverStuck, CanEnd, CanDrop, NotEmpty, Demand3}
 use Rattle.calls.proofs.Once.{single}
 use Rattle.calls.proofs.History.{look, in-deals, in-vectors}
 use Rattle.calls.proofs.Invariant.{Inv, starts, door-long}
 use Rattle.calls.proofs.Keeps.{keeps}
-use Rattle.calls.proofs.Runs.{ready, run-goes, answered}
+use Rattle.calls.proofs.Runs.{At, ready, run-goes, answered}
+use Rattle.calls.proofs.Stuck.{never}
+use Rattle.calls.proofs.Ends.{ended}
+use Rattle.calls.proofs.Drops.{dropped-then}
 use Rattle.calls.proofs.NotEmpty.{examples, some-starts}
 
 always : (s : Starts) → Started s → (cs : List Call) → Admissible s cs → Inv s (history s cs) (after (beginning s) cs)
@@ -34,17 +39,38 @@ no-reuse : NoReuse
 unfolding NoReuse
 no-reuse s f cs a b n = let k = always s f cs a .box-is b .ok in (k .vectors-once n .few, k .words-once n .few)
 
+-- a run in the right order after such a list
+begins : (s : Starts) → Started s → (cs : List Call) → Admissible s cs → (d : Deal) (v : Box → List ℕ)
+    → Free s (history s cs) (d .number) → At s d v (after (beginning s) cs) nothingMade []
+begins s f cs a d v F = ready s d v (history s cs) (after (beginning s) cs) (always s f cs a) F
+
 always-answered : AlwaysAnswered
 unfolding AlwaysAnswered
 always-answered s f cs a d v R F rs g r c q =
     let w = after (beginning s) cs in
-    let A = ready s d v (history s cs) w (always s f cs a) F in
-    subst (Answered d v) (sym (run-goes s d v (door-long s f) R w A rs g r c q)) (answered s d v c g (events w rs) q)
+    let e = run-goes s d v (door-long s f) R w (begins s f cs a d v F) rs g r c q in
+    subst (Answered d v c) (sym e) (answered s d v c g (events w rs) q)
+
+never-stuck : NeverStuck
+unfolding NeverStuck
+never-stuck s f cs a d v R F = never s d v (door-long s f) R (after (beginning s) cs) (begins s f cs a d v F)
+
+can-end : CanEnd
+unfolding CanEnd
+can-end s f cs a d v R F = ended s f cs a d v R F (begins s f cs a d v F)
+
+can-drop : CanDrop
+unfolding CanDrop
+can-drop s f cs a b o =
+    let h = history s cs in
+    let (e, n) = dropped-then s h (after (beginning s) cs) (always s f cs a) b o in
+    (ap (λ x. x ∷ h) e, ap (λ x. openSets b (x ∷ h)) e ∙ n)
 
 not-empty : NotEmpty
 unfolding NotEmpty
-not-empty = (examples, some-starts)
+not-empty =
+    (λ s f cs a n code l small ok some most F. examples n code l small ok some most can-end s f cs a F, some-starts)
 
 pub demand-3 : Demand3
 unfolding Demand3
-demand-3 = (no-wrong-report, no-reuse, always-answered, not-empty)
+demand-3 = (no-wrong-report, no-reuse, always-answered, never-stuck, can-end, can-drop, not-empty)

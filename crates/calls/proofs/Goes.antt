@@ -1,10 +1,11 @@
 -- What makes a call accepted: for each call, over any state and anything handed in, the facts from which its tests refuse nothing. Assumes nothing.
 use mathlib.Core.Path.{_≡_, refl}
-use mathlib.Core.Bool.{true}
+use mathlib.Core.Bool.{true, false}
 use mathlib.Core.List.{List}
 use Prim.Native.Nat.{ℕ, _-_, _<_, _≤_}
 use native.Mathlib.Omega.{arith}
 use borrow.Author.Tests.{le-leb, lt-ltb, eq-eqb, ne-eqb}
+use lib.Dec.{eqb}
 use lib.ListN.{length}
 use Rattle.algebra.specs.Word.{add}
 use Rattle.words.specs.List.{same-refl}
@@ -16,7 +17,7 @@ use Rattle.half.specs.Half.{whyNot}
 use Rattle.dealer.specs.declared.Dealer.{Dealer}
 use Rattle.dealer.specs.Dealer.{Deal, halfSize, whyNotDeal}
 use Rattle.party.specs.declared.Party.{Party}
-use Rattle.party.specs.Party.{stateFits, sound, inTurn, whyNotLoad, whyNotMask, whyNotTake, whyNotFinish}
+use Rattle.party.specs.Party.{stateFits, sound, inTurn, whyNotLoad, whyNotMask, whyNotTake, whyNotFinish, whyNotDrop}
 use Rattle.lock.specs.declared.Lock.{Lock}
 use Rattle.lock.specs.Lock.{whyNotJoin}
 use Rattle.calls.proofs.Accepted.{Heard}
@@ -65,12 +66,14 @@ pub record OpenAt (k : ℕ) (s : Party) : Type 0 where
   pub some : 1 ≤ s .set .n
   pub most : s .set .n ≤ 512
 
-open-turn : (k : ℕ) (s : Party) → OpenAt k s → inTurn k s ≡ true
-unfolding inTurn sound stateFits lengthFits
-open-turn k s o =
+some-open : (k : ℕ) (s : Party) → OpenAt k s → eqb (s .phase) 0 ≡ false
+some-open k s o = ne-eqb (s .phase) 0 (λ e. omega (arith, o .phase-is, o .some-phase))
+
+open-sound : (k : ℕ) (s : Party) → OpenAt k s → sound s ≡ true
+unfolding sound stateFits lengthFits
+open-sound k s o =
     rw (
-      eq-eqb (s .phase) k (o .phase-is),
-      ne-eqb (s .phase) 0 (λ e. omega (arith, o .phase-is, o .some-phase)),
+      some-open k s o,
       le-leb (s .party) 1 (o .party-fits),
       le-leb (s .phase) 3 (omega (arith, o .phase-is, o .last-phase)),
       o .code-fits,
@@ -78,6 +81,10 @@ open-turn k s o =
       le-leb (s .set .n) 512 (o .most),
     )
     refl
+
+open-turn : (k : ℕ) (s : Party) → OpenAt k s → inTurn k s ≡ true
+unfolding inTurn
+open-turn k s o = rw (eq-eqb (s .phase) k (o .phase-is), open-sound k s o) refl
 
 -- its calls
 
@@ -108,6 +115,10 @@ pub finish-goes : (s : Party) (l : Label) (name : List ℕ) → OpenAt 3 s → l
 unfolding whyNotFinish unless
 finish-goes s l name o n h =
     rw (open-turn 3 s o, door-long _ _ _ _ _ _ h n, expects _ _ _ _ _ _ h, eq-eqb (l .number) (s .set .number) (h .number-is)) refl
+
+pub drop-goes : (k : ℕ) (s : Party) → OpenAt k s → whyNotDrop s ≡ 0
+unfolding whyNotDrop unless
+drop-goes k s o = rw (some-open k s o, open-sound k s o) refl
 
 -- ---- the lock
 

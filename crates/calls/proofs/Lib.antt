@@ -2,6 +2,8 @@ pub mod Accepted
 pub mod Boxes
 pub mod Claims
 pub mod Dealt
+pub mod Drops
+pub mod Ends
 pub mod Goes
 pub mod History
 pub mod Invariant
@@ -15,6 +17,7 @@ pub mod Refusals
 pub mod Runs
 pub mod Slots
 pub mod Stays
+pub mod Stuck
 pub mod Tidy
 pub mod Unmoved
 pub mod Written

@@ -1,155 +1,126 @@
--- From any accepted starts a run in the right order can be made to its end, and it is an admissible list. Assumes nothing.
-use mathlib.Core.Path.{_≡_, refl, sym, ap, subst}
-use mathlib.Core.Bool.{true}
+-- The claims are not empty: at every measure and length both reports can be had, and there are accepted starts.
+-- Assumes nothing.
+use mathlib.Core.Path.{_≡_, refl, ap₂}
+use mathlib.Core.Bool.{true, _&&_}
 use mathlib.Core.List.{List, [], _∷_}
-use Prim.Native.Nat.{ℕ, _-_, _/_, _^_, _<_, _≤_}
+use Prim.Native.Nat.{ℕ, zero, suc, _^_, _<_, _≤_}
 use native.Mathlib.Omega.{arith}
-use lib.ListN.{length, replicate, length-replicate}
+use lib.IntN.{ℤ, pos, _+ℤ_, _*ℤ_}
+use lib.ListN.{replicate, length-replicate}
 use Rattle.algebra.specs.Word.{signed}
 use Rattle.algebra.specs.Sum.{sumℤ}
-use Rattle.measure.specs.Measure.{row, scalarProduct, element, measure, reached, isCode, within, inRange, allInRange, thresholdFits}
+use Rattle.measure.specs.Measure.{row, scalarProduct, squaredEuclid, hamming, element, measure, reached, isCode, within, inRange, allInRange, thresholdFits}
 use Rattle.measure.specs.Measure as Measure
 use Rattle.words.specs.List.{same}
 use Rattle.messages.specs.Messages.{unless, nameFits, printable, isKey}
-use Rattle.half.specs.Half.{blockAt}
 use Rattle.party.specs.Party.{startParty, whyNotParty}
 use Rattle.lock.specs.Lock.{startLock, whyNotLock}
-use Rattle.dealer.specs.Dealer.{Deal, halfSize, startDealer, whyNotDealer}
-use Rattle.calls.specs.Lists.{Box, camera, office, partyOf, other, Starts, Started, boxStart, beginning, Message, Call, deal, load, mask, take, finish, join, Event, In, here, there, Fits, Sent, SentVector, SentWord, SentAnswer, Admits, history, Admissible}
-use Rattle.calls.specs.Demand.{verdict, Progress, nothingMade, onward, Labelled, Ready, Run, start, own, InRange, Free, Below, Example}
-use Rattle.calls.proofs.Dealt.{maskOf, wordBy, answerBy}
-use Rattle.calls.proofs.Once.{All}
-use Rattle.calls.proofs.History.{door, halfOf}
-use Rattle.calls.proofs.Invariant.{starts, door-long}
-use Rattle.calls.proofs.Made.{said}
-use Rattle.calls.proofs.Runs.{ready, run-goes}
+use Rattle.dealer.specs.Dealer.{Deal, dealFrom, startDealer, whyNotDealer}
+use Rattle.calls.specs.Lists.{partyOf, Starts, Started, Call, history, Admissible}
+use Rattle.calls.specs.Demand.{verdict, InRange, Free, Ended, CanEnd, Example}
+use Rattle.calls.proofs.Boxes.{both}
 
--- ---- what a run's own call is handed is admitted
+-- ---- vectors of zeros: at every measure, T = 0 is reached and T = 1 is not
 
-module _ (name : List ℕ) (d : Deal) (v : Box → List ℕ) where
-  as-sent : {A : Type 0} (P : Box → ℕ → A → Type 0) (kind : ℕ) (b : Box) (m : Message A) → Labelled name kind b (d .number) m → P b (d .number) (m .content)
-      → Sent name kind P m
-  as-sent P kind b m a p = λ k n. (b, ap (λ l. l .sender) (a .0), subst (λ i. P b i (m .content)) (sym (ap (λ l. l .number) (a .0))) p)
+zeros : ℕ → List ℕ
+zeros l = replicate l 0
 
-  admitted : (c : Call) (g : Progress) (h : List Event) → Ready name d v g h c → Admits name h c
-  admitted (deal e out0 out1) g h r = tt
-  admitted (load b x) g h (m, f, i, q) = λ j l. (d, f, i, j, subst (λ z. j < length z / 512) q l, ap (λ z. blockAt z j) q)
-  admitted (mask b x out) g h r = tt
-  admitted (take b m) g h (e, a, i) = as-sent (SentVector h) 0 (other b) m a i
-  admitted (finish b m) g h (e, a, i) = as-sent (SentWord h) 1 (other b) m a i
-  admitted (join m n) g h (e, a, i, b, j) = (as-sent (SentAnswer h) 2 camera m a i, as-sent (SentAnswer h) 2 office n b j)
+no-element : (l i : ℕ) → element (zeros l) i ≡ pos 0
+unfolding element zeros signed
+no-element zero i = refl
+no-element (suc l) zero = refl
+no-element (suc l) (suc i) = no-element l i
 
-  fitting : d .number < 2 ^ 64 → (c : Call) (g : Progress) (h : List Event) → Ready name d v g h c → Fits c
-  fitting k (deal e out0 out1) g h (m, q, r0, r1) = subst (λ z. z .number < 2 ^ 64) (sym q) k
-  fitting k (load b x) g h r = tt
-  fitting k (mask b x out) g h r = tt
-  fitting k (take b m) g h r = tt
-  fitting k (finish b m) g h r = tt
-  fitting k (join m n) g h r = tt
+no-sum : (f : ℕ → ℤ) → ((i : ℕ) → f i ≡ pos 0) → (n : ℕ) → sumℤ f n ≡ pos 0
+unfolding sumℤ
+no-sum f z zero = refl
+no-sum f z (suc n) = ap₂ _+ℤ_ (no-sum f z n) (z n)
 
--- ---- a whole run, box by box
+no-product : (l n : ℕ) → sumℤ (λ i. element (zeros l) i *ℤ element (zeros l) i) n ≡ pos 0
+no-product l n = no-sum _ (λ i. ap₂ _*ℤ_ (no-element l i) (no-element l i)) n
 
-module _ (s : Starts) (start-ok : Started s) (d : Deal) (v : Box → List ℕ) (R : InRange d v) (F : Free s [] (d .number)) where
-  -- a run and admissible list that is so far, with these events in it
-  record Reached (g : Progress) (es : List Event) : Type 0 where
-    cs : List Call
-    run : Run (door s) d v (beginning s) cs g
-    admissible : Admissible s cs
-    has : All (λ e. In e (history s cs)) es
+no-measure : (code l n : ℕ) → measure code n (zeros l) (zeros l) ≡ pos 0
+unfolding measure Measure.own row scalarProduct squaredEuclid hamming
+no-measure zero l n = rw (no-product l n) refl
+no-measure (suc zero) l n = rw (no-product l n) refl
+no-measure (suc (suc code)) l n = rw (no-product l n) refl
 
-  later : (cs : List Call) (c : Call) (es : List Event) → All (λ e. In e (history s cs)) es → All (λ e. In e (history s (c ∷ cs))) es
-  later cs c [] a = tt
-  later cs c (e ∷ es) a = (there (a .0), later cs c es (a .1))
+zero-fits : (code : ℕ) → (inRange code 0 ≡ true) × (thresholdFits code 0 ≡ true) × (thresholdFits code 1 ≡ true)
+unfolding inRange thresholdFits within row scalarProduct squaredEuclid hamming signed
+zero-fits zero = (refl, refl, refl)
+zero-fits (suc zero) = (refl, refl, refl)
+zero-fits (suc (suc code)) = (refl, refl, refl)
 
-  next : {g : Progress} {es : List Event} → Reached g es → (c : Call)
-      → ((cs : List Call) → All (λ e. In e (history s cs)) es → Ready (door s) d v g (history s cs) c) → Reached (onward g c) (said s d v c ∷ es)
-  next {g} {es} t c f =
-      let cs = t .cs in
-      let r = f cs (t .has) in
-      let e = run-goes s d v (door-long s start-ok) R (beginning s) (ready s d v [] (beginning s) (starts s start-ok) F) cs g (t .run) c r in
+zeros-fit : (code l : ℕ) → allInRange code (zeros l) ≡ true
+unfolding allInRange zeros
+zeros-fit code zero = refl
+zeros-fit code (suc l) = ap₂ _&&_ (zero-fits code .0) (zeros-fit code l)
+
+-- ---- a run with them, under any number
+
+module _ (n code l : ℕ) (small : n < 2 ^ 64) (code-ok : isCode code ≡ true) (some : 1 ≤ l) (most : l ≤ 512) where
+  abbrev dealOf : ℕ → Deal
+  dealOf t = dealFrom n (replicate 32 0) code l t
+
+  zero-range : (t : ℕ) → thresholdFits code t ≡ true → InRange (dealOf t) (λ b. zeros l)
+  unfolding zeros
+  zero-range t k =
       record {
-        cs = c ∷ cs;
-        run = own (t .run) c r;
-        admissible = (t .admissible, fitting (door s) d v (R .number-fits) c g (history s cs) r, admitted (door s) d v c g (history s cs) r);
-        has = (here (sym e), later cs c es (t .has));
+        number-fits = small;
+        code-fits = code-ok;
+        seed-long = refl;
+        some = some;
+        most = most;
+        vector-long = λ b. length-replicate {A = ℕ} l 0;
+        threshold-fits = k;
+        elements-fit = λ b. zeros-fit code l;
       }
 
-  -- what is handed on, and buffers of just the right length
-  abbrev message : {A : Type 0} → ℕ → Box → A → Message A
-  message kind b a = record { label = record { kind = kind; sender = partyOf b; number = d .number }; name = door s; content = a }
+  zero-verdict : (verdict (dealOf 0) (zeros l) (zeros l) ≡ 1) × (verdict (dealOf 1) (zeros l) (zeros l) ≡ 0)
+  unfolding reached signed
+  zero-verdict = (rw (no-measure code l l) refl, rw (no-measure code l l) refl)
 
-  room : (n : ℕ) → n ≤ length {A = ℕ} (replicate n 0)
-  room n = omega (arith, length-replicate {A = ℕ} n 0)
+  example : (s : Starts) (cs : List Call) (t bit : ℕ) → thresholdFits code t ≡ true
+      → verdict (dealOf t) (zeros l) (zeros l) ≡ bit
+      → (InRange (dealOf t) (λ b. zeros l) → Ended s cs (dealOf t) (λ b. zeros l)) → Example s cs n code l bit
+  example s cs t bit k says ends =
+      record {
+        d = dealOf t;
+        v = λ b. zeros l;
+        number-is = refl;
+        code-is = refl;
+        length-is = refl;
+        in-range = zero-range t k;
+        ended = ends (zero-range t k);
+        says = says;
+      }
 
-  example : Example s (verdict d (v camera) (v office))
-  example =
-      let out : List ℕ = replicate (halfSize (d .n)) 0 in
-      let t0 : Reached nothingMade [] = record { cs = []; run = start; admissible = tt; has = tt } in
-      let t1 = next t0 (deal d out out) (λ cs a. (refl, refl, room (halfSize (d .n)), room (halfSize (d .n)))) in
-      let t2 = next t1 (load camera (halfOf s d camera)) (λ cs a. (refl, halfOf s d, a .0, refl)) in
-      let t3 = next t2 (load office (halfOf s d office)) (λ cs a. (refl, halfOf s d, a .1 .0, refl)) in
-      let t4 = next t3 (mask camera (v camera) (replicate (d .n) 0)) (λ cs a. (refl, refl, room (d .n))) in
-      let t5 = next t4 (mask office (v office) (replicate (d .n) 0)) (λ cs a. (refl, refl, room (d .n))) in
-      let t6 = next t5 (take camera (message 0 office (maskOf d office (v office)))) (λ cs a. (refl, (refl, refl), (v office, a .0))) in
-      let t7 = next t6 (take office (message 0 camera (maskOf d camera (v camera)))) (λ cs a. (refl, (refl, refl), (v camera, a .1 .1 .0))) in
-      let t8 = next t7 (finish camera (message 1 office (wordBy d v office))) (λ cs a. (refl, (refl, refl), a .0)) in
-      let t9 = next t8 (finish office (message 1 camera (wordBy d v camera))) (λ cs a. (refl, (refl, refl), a .1 .1 .0)) in
-      let t = next t9 (join (message 2 camera (answerBy d v camera)) (message 2 office (answerBy d v office))) (λ cs a. (refl, (refl, refl), a .1 .0, (refl, refl), a .0)) in
-      record { cs = t .cs; admissible = t .admissible; d = d; v = v; in-range = R; g = _; run = t .run; says = t .has .0 }
-
--- ---- scalar product of (0) with (0) against T = 0 and T = 1, under the highest number
-
-zeroDeal : ℕ → Deal
-zeroDeal t = record { number = 2 ^ 64 - 1; seed = replicate 32 0; code = 0; n = 1; t = t }
-
-zeroVector : Box → List ℕ
-zeroVector b = 0 ∷ []
-
-zero-range : (t : ℕ) → thresholdFits 0 t ≡ true → InRange (zeroDeal t) zeroVector
-unfolding zeroDeal zeroVector isCode allInRange inRange within row scalarProduct signed
-zero-range t k =
-    record {
-      number-fits = omega arith;
-      code-fits = refl;
-      seed-long = refl;
-      some = omega arith;
-      most = omega arith;
-      vector-long = λ b. refl;
-      threshold-fits = k;
-      elements-fit = λ b. refl;
-    }
-
-free : (s : Starts) (t : ℕ) → Below s (2 ^ 64 - 1) → Free s [] (zeroDeal t .number)
-unfolding zeroDeal
-free s t b = record { none-open = λ c. refl; above-dealer = b .dealer-below; above-box = b .box-below; above-lock = b .lock-below }
-
-zero-threshold : (thresholdFits 0 0 ≡ true) × (thresholdFits 0 1 ≡ true)
-unfolding thresholdFits within row scalarProduct signed
-zero-threshold = (refl, refl)
-
-zero-verdict : (verdict (zeroDeal 0) (zeroVector camera) (zeroVector office) ≡ 1) × (verdict (zeroDeal 1) (zeroVector camera) (zeroVector office) ≡ 0)
-unfolding zeroDeal zeroVector reached measure Measure.own element row scalarProduct signed sumℤ
-zero-verdict = (refl, refl)
-
-pub examples : (s : Starts) → Started s → Below s (2 ^ 64 - 1) → Example s 1 × Example s 0
-examples s f b = (
-  subst (Example s) (zero-verdict .0) (example s f (zeroDeal 0) zeroVector (zero-range 0 (zero-threshold .0)) (free s 0 b)),
-  subst (Example s) (zero-verdict .1) (example s f (zeroDeal 1) zeroVector (zero-range 1 (zero-threshold .1)) (free s 1 b)),
-)
+  pub examples : CanEnd → (s : Starts) → Started s → (cs : List Call) → Admissible s cs → Free s (history s cs) n
+      → Example s cs n code l 1 × Example s cs n code l 0
+  unfolding CanEnd
+  examples ends s f cs a F =
+      let run : (t : ℕ) → InRange (dealOf t) (λ b. zeros l) → Ended s cs (dealOf t) (λ b. zeros l) =
+      λ t R. ends s f cs a (dealOf t) (λ b. zeros l) R F in (
+        example s cs 0 1 (zero-fits code .1) (zero-verdict .0) (run 0),
+        example s cs 1 0 (zero-fits code .2) (zero-verdict .1) (run 1),
+      )
 
 -- ---- a door named "A", with floors of zero
 
 zeroStarts : Starts
-zeroStarts = record { name = 65 ∷ []; key = λ b. replicate 32 (partyOf b); dealerFloor = 0; boxFloor = λ b. 0; lockFloor = 0 }
+zeroStarts =
+    record {
+      name = 65 ∷ [];
+      key = λ b. replicate 32 (partyOf b);
+      dealerFloor = 0;
+      boxFloor = λ b. 0;
+      lockFloor = 0;
+    }
 
-pub some-starts : (s : Starts) × Started s × Below s (2 ^ 64 - 1)
+pub some-starts : (s : Starts) × Started s × Free s [] 1
 unfolding zeroStarts startDealer startParty startLock whyNotDealer whyNotParty whyNotLock nameFits printable isKey same unless
 some-starts = (
   zeroStarts,
-  record { dealer-taken = refl; box-taken = taken; lock-taken = refl },
-  record { dealer-below = omega arith; box-below = λ b. omega arith; lock-below = omega arith },
+  record { dealer-taken = refl; box-taken = both _ refl refl; lock-taken = refl },
+  record { none-open = λ b. refl; above-dealer = omega arith; above-box = λ b. omega arith; above-lock = omega arith },
 )
-  where
-    taken : (b : Box) → boxStart zeroStarts b .why ≡ 0
-    taken camera = refl
-    taken office = refl

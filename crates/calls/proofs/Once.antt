@@ -21,7 +21,7 @@ pub single : {A : Type 0} {a : A} (l : List A) → length l ≤ 1 → In a l →
 single (x ∷ []) few (here p) = ap (λ z. z ∷ []) (sym p)
 single (x ∷ y ∷ l) few i = absurd (omega arith)
 
-in-left : {A : Type 0} {a : A} (l m : List A) → In a l → In a (l ++ m)
+pub in-left : {A : Type 0} {a : A} (l m : List A) → In a l → In a (l ++ m)
 in-left (x ∷ l) m (here p) = here p
 in-left (x ∷ l) m (there i) = there (in-left l m i)
 

@@ -83,3 +83,7 @@ refusals-change-nothing w (take b m) k = alone w _ k _ _ refl refl (λ z. (same-
 refusals-change-nothing w (finish b m) k = alone w _ k _ _ refl refl (λ z. (same-box w b _ (old _ _ _ z), refl))
 refusals-change-nothing w (drop b) k = alone w _ k _ _ refl refl (λ z. (same-box w b _ (old _ _ _ z), refl))
 refusals-change-nothing w (join m n) k = alone w _ k _ _ refl refl (λ z. (same-lock w _ (old _ _ _ z), refl))
+
+pub refused-still : (w : World) (c : Call) (why : ℕ) → step w c .event ≡ refused why → step w c .world ≡ w
+unfolding RefusalsChangeNothing
+refused-still w c why q = refusals-change-nothing w c why q .same-states

@@ -11,12 +11,13 @@ use Rattle.party.specs.declared.Party.{Party}
 use Rattle.party.specs.declared.PartyAnswer.{PartyAnswer}
 use Rattle.party.specs.Party as BoxCalls
 use Rattle.calls.specs.Lists.{Box, camera, office, World, Starts, Call, deal, load, mask, take, finish, join, Event, dealt, loaded, sent, dropped, joined, refused, vector, word, answer, put, eventOf, onBox, maskedBy, step, after, events, In, here, there}
-use Rattle.calls.specs.Demand.{Progress, nothingMade, madeOne, onward, Ready, Run, start, own, aside, Answered, InRange, Free}
+use Rattle.calls.specs.Demand.{Progress, nothingMade, madeOne, onward, Ready, Run, start, own, aside, turned, Answered, InRange, Free}
 use Rattle.calls.proofs.Dealt.{maskOf, wordBy, answerBy}
 use Rattle.calls.proofs.History.{door, halfOf}
 use Rattle.calls.proofs.Slots.{Slot}
 use Rattle.calls.proofs.Written.{new}
 use Rattle.calls.proofs.Invariant.{showing, lastAt, dealerWith, lockWith, Inv}
+use Rattle.calls.proofs.Refusals.{refused-still}
 use Rattle.calls.proofs.Unmoved.{unmoved}
 use Rattle.calls.proofs.Made.{said, shown, Made, load-made, mask-made, take-made, finish-made, deal-made, join-made}
 
@@ -136,18 +137,26 @@ module _ (S : Starts) (d : Deal) (v : Box → List ℕ) where
 
     -- ---- the whole run
 
-    pub running : (w : World) → At w nothingMade [] → {cs : List Call} {g : Progress} → Run (door S) d v w cs g → At (after w cs) g (events w cs)
+    -- a call that leaves the world as it was, and a refusal
+    same-at : (w u : World) (g : Progress) (h : List Event) (e : Event) → At w g h → u ≡ w
+        → ((why : ℕ) × (e ≡ refused why)) → At u g (e ∷ h)
+    same-at w u g h e B q r =
+        let C : At u g h = subst (λ y. At y g h) (sym q) B in
+        record {
+          dealer-at = C .dealer-at;
+          box-at = C .box-at;
+          lock-at = C .lock-at;
+          exact-at = more e h (subst Exact (sym (r .1)) tt) (C .exact-at);
+        }
+
+    pub running : (w : World) → At w nothingMade [] → {cs : List Call} {g : Progress} → Run (door S) d v w cs g
+        → At (after w cs) g (events w cs)
     running w A start = A
     running w A (own {cs} {g} r c q) = goes (after w cs) g (events w cs) (running w A r) c q .1
     running w A (aside {cs} {g} r c q) =
-        let B = running w A r in
-        let u = unmoved (after w cs) c q in
-        record {
-          dealer-at = subst (λ y. (last : ℕ) × (y .dealer ≡ dealerWith S last) × (g .begun ≡ false → last < d .number)) (sym q) (B .dealer-at);
-          box-at = subst (λ y. (b : Box) → Holds b (y .box b) (g .made b)) (sym q) (B .box-at);
-          lock-at = subst (λ y. (last : ℕ) × (y .lock ≡ lockWith S last) × (g .ended ≡ false → last < d .number)) (sym q) (B .lock-at);
-          exact-at = more _ (events w cs) (subst Exact (sym (u .1)) tt) (B .exact-at);
-        }
+        same-at (after w cs) _ g (events w cs) _ (running w A r) q (unmoved (after w cs) c q)
+    running w A (turned {cs} {g} r c why q) =
+        same-at (after w cs) _ g (events w cs) _ (running w A r) (refused-still (after w cs) c why q) (why, q)
 
     pub run-goes : (w : World) → At w nothingMade [] → (cs : List Call) (g : Progress) → Run (door S) d v w cs g → (c : Call) → Ready (door S) d v g (events w cs) c
         → step (after w cs) c .event ≡ said S d v c
@@ -168,10 +177,11 @@ module _ (S : Starts) (d : Deal) (v : Box → List ℕ) where
       idle-at b [] l q = (_, q, F .above-box b)
       idle-at b (t ∷ ts) l q = absurd (omega arith)
 
-  pub answered : (c : Call) (g : Progress) (h : List Event) → Ready (door S) d v g h c → Answered d v (said S d v c)
-  answered (deal e out0 out1) g h r = tt
-  answered (load b x) g h r = tt
-  answered (mask b x out) g h r = tt
-  answered (take b m) g h r = tt
-  answered (finish b m) g h r = tt
-  answered (join m n) g h r = (refl, refl)
+  -- what each of its own calls leaves is an answer
+  pub answered : (c : Call) (g : Progress) (h : List Event) → Ready (door S) d v g h c → Answered d v c (said S d v c)
+  answered (deal e out0 out1) g h r = (halfOf S d, refl)
+  answered (load b x) g h r = refl
+  answered (mask b x out) g h r = (maskOf d b (v b), refl)
+  answered (take b m) g h r = (wordBy d v b, refl)
+  answered (finish b m) g h r = (answerBy d v b, refl)
+  answered (join m n) g h r = refl

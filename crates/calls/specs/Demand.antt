@@ -1,7 +1,9 @@
--- Demand 3 (01, "A door's list of calls"): what a list's accepted calls were, and the four claims over every list. No proof stands here. Assumes nothing.
+-- Demand 3 (01, "A door's list of calls"): what a list's accepted calls were, and the seven claims over every list.
+-- No proof stands here. Assumes nothing.
 use mathlib.Core.Path.{_≡_}
 use mathlib.Core.Bool.{Bool, true, false, cond, _&&_}
 use mathlib.Core.List.{List, [], _∷_, _++_}
+use mathlib.Core.Logic.{_⊎_}
 use Prim.Native.Nat.{ℕ, suc, _-_, _^_, _<_, _≤_}
 use lib.Dec.{eqb}
 use lib.ListN.{length}
@@ -165,20 +167,25 @@ module _ (door : List ℕ) (d : Deal) (v : Box → List ℕ) where
       (g .ended ≡ false) × Labelled door 2 camera (d .number) m × SentAnswer h camera (d .number) (m .content) × Labelled door 2 office (d .number) n
       × SentAnswer h office (d .number) (n .content)
 
-  -- its calls so far: "mixed at most with calls that change no state"
+  -- its calls so far: "mixed at most with calls that change no state", and with any that are turned down, of which 01 says
+  -- so ("no state and no byte changes")
   pub data Run (w : World) : List Call → Progress → Type 0 where
     start : Run w [] nothingMade
     own : {cs : List Call} {g : Progress} → Run w cs g → (c : Call) → Ready g (events w cs) c → Run w (c ∷ cs) (onward g c)
     aside : {cs : List Call} {g : Progress} → Run w cs g → (c : Call) → step (after w cs) c .world ≡ after w cs → Run w (c ∷ cs) g
+    turned : {cs : List Call} {g : Progress} → Run w cs g → (c : Call) (why : ℕ) → step (after w cs) c .event ≡ refused why
+        → Run w (c ∷ cs) g
 
--- not refused, and a join reports what it should
-abbrev pub Answered : Deal → (Box → List ℕ) → Event → Type 0
-Answered d v (dealt e f) = Unit {0}
-Answered d v (loaded b n) = Unit {0}
-Answered d v (sent b n x) = Unit {0}
-Answered d v (dropped b) = Unit {0}
-Answered d v (joined n bit) = (n ≡ d .number) × (bit ≡ verdict d (v camera) (v office))
-Answered d v (refused why) = ⊥
+-- "answered means that none of the run's own calls is refused": what call c of the run left is the run's own, by the
+-- call's box and "all under one number", and a join reports what it should
+abbrev pub Answered : Deal → (Box → List ℕ) → Call → Event → Type 0
+Answered d v (deal e out0 out1) x = (f : Box → List ℕ) × (x ≡ dealt d f)
+Answered d v (load b half) x = x ≡ loaded b (d .number)
+Answered d v (mask b y out) x = (m : List ℕ) × (x ≡ sent b (d .number) (vector (v b) m))
+Answered d v (take b m) x = (w : ℕ) × (x ≡ sent b (d .number) (word w))
+Answered d v (finish b m) x = (a : ℕ) × (x ≡ sent b (d .number) (answer a))
+Answered d v (drop b) x = ⊥
+Answered d v (join m n) x = x ≡ joined (d .number) (verdict d (v camera) (v office))
 
 -- "In range means that code, lengths, output buffers, threshold and elements are as refusals 2, 4, 5 and 8 ask"
 pub record InRange (d : Deal) (v : Box → List ℕ) : Type 0 where
@@ -203,31 +210,68 @@ unfoldable pub AlwaysAnswered : Type 0
 AlwaysAnswered = (s : Starts) → Started s → (cs : List Call) → Admissible s cs → (d : Deal) (v : Box → List ℕ) → InRange d v → Free s (history s cs) (d .number)
     → (let w : World = after (beginning s) cs in
     (rs : List Call) (g : Progress) → Run (padded (s .name)) d v w rs g → (c : Call) → Ready (padded (s .name)) d v g (events w rs) c
-    → Answered d v (step (after w rs) c .event))
+    → Answered d v c (step (after w rs) c .event))
+
+-- ---- a run can be ended
+
+-- all of it is made: "one deal, at each box a load and calls 2 to 4 in turn, and the join"
+abbrev pub Whole : Progress → Type 0
+Whole g = (g .begun ≡ true) × ((b : Box) → g .made b ≡ 4) × (g .ended ≡ true)
+
+-- after every admissible list that leaves no set open: however far such a run is and whatever came in between, it is
+-- not stuck, but is whole or a call of its own may come next
+unfoldable pub NeverStuck : Type 0
+NeverStuck = (s : Starts) → Started s → (cs : List Call) → Admissible s cs → (d : Deal) (v : Box → List ℕ) → InRange d v
+    → Free s (history s cs) (d .number)
+    → (let w : World = after (beginning s) cs in
+    (rs : List Call) (g : Progress) → Run (padded (s .name)) d v w rs g
+    → Whole g ⊎ ((c : Call) × Ready (padded (s .name)) d v g (events w rs) c))
+
+-- "The run in the right order follows the list": a whole run rs after the list cs. Both are one admissible list; its
+-- last call is the join, which is accepted and right; and then every higher number is free.
+pub record Ended (s : Starts) (cs : List Call) (d : Deal) (v : Box → List ℕ) : Type 0 where
+  pub rs : List Call
+  pub g : Progress
+  pub run : Run (padded (s .name)) d v (after (beginning s) cs) rs g
+  pub whole : Whole g
+  pub admissible : Admissible s (rs ++ cs)
+  pub before : List Event
+  pub says : history s (rs ++ cs) ≡ joined (d .number) (verdict d (v camera) (v office)) ∷ before
+  pub free : (n : ℕ) → d .number < n → Free s (history s (rs ++ cs)) n
+
+-- after every admissible list that leaves no set open, for every deal and vectors in range there is such a run
+unfoldable pub CanEnd : Type 0
+CanEnd = (s : Starts) → Started s → (cs : List Call) → Admissible s cs → (d : Deal) (v : Box → List ℕ) → InRange d v
+    → Free s (history s cs) (d .number) → Ended s cs d v
+
+-- "Drop ends the open set": after every admissible list, a box with a set open is not refused its drop, and then has none
+unfoldable pub CanDrop : Type 0
+CanDrop = (s : Starts) → Started s → (cs : List Call) → Admissible s cs → (b : Box) → 1 ≤ openSets b (history s cs)
+    → (history s (drop b ∷ cs) ≡ dropped b ∷ history s cs) × (openSets b (history s (drop b ∷ cs)) ≡ 0)
 
 -- ---- not empty
 
-pub record Below (s : Starts) (n : ℕ) : Type 0 where
-  pub dealer-below : s .dealerFloor < n
-  pub box-below : (b : Box) → s .boxFloor b < n
-  pub lock-below : s .lockFloor < n
-
--- an admissible list whose join says `bit`; it is a run in the right order, so the hypotheses of each claim can be met
-pub record Example (s : Starts) (bit : ℕ) : Type 0 where
-  pub cs : List Call
-  pub admissible : Admissible s cs
+-- after the list cs, a whole run under n, with this code and length, whose join says `bit`: so the hypotheses of each
+-- claim can be met
+pub record Example (s : Starts) (cs : List Call) (n code l bit : ℕ) : Type 0 where
   pub d : Deal
   pub v : Box → List ℕ
+  pub number-is : d .number ≡ n
+  pub code-is : d .code ≡ code
+  pub length-is : d .n ≡ l
   pub in-range : InRange d v
-  pub g : Progress
-  pub run : Run (padded (s .name)) d v (beginning s) cs g
-  pub says : In (joined (d .number) bit) (history s cs)
+  pub ended : Ended s cs d v
+  pub says : verdict d (v camera) (v office) ≡ bit
 
--- from any accepted starts with floors below 2^64 - 1; and there are such starts
+-- after every admissible list that leaves no set open, under every number that is free, for every measure and length:
+-- one run says 1 and one says 0; and there are accepted starts, with every number from 1 on free
 unfoldable pub NotEmpty : Type 0
-NotEmpty = ((s : Starts) → Started s → Below s (2 ^ 64 - 1) → Example s 1 × Example s 0) × ((s : Starts) × Started s × Below s (2 ^ 64 - 1))
+NotEmpty = ((s : Starts) → Started s → (cs : List Call) → Admissible s cs → (n code l : ℕ) → n < 2 ^ 64
+    → isCode code ≡ true → 1 ≤ l → l ≤ 512 → Free s (history s cs) n
+    → Example s cs n code l 1 × Example s cs n code l 0)
+    × ((s : Starts) × Started s × Free s [] 1)
 
 -- ---- demand 3, whole
 
 unfoldable pub Demand3 : Type 0
-Demand3 = NoWrongReport × NoReuse × AlwaysAnswered × NotEmpty
+Demand3 = NoWrongReport × NoReuse × AlwaysAnswered × NeverStuck × CanEnd × CanDrop × NotEmpty
