@@ -1,6 +1,6 @@
 # An edit, and then what the prover said of its crate: see .ci/refusals.
 
-NR == FNR && $1 == "wrong:" { name[++count] = $2; place[count] = $4 }
+NR == FNR && $1 == "wrong:" { name[++count] = $2; place[count] = $4; need[count] = $6 }
 NR == FNR && $1 == "file:" && $2 !~ /^src\// { definition = 1 }
 NR == FNR { next }
 
@@ -14,15 +14,27 @@ match($0, /\.antt:[0-9]+:[0-9]+: error: `[^`]*`: /) {
     of_function = sub(/\/Proof$/, "", file)
     gsub("/", of_function ? "::" : ".", file)
     at = of_function ? file : file "." declaration
-    if (/can be named from here|has no field `|expected type `tie\.Need-/) misshapen[at] = 1
-    else if (!/was not admitted/ && !(of_function && declaration ~ /-spec$/)) broken[at] = 1
+    # A loop's invariant is over what lives in the loop: it no longer fits where that is something else.
+    if (/can be named from here|has no field `|expected type `tie\.Need-/ || of_function && declaration ~ /^(Inv|μ)-/)
+        misshapen[at] = 1
+    else if (!/was not admitted/ && !(of_function && declaration ~ /-spec$/)) note(at, declaration, of_function)
 }
 
 # A function without such a file, which the search no longer proves.
 /^fn .*: no proof: .* does not close `/ {
     at = substr($2, length(crate "::") + 1)
     sub(/:$/, "", at)
-    broken[at] = 1
+    sub(/.* does not close /, "")
+    gsub(/[`,]/, "")
+    for (i = 1; i <= NF; i++) note(at, $i, 1)
+}
+
+# A law is a claim, and so is what a function promises at a return, and of a loop. What else breaks is
+# asked of the code on its way, by a callee (F-requires) or by a sum, an index or a slice: a program that
+# breaks nothing more shows little, unless the edit says that it is the claim.
+function note(at, declaration, of_function) {
+    if (!of_function || declaration ~ /^(returns|loop)(-|$)/) broken[at] = 1
+    else asked[at] = asked[at] " " declaration
 }
 
 function fail(what) {
@@ -32,11 +44,12 @@ function fail(what) {
 
 END {
     if (!count) fail("has no line 'wrong: NAME at PLACE'")
-    if (definition && count > 1) fail("changes a definition, and holds more than one wrong program")
+    if (definition && count > 1) fail("changes a definition or a proof, and holds more than one wrong program")
     for (i = 1; i <= count; i++) {
         if (place[i] in seen) fail("has two wrong programs at " place[i])
         seen[place[i]] = 1
-        if (!(place[i] in broken)) fail(name[i] " is not refused at " place[i])
+        if (need[i] != "" ? !index(asked[place[i]] " ", " " need[i] " ") : !(place[i] in broken))
+            fail(name[i] " breaks no claim at " place[i] " (else broken:" asked[place[i]] ")")
         if (place[i] in misshapen) fail(name[i] ": the proof at " place[i] " has another shape than the code")
     }
     exit failed

@@ -26,13 +26,19 @@
  *
  * Buffers. A slice is a pointer and the number of its elements, not of its bytes. It is lent for
  * the call alone. What is const is only read; in a buffer that is not, an accepted call writes
- * from its start as many elements as it says, and leaves the others. A pointer must not be null,
- * not even where the length is 0, and must be aligned for its type; a buffer that is written must
- * not overlap another one. Nothing else is asked of a caller: any number, length or byte may be
- * handed in.
+ * from its start as many elements as it says, and leaves the others. Where the length is 0 the
+ * pointer may be null, or lead anywhere: no call looks there, and it answers as for any empty
+ * slice. Any other pointer leads to as many elements and is aligned for its type. Buffers that are
+ * only read may overlap, or be one and the same; a buffer that is written must not overlap another
+ * one of the call, read or written. Nothing else is asked of a caller: any number, length or byte
+ * may be handed in.
  *
  * Numbers. A vector's element and a threshold are 32-bit words, a negative number plus 2^32: a
- * host that has int32_t may hand these in, (uint32_t)x for x and (const uint32_t *)v for v.
+ * host that has int32_t may hand these in, (uint32_t)x for x and (const uint32_t *)v for v. Every
+ * element and every threshold that a measure takes is an int32_t. But a call sees 32 bits and no
+ * more: a host whose threshold or elements are wider has to compare them with the range itself,
+ * since C cuts 2^32 + 5 to 5 on the way, which a call would take. The same goes for a code, a kind
+ * and a party that a host has in more than 32 bits.
  */
 #ifndef DOOR_H
 #define DOOR_H

@@ -1,7 +1,7 @@
 /*
  * Calls every function of door.h as a host does: whole checks, whose answers must be those of the
- * measure computed here, and each refusal of each call, which must change nothing. Its argument is
- * the level that must be in use. c/test runs it.
+ * measure computed here, and each refusal of each call, which must change nothing, empty slices with
+ * a null pointer among them. Its argument is the level that must be in use. c/test runs it.
  */
 #include "door.h"
 
@@ -859,6 +859,104 @@ static void joins(void)
     join_refused(j, DOOR_WRONG_MESSAGE);
 }
 
+/* An empty slice is refused in every place, wherever its pointer leads: `none` and `no_words` may be
+   null. Buffers that are not empty are left as they are. */
+
+static void dealer_refused(
+    struct door_dealer_answer a, const struct door_dealer *dealer, uint32_t why)
+{
+    EXPECT(a.why == why);
+    EXPECT(same_dealer(&a.dealer, dealer));
+}
+
+static void party_refused(struct door_party_answer a, const struct door_party *box, uint32_t why)
+{
+    box_refused(&a, box, why);
+}
+
+static void empty_at_dealer(uint8_t *none)
+{
+    static const struct door_dealer none_started;
+    static struct halves h, before;
+    const uint8_t *key0 = keys[0], *key1 = keys[1];
+    size_t bare = sizeof BARE, key = DOOR_KEY, room = sizeof h.half[0];
+    dealer_refused(door_start_dealer(none, 0, key0, key, key1, key, 7), &none_started,
+        DOOR_BAD_NAME);
+    dealer_refused(door_start_dealer(BARE, bare, none, 0, key1, key, 7), &none_started,
+        DOOR_WRONG_LENGTH);
+    dealer_refused(door_start_dealer(BARE, bare, key0, key, none, 0, 7), &none_started,
+        DOOR_WRONG_LENGTH);
+    dealer_refused(door_start_dealer(none, 0, none, 0, none, 0, 7), &none_started, DOOR_BAD_NAME);
+    dealer_refused(door_start_dealer(BARE, bare, none, 0, none, 0, 7), &none_started,
+        DOOR_WRONG_LENGTH); /* two keys that are both empty are not told to be equal */
+    struct door_dealer dealer = dealer_of(BARE, bare, 40);
+    draw_bytes(h.half[0], room);
+    draw_bytes(h.half[1], room);
+    before = h;
+    dealer_refused(door_deal(dealer, 41, none, 0, 0, 18, 0, h.half[0], room, h.half[1], room),
+        &dealer, DOOR_WRONG_LENGTH);
+    dealer_refused(door_deal(dealer, 41, seed, key, 0, 18, 0, none, 0, h.half[1], room), &dealer,
+        DOOR_SHORT_BUFFER);
+    dealer_refused(door_deal(dealer, 41, seed, key, 0, 18, 0, h.half[0], room, none, 0), &dealer,
+        DOOR_SHORT_BUFFER);
+    dealer_refused(door_deal(dealer, 41, seed, key, 0, 18, 0, none, 0, none, 0), &dealer,
+        DOOR_SHORT_BUFFER);
+    EXPECT(memcmp(&h, &before, sizeof h) == 0);
+}
+
+static void empty_at_box(uint8_t *none, uint32_t *no_words)
+{
+    static const struct door_party none_started;
+    const struct door_party *at = stage.at;
+    struct vector out, before;
+    party_refused(door_start_party(none, 0, 0, keys[0], DOOR_KEY, 7), &none_started,
+        DOOR_BAD_NAME);
+    party_refused(door_start_party(BARE, sizeof BARE, 0, none, 0, 7), &none_started,
+        DOOR_WRONG_LENGTH);
+    party_refused(door_load(at[0], none, 0), &at[0], DOOR_WRONG_LENGTH);
+    draw_bytes((uint8_t *)out.at, sizeof out.at);
+    before = out;
+    party_refused(door_mask(at[1], no_words, 0, out.at, stage.n), &at[1], DOOR_WRONG_LENGTH);
+    EXPECT(memcmp(&out, &before, sizeof out) == 0);
+    party_refused(door_mask(at[1], stage.v, stage.n, no_words, 0), &at[1], DOOR_SHORT_BUFFER);
+    party_refused(door_mask(at[1], no_words, 0, no_words, 0), &at[1], DOOR_WRONG_LENGTH);
+    struct message m = stage.vector;
+    m.n = 0;
+    take_refused(&at[2], m, no_words, DOOR_WRONG_LENGTH);
+    m.name = none;
+    m.name_size = 0;
+    take_refused(&at[2], m, no_words, DOOR_WRONG_LENGTH);
+    m.n = stage.n;
+    take_refused(&at[2], m, stage.v, DOOR_WRONG_LENGTH);
+    m.kind = DOOR_WORD;
+    finish_refused(&at[3], m, DOOR_WRONG_LENGTH);
+}
+
+static void empty_at_lock(uint8_t *none)
+{
+    start_lock_refused(none, 0);
+    const struct join good = join_of(41, 0, 1);
+    for (int party = 0; party < 2; party++) {
+        struct join j = good;
+        j.name[party] = none;
+        j.name_size[party] = 0;
+        join_refused(j, DOOR_WRONG_LENGTH);
+    }
+    EXPECT(lock_join(none, 0, 40, DOOR_ANSWER, PADDED, DOOR_NAME, 0, 41, 0, DOOR_ANSWER, PADDED,
+        DOOR_NAME, 1, 41, 1) == LOCK_REFUSED + DOOR_WRONG_LENGTH);
+    EXPECT(lock_last(none, 0, 40, DOOR_ANSWER, PADDED, DOOR_NAME, 0, 41, 0, DOOR_ANSWER, PADDED,
+        DOOR_NAME, 1, 41, 1) == 40);
+    EXPECT(lock_join(none, 0, 40, DOOR_ANSWER, none, 0, 0, 41, 0, DOOR_ANSWER, none, 0, 1, 41, 1)
+        == LOCK_REFUSED + DOOR_WRONG_LENGTH); /* an empty name is not told to be the door's */
+}
+
+static void empty_slices(uint8_t *none, uint32_t *no_words)
+{
+    empty_at_dealer(none);
+    empty_at_box(none, no_words);
+    empty_at_lock(none);
+}
+
 int main(int count, char **arguments)
 {
     if (count > 1)
@@ -878,6 +976,8 @@ int main(int count, char **arguments)
         mask();
         message(&stage.at[2], stage.vector);
         message(&stage.at[3], stage.word);
+        empty_slices(keys[0], stage.v);
+        empty_slices(NULL, NULL);
     }
     joins();
     printf("c/test: %s: %ld passed\n", door_level(), passed);

@@ -12,6 +12,9 @@ ghost use Rattle.aead.specs.Aead.{polyKey, macData, sealed, sealedText, 
 // RFC 8439's P_MAX: what the block counter of 32 bits has room for, after block 0.
 const LIMIT: usize = 274877906880;
 
+// The block that encryption starts at, 2.8: block 0 is the one-time key's.
+const FIRST: u32 = 1;
+
 // `ok` is whether the text was sealed; where it was not, it is too long, and the tag is zeros.
 pub struct Sealed {
     pub ok: bool,
@@ -109,7 +112,7 @@ pub fn seal_by(
     }
     keystream::xor(
         chacha20::key_words(key),
-        1,
+        FIRST,
         chacha20::nonce_words(nonce),
         text,
     );
@@ -137,7 +140,7 @@ pub fn open_by(
     if slices::equal(&expected, tag) {
         keystream::xor(
             chacha20::key_words(key),
-            1,
+            FIRST,
             chacha20::nonce_words(nonce),
             text,
         );

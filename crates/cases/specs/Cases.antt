@@ -4,7 +4,7 @@ use mathlib.Core.Bool.{Bool, true, false, _&&_, Bool·beq}
 use mathlib.Core.List.{List, [], _∷_, map}
 use Prim.Native.Nat.{ℕ, _-_, _^_}
 use lib.Dec.{eqb}
-use lib.IntN.{ℤ, pos, negℤ}
+use lib.IntN.{ℤ, pos, negℤ, _*ℤ_}
 use lib.ListN.{length}
 use lib.Signed.{leZ}
 use Rattle.algebra.specs.Word.{add, sub}
@@ -18,8 +18,8 @@ use Rattle.content.specs.Content.{size, blockCount}
 
 -- a line: what is given, and what it comes to
 pub data Line : Type 0 where
-  -- code, X, Y: the measure
-  measured : ℕ → List ℤ → List ℤ → ℤ → Line
+  -- code, X, Y: the three summands own(X), own(Y) and k × (sum of X_i × Y_i), and the measure
+  measured : ℕ → List ℤ → List ℤ → ℤ → ℤ → ℤ → ℤ → Line
   -- code, X, Y, T: whether it is reached
   reaches : ℕ → List ℤ → List ℤ → ℤ → Bool → Line
   -- an element and its mask: the masked element
@@ -32,9 +32,15 @@ pub data Line : Type 0 where
 unfoldable pub sameℤ : ℤ → ℤ → Bool
 sameℤ a b = leZ a b && leZ b a
 
+-- the third summand of a measure: k × (sum of X_i × Y_i)
+unfoldable pub crossed : ℕ → ℕ → List ℕ → List ℕ → ℤ
+crossed code n x y = row code .k *ℤ sumℤ (λ i. element x i *ℤ element y i) n
+
 -- whether a line holds
 unfoldable pub holds : Line → Bool
-holds (measured code x y m) = sameℤ (measure code (length x) (map word x) (map word y)) m
+holds (measured code x y ownX ownY cross m) =
+    sameℤ (own code (length x) (map word x)) ownX && sameℤ (own code (length x) (map word y)) ownY
+    && sameℤ (crossed code (length x) (map word x) (map word y)) cross && sameℤ (measure code (length x) (map word x) (map word y)) m
 holds (reaches code x y t b) = Bool·beq (reached code (measure code (length x) (map word x) (map word y)) t) b
 holds (masked x m r) = same (plus 1 (word x ∷ []) (m ∷ [])) (r ∷ [])
 holds (gated r d z g) = eqb (add (word d) r) z && eqb (idealGate r z) g
@@ -43,13 +49,13 @@ holds (filled n b) = eqb (blockCount n) b
 unfoldable pub table : List Line
 table =
     -- scalar (3, -4) with (2, 5): -14. T = -14 reached, T = -13 not
-    measured 0 (pos 3 ∷ negℤ (pos 4) ∷ []) (pos 2 ∷ pos 5 ∷ []) (negℤ (pos 14))
+    measured 0 (pos 3 ∷ negℤ (pos 4) ∷ []) (pos 2 ∷ pos 5 ∷ []) (pos 0) (pos 0) (negℤ (pos 14)) (negℤ (pos 14))
     ∷ reaches 0 (pos 3 ∷ negℤ (pos 4) ∷ []) (pos 2 ∷ pos 5 ∷ []) (negℤ (pos 14)) true
     ∷ reaches 0 (pos 3 ∷ negℤ (pos 4) ∷ []) (pos 2 ∷ pos 5 ∷ []) (negℤ (pos 13)) false
-    -- squared Euclid of the same: 82
-    ∷ measured 1 (pos 3 ∷ negℤ (pos 4) ∷ []) (pos 2 ∷ pos 5 ∷ []) (pos 82)
-    -- Hamming (1,0,1,1) with (1,1,0,1): 2
-    ∷ measured 2 (pos 1 ∷ pos 0 ∷ pos 1 ∷ pos 1 ∷ []) (pos 1 ∷ pos 1 ∷ pos 0 ∷ pos 1 ∷ []) (pos 2)
+    -- squared Euclid of the same: 25 + 29 + 28 = 82
+    ∷ measured 1 (pos 3 ∷ negℤ (pos 4) ∷ []) (pos 2 ∷ pos 5 ∷ []) (pos 25) (pos 29) (pos 28) (pos 82)
+    -- Hamming (1,0,1,1) with (1,1,0,1): 3 + 3 - 4 = 2
+    ∷ measured 2 (pos 1 ∷ pos 0 ∷ pos 1 ∷ pos 1 ∷ []) (pos 1 ∷ pos 1 ∷ pos 0 ∷ pos 1 ∷ []) (pos 3) (pos 3) (negℤ (pos 4)) (pos 2)
     -- element -4, mask 4,294,967,295: 4,294,967,291; element 3, mask 4,294,967,294: 1
     ∷ masked (negℤ (pos 4)) 4294967295 4294967291
     ∷ masked (pos 3) 4294967294 1
@@ -75,5 +81,5 @@ all [] = true
 all (l ∷ t) = holds l && all t
 
 pub the-cases : all table ≡ true
-unfolding all table holds sameℤ size blockCount idealGate measure own element reached row scalarProduct squaredEuclid hamming word plus tab same sum sumℤ add sub W.neg W.signed only less
+unfolding all table holds sameℤ crossed size blockCount idealGate measure own element reached row scalarProduct squaredEuclid hamming word plus tab same sum sumℤ add sub W.neg W.signed only less
 the-cases = refl

@@ -1,6 +1,7 @@
 // What a box computes in one check, and the making of a key, as C functions, for programs in other
-// languages to link: the benchmark does. A slice is handed over as a pointer and a length; an array
-// of fixed size as a pointer; a key as a struct by value. No function asks anything of its caller.
+// languages to link: the benchmark does. They are no calls of 01 and stand in no door's archive. A
+// slice is handed over as a pointer and a length; an array of fixed size as a pointer; a key as a
+// struct by value. No function asks anything of its caller.
 ghost use mathlib.Core.Path.{_≡_};
 ghost use Rattle.node.specs.Node.{keyFor, valueAt};
 ghost use Rattle.share.specs.Share.{answer as answerOf};

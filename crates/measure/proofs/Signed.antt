@@ -1,13 +1,13 @@
 -- The order of signed words: 2^31 more, and it is the order of words. Assumes nothing.
-use mathlib.Core.Path.{_≡_, refl, sym, ap, ap₂, _∙_}
-use mathlib.Core.Bool.{Bool, true, false, cond}
+use mathlib.Core.Path.{_≡_, refl, sym, ap₂, _∙_}
+use mathlib.Core.Bool.{Bool, true, false}
 use Prim.Native.Nat.{ℕ, suc, _+_, _-_, _%_, _^_, _<_, _≤_}
 use native.Mathlib.Omega.{arith}
-use borrow.Author.Tests.{ltb-true, ltb-false, leb-true, leb-false, lt-ltb, le-ltb}
+use borrow.Author.Tests.{ltb-true, ltb-false, leb-true, leb-false}
 use lib.Dec.{ltb, leb}
-use lib.IntN.{pos, negsuc, _-ℤ_}
 use lib.Signed.{leZ}
 use Rattle.algebra.specs.Word.{add, signed}
+use Rattle.measure.specs.Laws.{signed-low, signed-high}
 
 -- two tests agree if each order follows from the other
 leb-same : (a b c d : ℕ) → (a ≤ b → c ≤ d) → (c ≤ d → a ≤ b) → leb a b ≡ leb c d
@@ -18,16 +18,6 @@ leb-same a b c d f g = go (leb a b) (leb c d) refl refl
     go true false e h = absurd (omega (arith, f (leb-true a b e), leb-false c d h))
     go false true e h = absurd (omega (arith, g (leb-true c d h), leb-false a b e))
     go false false e h = refl
-
-pub signed-low : (w : ℕ) → w < 2 ^ 31 → signed w ≡ pos w
-unfolding signed
-signed-low w l = ap (λ (c : Bool). cond c (pos w) (pos w -ℤ pos (2 ^ 32))) (lt-ltb w (2 ^ 31) l)
-
-pub signed-high : (w : ℕ) → 2 ^ 31 ≤ w → w < 2 ^ 32 → signed w ≡ negsuc (2 ^ 32 - suc w)
-unfolding signed
-signed-high w l k =
-    ap (λ (c : Bool). cond c (pos w) (pos w -ℤ pos (2 ^ 32))) (le-ltb w (2 ^ 31) l)
-    ∙ ap (λ (c : Bool). cond c (negsuc (2 ^ 32 - suc w)) (pos (w - 2 ^ 32))) (lt-ltb w (2 ^ 32) k)
 
 pub signed-order : (a b : ℕ) → a < 2 ^ 32 → b < 2 ^ 32 → leb (add a (2 ^ 31)) (add b (2 ^ 31)) ≡ leZ (signed a) (signed b)
 unfolding add

@@ -3,10 +3,10 @@
 use mathlib.Core.Path.{_≡_, refl, sym, ap, ap₂, _∙_, subst}
 use mathlib.Core.Bool.{Bool, true, false, cond}
 use mathlib.Core.List.{List, [], _∷_}
-use Prim.Native.Nat.{ℕ, zero, suc, _*_, _-_, _^_, _<_, _≤_}
+use Prim.Native.Nat.{ℕ, zero, suc, _*_, _-_, _%_, _^_, _<_, _≤_}
 use native.Mathlib.Omega.{arith}
-use borrow.Author.Tests.{leb-true, ltb-true}
-use lib.Dec.{leb·zero}
+use borrow.Author.Tests.{leb-true, ltb-true, ltb-false, lt-ltb, le-ltb}
+use lib.Dec.{ltb, leb·zero}
 use lib.IntN.{ℤ, pos, negsuc, negℤ, _+ℤ_, _-ℤ_, _*ℤ_}
 use lib.ListN.{getD}
 use lib.Signed.{leZ}
@@ -34,6 +34,34 @@ pub word-lt : (z : ℤ) → word z < 2 ^ 32
 unfolding word
 word-lt (pos n) = omega arith
 word-lt (negsuc n) = neg-lt (suc n)
+
+-- ---- "A negative number stands for itself plus 2^32": a number's word, read as signed, is the number
+
+pub signed-low : (w : ℕ) → w < 2 ^ 31 → signed w ≡ pos w
+unfolding signed
+signed-low w l = ap (λ (c : Bool). cond c (pos w) (pos w -ℤ pos (2 ^ 32))) (lt-ltb w (2 ^ 31) l)
+
+pub signed-high : (w : ℕ) → 2 ^ 31 ≤ w → w < 2 ^ 32 → signed w ≡ negsuc (2 ^ 32 - suc w)
+unfolding signed
+signed-high w l k =
+    ap (λ (c : Bool). cond c (pos w) (pos w -ℤ pos (2 ^ 32))) (le-ltb w (2 ^ 31) l)
+    ∙ ap (λ (c : Bool). cond c (negsuc (2 ^ 32 - suc w)) (pos (w - 2 ^ 32))) (lt-ltb w (2 ^ 32) k)
+
+pub signed-word : (z : ℤ) → leZ (negℤ (pos (2 ^ 31))) z ≡ true → leZ z (pos (2 ^ 31 - 1)) ≡ true → signed (word z) ≡ z
+unfolding word neg
+signed-word (pos n) from to =
+    let small : n < 2 ^ 31 = omega (arith, leb-true n (2 ^ 31 - 1) to) in
+    let same : n % 2 ^ 32 ≡ n = omega arith in
+    ap signed same ∙ signed-low n small
+signed-word (negsuc n) from to =
+    let small : n < 2 ^ 31 = omega (arith, leb-true n (2 ^ 31 - 1) from) in
+    let same : neg (suc n) ≡ 2 ^ 32 - suc n = omega arith in
+    let back : 2 ^ 32 - suc (2 ^ 32 - suc n) ≡ n = omega arith in
+    ap signed same ∙ signed-high (2 ^ 32 - suc n) (omega arith) (omega arith) ∙ ap negsuc back
+
+-- and a word's signed value has that word
+pub word-signed : (w : ℕ) → w < 2 ^ 32 → word (signed w) ≡ w
+word-signed w l = same-word (m-trans (word≈ (signed w)) (signed≈ w)) (word-lt (signed w)) l
 
 pub kWord≈ : (code : ℕ) → kWord code ≈ residue (2 ^ 32) (row code .k)
 unfolding kWord
@@ -222,19 +250,24 @@ bound code n t x y l hx hy ht =
 
 -- ---- the sign, read off a word
 
+sign-bit : (w : ℕ) → w < 2 ^ 32 → less w (2 ^ 31) ≡ only (leZ (pos 0) (signed w)) 1
+unfolding only
+sign-bit w l = go (ltb w (2 ^ 31)) refl
+  where
+    of-sign : {a b : ℤ} → a ≡ b → only (leZ (pos 0) a) 1 ≡ only (leZ (pos 0) b) 1
+    of-sign e = ap (λ (z : ℤ). only (leZ (pos 0) z) 1) e
+
+    go : (c : Bool) → ltb w (2 ^ 31) ≡ c → less w (2 ^ 31) ≡ only (leZ (pos 0) (signed w)) 1
+    go true e =
+        let k = ltb-true w (2 ^ 31) e in
+        less-lt w (2 ^ 31) k ∙ sym (of-sign (signed-low w k) ∙ ap (λ (b : Bool). only b 1) (leb·zero w))
+    go false e = let k = ltb-false w (2 ^ 31) e in less-ge w (2 ^ 31) k ∙ sym (of-sign (signed-high w k l))
+
 pub sign : (w : ℕ) (d : ℤ) → w < 2 ^ 32 → leZ (negℤ (pos (2 ^ 31))) d ≡ true → leZ d (pos (2 ^ 31 - 1)) ≡ true → w ≈ residue (2 ^ 32) d
     → less w (2 ^ 31) ≡ only (leZ (pos 0) d) 1
-unfolding only residue neg
-sign w (pos a) l from to h =
-    let small : a < 2 ^ 31 = omega (arith, leb-true a (2 ^ 31 - 1) to) in
-    let same : w ≡ a = same-word h l (omega arith) in
-    rw (leb·zero a) (less-lt w (2 ^ 31) (omega arith))
-sign w (negsuc a) l from to h =
-    let small : a < 2 ^ 31 = omega (arith, leb-true a (2 ^ 31 - 1) from) in
-    less-ge w (2 ^ 31) (large a small w (same-word (m-trans h (m-sym (neg≈ (suc a)))) l (neg-lt (suc a))))
-  where
-    large : (a : ℕ) → a < 2 ^ 31 → (w : ℕ) → w ≡ neg (suc a) → 2 ^ 31 ≤ w
-    large a k w e = omega arith
+sign w d l from to h =
+    let same : w ≡ word d = same-word (m-trans h (m-sym (word≈ d))) l (word-lt d) in
+    sign-bit w l ∙ ap (λ (z : ℤ). only (leZ (pos 0) z) 1) (ap signed same ∙ signed-word d from to)
 
 -- the word of measure - T is below 2^31 exactly if the threshold is reached
 pub reached-sign : (code n t w : ℕ) (x y : List ℕ) → n ≤ 512 → allInRange code x ≡ true → allInRange code y ≡ true → thresholdFits code t ≡ true

@@ -14,7 +14,7 @@ use Rattle.algebra.specs.Ring.{ring}
 use Rattle.algebra.specs.Sum.{sum}
 use Rattle.algebra.specs.Word.{mul, neg, signed, _≈_, words, mul-lt, same-word}
 use Rattle.measure.specs.Measure.{row, ownWord, squaresFrom}
-use Rattle.measure.proofs.Signed.{signed-low, signed-high}
+use Rattle.measure.specs.Laws.{signed-low, signed-high}
 
 pub magnitude-low : (x : ℕ) → x < 2 ^ 31 → x ≡ natAbs (signed x)
 magnitude-low x l = sym (ap natAbs (signed-low x l))

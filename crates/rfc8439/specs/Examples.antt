@@ -2,13 +2,15 @@
 use mathlib.Core.Path.{_≡_, refl}
 use mathlib.Core.List.{List, [], _∷_}
 use Prim.Native.Nat.{ℕ}
+use lib.ListN.{replicate}
 use Rattle.algebra.specs.Word.{add}
 use Rattle.words.specs.List.{tab}
 use Rattle.words.specs.Bytes.{rotl, le32, bytesOf, wordAt, wordsAt}
 use Rattle.rounds.specs.Rounds.{quarter, quarterAt, store, columnRound, diagonalRound, doubleRound, rounds, added, blockFrom}
 use Rattle.chacha20.specs.ChaCha20.{start, block, blockBytes}
+use Rattle.keystream.specs.Keystream.{keyWord, keyByte, stream, xored}
 use Rattle.poly1305.specs.Poly1305.{number, bytes, clamp, piece, firstPieces, pieces, absorb, absorbAll, tagOf, rOf, sOf, mac, pad16}
-use Rattle.aead.specs.Aead.{polyKey, macData, tagFor}
+use Rattle.aead.specs.Aead.{polyKey, cipher, macData, tagFor}
 
 -- 2.1.1
 quarter-round : quarter 0x11111111 0x01020304 0x9b8d6f43 0x01234567 ≡ record { a = 0xea2a92f4; b = 0xcb1cf8ce; c = 0x4581472e; d = 0x5881c4bb }
@@ -63,6 +65,22 @@ stream-second : block (wordsAt 8 key-counting) 2 (wordsAt 3 nonce-of-text) ≡ 0
 unfolding add rotl quarter quarterAt store columnRound diagonalRound doubleRound rounds added start blockFrom block key-counting nonce-of-text wordsAt wordAt tab
 stream-second = refl
 
+-- 2.4: the key stream from block 0 on; its words are those of appendix A.1's first two vectors, block 0 whole and the first word of block 1
+key-stream : stream (replicate 8 0) (replicate 3 0) 17 ≡
+    0xade0b876 ∷ 0x903df1a0 ∷ 0xe56a5d40 ∷ 0x28bd8653 ∷ 0xb819d2bd ∷ 0x1aed8da0 ∷ 0xccef36a8 ∷ 0xc70d778b
+    ∷ 0x7c5941da ∷ 0x8d485751 ∷ 0x3fe02477 ∷ 0x374ad8b8 ∷ 0xf4b8436a ∷ 0x1ca11815 ∷ 0x69b687c3 ∷ 0x8665eeb2 ∷ 0xbee7079f ∷ []
+unfolding add rotl quarter quarterAt store columnRound diagonalRound doubleRound rounds added start blockFrom block tab keyWord stream
+key-stream = refl
+
+-- 2.4.2: the first bytes of the text, encrypted from block 1 on
+text-start : List ℕ
+text-start = 0x4c ∷ 0x61 ∷ 0x64 ∷ 0x69 ∷ 0x65 ∷ 0x73 ∷ 0x20 ∷ 0x61 ∷ 0x6e ∷ 0x64 ∷ 0x20 ∷ 0x47 ∷ 0x65 ∷ 0x6e ∷ 0x74 ∷ 0x6c ∷ []
+
+encrypted : xored (wordsAt 8 key-counting) 1 (wordsAt 3 nonce-of-text) text-start ≡
+    0x6e ∷ 0x2e ∷ 0x35 ∷ 0x9a ∷ 0x25 ∷ 0x68 ∷ 0xf9 ∷ 0x80 ∷ 0x41 ∷ 0xba ∷ 0x07 ∷ 0x28 ∷ 0xdd ∷ 0x0d ∷ 0x69 ∷ 0x81 ∷ []
+unfolding add rotl quarter quarterAt store columnRound diagonalRound doubleRound rounds added start blockFrom block key-counting nonce-of-text text-start wordsAt wordAt tab le32 keyWord keyByte xored
+encrypted = refl
+
 -- 2.5.2
 poly-key-example : List ℕ
 poly-key-example = 0x85 ∷ 0xd6 ∷ 0xbe ∷ 0x78 ∷ 0x57 ∷ 0x55 ∷ 0x6d ∷ 0x33 ∷ 0x7f ∷ 0x44 ∷ 0x52 ∷ 0xfe ∷ 0x42 ∷ 0xd5 ∷ 0x06 ∷ 0xa8
@@ -109,6 +127,11 @@ aead-one-time-key : polyKey key-80 nonce-of-aead ≡
     ∷ 0x0a ∷ 0xe1 ∷ 0xd6 ∷ 0x73 ∷ 0x10 ∷ 0x75 ∷ 0xd9 ∷ 0xeb ∷ 0x2a ∷ 0x93 ∷ 0x75 ∷ 0x78 ∷ 0x3e ∷ 0xd5 ∷ 0x53 ∷ 0xff ∷ []
 unfolding add rotl quarter quarterAt store columnRound diagonalRound doubleRound rounds added start blockFrom block key-80 nonce-of-aead wordsAt wordAt tab blockBytes bytesOf le32 polyKey
 aead-one-time-key = refl
+
+aead-ciphertext : cipher key-80 nonce-of-aead text-start ≡
+    0xd3 ∷ 0x1a ∷ 0x8d ∷ 0x34 ∷ 0x64 ∷ 0x8e ∷ 0x60 ∷ 0xdb ∷ 0x7b ∷ 0x86 ∷ 0xaf ∷ 0xbc ∷ 0x53 ∷ 0xef ∷ 0x7e ∷ 0xc2 ∷ []
+unfolding add rotl quarter quarterAt store columnRound diagonalRound doubleRound rounds added start blockFrom block key-80 nonce-of-aead text-start wordsAt wordAt tab le32 keyWord keyByte xored cipher
+aead-ciphertext = refl
 
 aead-tag : tagFor key-80 nonce-of-aead (0x50 ∷ 0x51 ∷ 0x52 ∷ 0x53 ∷ 0xc0 ∷ 0xc1 ∷ 0xc2 ∷ 0xc3 ∷ 0xc4 ∷ 0xc5 ∷ 0xc6 ∷ 0xc7 ∷ []) ciphertext ≡
     0x1a ∷ 0xe1 ∷ 0x0b ∷ 0x59 ∷ 0x4f ∷ 0x09 ∷ 0xe2 ∷ 0x6a ∷ 0x7e ∷ 0x90 ∷ 0x2e ∷ 0xcb ∷ 0xd0 ∷ 0x60 ∷ 0x06 ∷ 0x91 ∷ []
