@@ -13,7 +13,7 @@ use Rattle.content.specs.declared.Set.{Set}
 use Rattle.content.specs.Content.{fill}
 use Rattle.party.specs.Party.{maskedVector}
 use Rattle.calls.specs.Lists.{Box, sameBox, Event, loaded, sent, dropped, vector, word, answer, here, there}
-use Rattle.calls.specs.Demand.{sentOf, vectorOf, wordOf, vectors, words, lastLoaded, openSets}
+use Rattle.calls.specs.Demand.{sentOf, vectorOf, wordOf, vectors, sentWords, lastLoaded, openSets}
 use Rattle.calls.proofs.Boxes.{own-box, same-number}
 use Rattle.calls.proofs.Dealt.{setOf, maskOf, ownOf, wordBy}
 use Rattle.calls.proofs.Once.{All, Once, once-map, once-cond, once-skip}
@@ -67,7 +67,7 @@ pub record Slots (h : List Event) (b : Box) (last : ℕ) (ts : List Slot) : Type
   pub rising : Rising low last ts
   pub count : length ts ≡ openSets b h
   pub vectors-once : (n : ℕ) → Once (vectors b n h) ((last < n) ⊎ Some (Unmasked n) ts)
-  pub words-once : (n : ℕ) → Once (words b n h) ((last < n) ⊎ Some (Unworded n) ts)
+  pub words-once : (n : ℕ) → Once (sentWords b n h) ((last < n) ⊎ Some (Unworded n) ts)
 
 -- ---- an event that is not this box's
 
@@ -143,7 +143,7 @@ module _ (h : List Event) (b : Box) (last : ℕ) where
         rising = k .rising .1;
         count = rw (own-box b) (omega (arith, k .count));
         vectors-once = λ m. once-skip (vectors b m h) (sameBox b b && eqb n m) (k .vectors-once m) ended;
-        words-once = λ m. once-skip (words b m h) (sameBox b b && eqb n m) (k .words-once m) ended;
+        words-once = λ m. once-skip (sentWords b m h) (sameBox b b && eqb n m) (k .words-once m) ended;
       }
 
   pub slots-drop : (t : Slot) (ts : List Slot) → Slots h b last (t ∷ ts) → Slots (dropped b ∷ h) b last ts
@@ -206,7 +206,7 @@ module _ (h : List Event) (b : Box) (last : ℕ) where
         rising = k .rising;
         count = rw (own-box b) (omega (arith, k .count));
         vectors-once = λ m. send Unmasked unmasked-is (s .number) m (fresh s) u ts (k .rising .1) (λ p. p) (λ q. q) x (vectors b m h) (k .vectors-once m);
-        words-once = λ m. once-skip (words b m h) (sameBox b b && eqb (s .number) m) (k .words-once m) (λ q. q);
+        words-once = λ m. once-skip (sentWords b m h) (sameBox b b && eqb (s .number) m) (k .words-once m) (λ q. q);
       }
 
   pub slots-take : (s : Set) (m : List ℕ) (o : ℕ) (ts : List Slot) → Slots h b last (masked s m o ∷ ts) → (w : ℕ) → Word h b s w
@@ -218,5 +218,5 @@ module _ (h : List Event) (b : Box) (last : ℕ) where
         rising = k .rising;
         count = rw (own-box b) (omega (arith, k .count));
         vectors-once = λ i. once-skip (vectors b i h) (sameBox b b && eqb (s .number) i) (k .vectors-once i) (λ q. q);
-        words-once = λ i. send Unworded unworded-is (s .number) i (masked s m o) (worded s m o w) ts (k .rising .1) (λ p. p) (λ q. q) w (words b i h) (k .words-once i);
+        words-once = λ i. send Unworded unworded-is (s .number) i (masked s m o) (worded s m o w) ts (k .rising .1) (λ p. p) (λ q. q) w (sentWords b i h) (k .words-once i);
       }

@@ -54,8 +54,8 @@ abbrev pub vectors : Box → ℕ → List Event → List (List ℕ)
 vectors b n h = collect (sentOf vectorOf b n) h
 
 -- the words of a box's accepted calls 3 under n
-abbrev pub words : Box → ℕ → List Event → List ℕ
-words b n h = collect (sentOf wordOf b n) h
+abbrev pub sentWords : Box → ℕ → List Event → List ℕ
+sentWords b n h = collect (sentOf wordOf b n) h
 
 -- "A part's last number is that of its last accepted deal, load or join, else its floor"
 abbrev pub lastDealt : ℕ → List Event → ℕ
@@ -123,7 +123,7 @@ NoWrongReport = (s : Starts) → Started s → (cs : List Call) → Admissible s
 -- at most one masked vector and one word a number and box
 unfoldable pub NoReuse : Type 0
 NoReuse = (s : Starts) → Started s → (cs : List Call) → Admissible s cs → (b : Box) (n : ℕ)
-    → (length (vectors b n (history s cs)) ≤ 1) × (length (words b n (history s cs)) ≤ 1)
+    → (length (vectors b n (history s cs)) ≤ 1) × (length (sentWords b n (history s cs)) ≤ 1)
 
 -- ---- a run in the right order: "one deal, at each box a load and calls 2 to 4 in turn, and the join, all under one number"
 
