@@ -4,9 +4,10 @@ ghost use mathlib.Core.Path.{_≡_};
 ghost use mathlib.Core.List.{_++_};
 ghost use Prim.Native.Nat.{_≤_};
 ghost use lib.ListN.{length};
+ghost use Rattle.words.specs.Numbers.{bytes};
 ghost use Rattle.algebra.specs.Mod.{Mod};
 ghost use Rattle.limbs.specs.Limbs.{prime, value, Limbs};
-ghost use Rattle.poly1305.specs.Poly1305.{bytes, pieces, pad16, absorbAll, mac};
+ghost use Rattle.poly1305.specs.Poly1305.{pieces, pad16, absorbAll, mac};
 ghost use Rattle.aead.specs.Aead.{polyKey, macData, sealed, sealedText, opens, openedText};
 
 // RFC 8439's P_MAX: what the block counter of 32 bits has room for, after block 0.

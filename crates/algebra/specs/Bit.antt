@@ -1,10 +1,10 @@
 -- Flags and tests as numbers: what 01 writes as "if" and as [a < b]. Assumes nothing.
-use mathlib.Core.Path.{_≡_, refl, sym, _∙_, ap, ap₂}
-use mathlib.Core.Bool.{Bool, true, false, xor}
+use mathlib.Core.Path.{_≡_, refl, sym, _∙_, ap, ap₂, subst}
+use mathlib.Core.Bool.{Bool, true, false, xor, _&&_}
 use Prim.Native.Nat.{ℕ, _+_, _*_, _/_, _%_, _^_, _<_, _≤_}
 use native.Mathlib.Omega.{arith}
 use lib.Bits.{bitXor, differ, xor-step}
-use lib.Dec.{ltb, eqb}
+use lib.Dec.{T, ltb, eqb}
 use borrow.Author.Tests.{lt-ltb, le-ltb, eqb-true, eqb-false}
 
 -- x if the flag is set, else 0
@@ -51,3 +51,12 @@ pub odd-only : (b : Bool) → odd (only b 1) ≡ b
 unfolding only odd
 odd-only true = refl
 odd-only false = refl
+
+-- a test that is passed and failed
+pub neither {ℓ} : {X : Type ℓ} → false ≡ true → X
+neither h = absurd (subst T (sym h) tt)
+
+-- two tests that are both passed
+pub both : (a b : Bool) → a && b ≡ true → (a ≡ true) × (b ≡ true)
+both true b h = (refl, h)
+both false b h = neither h

@@ -19,7 +19,7 @@ pub fn answer(party: u32, key: Key, seed: [u32; 8], z: u32) -> u32
 {
     let at = walk::values(key, seed, party, words::add(z, 2147483648), z);
     let difference = words::sub(at.first, at.second);
-    words::add(difference, node::only(party, below_half(z)))
+    words::add(difference, words::only(party, below_half(z)))
 }
 
 // 1 if z is below 2^31, else 0.

@@ -6,9 +6,9 @@ use Prim.Native.Nat.{ℕ, _-_, _<_, _≤_}
 use borrow.Author.Tests.{leb-true, ltb-true, eqb-true, eqb-false, not-true}
 use lib.Dec.{eqb, ltb}
 use lib.ListN.{length}
+use Rattle.algebra.specs.Bit.{both}
 use Rattle.words.specs.List.{same, same-eq}
 use Rattle.measure.specs.Measure.{allInRange}
-use Rattle.measure.specs.Order.{both}
 use Rattle.messages.specs.declared.Label.{Label}
 use Rattle.messages.specs.Laws.{passed, fits-short}
 use Rattle.messages.specs.Messages.{unless, expected}

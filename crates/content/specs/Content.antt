@@ -6,10 +6,9 @@ use mathlib.Core.List.{List, [], _∷_, _++_, map}
 use Prim.Native.Nat.{ℕ, zero, suc, _+_, _*_, _-_, _/_, _^_, _<_, _≤_}
 use lib.Dec.{eqb, leb, ltb}
 use lib.ListN.{length, getD, take, drop, replicate}
-use Rattle.words.specs.List.{same}
+use Rattle.words.specs.Numbers.{bytes, number}
+use Rattle.words.specs.List.{same, flat}
 use Rattle.words.specs.Bytes.{le32, bytesOf, wordAt, wordsAt}
-use Rattle.lanes.specs.Lanes.{flat}
-use Rattle.poly1305.specs.Poly1305.{bytes, number}
 use Rattle.node.specs.declared.Correction.{Correction}
 use Rattle.measure.specs.Measure.{isCode}
 use Rattle.content.specs.declared.Set.{Set}

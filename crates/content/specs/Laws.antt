@@ -8,13 +8,12 @@ use borrow.Author.Tests.{eq-eqb, eqb-true, le-leb, leb-true, lt-ltb, ltb-true}
 use lib.Dec.{eqb}
 use lib.ListN.{length, getD, take, drop, replicate, length-append, length-replicate, length-map}
 use lib.Seq.{take-at, drop-at, take-suc, take-all, getD-take, getD-drop, take-append-add}
-use Rattle.words.specs.List.{over, same, same-refl, drop-replicate, over-zeros}
+use Rattle.algebra.specs.Bit.{both}
+use Rattle.words.specs.Numbers.{bytes, number}
+use Rattle.words.specs.List.{over, same, same-refl, drop-replicate, over-zeros, flat}
 use Rattle.words.specs.Bytes.{le32, bytesOf, wordAt, wordsAt, length-bytesOf}
-use Rattle.lanes.specs.Lanes.{flat}
-use Rattle.poly1305.specs.Poly1305.{bytes, number}
 use Rattle.node.specs.declared.Correction.{Correction}
 use Rattle.measure.specs.Measure.{isCode}
-use Rattle.measure.specs.Order.{both}
 use Rattle.content.specs.declared.Set.{Set}
 use Rattle.content.specs.Content.{part, fill, correctionBytes, fields, widths, size, blockCount, plain, cut, lengthIn, field, correctionIn, correctionsIn, setIn, noCorrection, lengthFits, flagsFit, zeros, contentFits, Words, Filled, Corrections, FlagBytes, Proper}
 use Rattle.content.specs.Pieces.{offset, length-flat, cut-flat, cut-at, part-flat, take-replicate, wordAt-past, getD-past, length-even, wordsAt-bytesOf, words-back, wordAt-le32}

@@ -5,9 +5,8 @@ use Prim.Native.Nat.{ℕ, zero, suc, _+_, _*_, _-_, _^_, _<_, _≤_}
 use native.Mathlib.Omega.{arith}
 use lib.ListN.{length, getD, take, drop, length-append, length-drop, length-replicate, List·getD-append, replicate, replicate-append-replicate}
 use lib.Seq.{take-append-seam, drop-append-seam, drop-drop, getD-append-add, getD-take, getD-drop, take-at, drop-at, length-take-le}
-use Rattle.words.specs.List.{tab, tab-ext, tab-getD}
+use Rattle.words.specs.List.{tab, tab-ext, tab-getD, flat}
 use Rattle.words.specs.Bytes.{le32, bytesOf, wordAt, wordsAt, length-bytesOf, wordAt-bytesOf}
-use Rattle.lanes.specs.Lanes.{flat}
 use Rattle.content.specs.Content.{part, cut, Words}
 
 -- within a list the default does not matter

@@ -7,9 +7,9 @@ use native.Mathlib.Omega.{arith}
 use borrow.Author.Tests.{not-false}
 use lib.Dec.{eqb, leb, ltb}
 use lib.ListN.{length}
+use Rattle.algebra.specs.Bit.{both}
 use Rattle.words.specs.List.{over, same}
 use Rattle.measure.specs.Measure.{isCode, thresholdFits}
-use Rattle.measure.specs.Order.{both}
 use Rattle.messages.specs.Messages.{unless, nameFits, padded, isKey}
 use Rattle.messages.specs.Laws.{unless-false, unless-true, turned-down, goes-on, taken, refused}
 use Rattle.content.specs.declared.Set.{Set}

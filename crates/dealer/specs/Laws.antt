@@ -4,10 +4,10 @@ use mathlib.Core.Bool.{true, not}
 use mathlib.Core.List.{List}
 use Prim.Native.Nat.{ℕ, _^_, _<_, _≤_}
 use borrow.Author.Tests.{eqb-true, leb-true, ltb-true}
+use Rattle.algebra.specs.Bit.{both}
 use Rattle.words.specs.List.{same}
 use lib.ListN.{length}
 use Rattle.measure.specs.Measure.{isCode, thresholdFits}
-use Rattle.measure.specs.Order.{both}
 use Rattle.messages.specs.Messages.{nameFits, isKey}
 use Rattle.messages.specs.Laws.{passed}
 use Rattle.content.specs.Content.{Proper}

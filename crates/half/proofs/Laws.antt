@@ -8,12 +8,11 @@ use borrow.Author.Tests.{le-leb}
 use borrow.Rule.Slice.PartMut.{putMid}
 use lib.ListN.{length, take-append-drop, take, drop, replicate, length-append, length-drop, drop-of-length-le}
 use lib.Seq.{length-take-le, take-at, drop-at}
-use Rattle.words.specs.List.{over, over-all, over-after, over-next}
+use Rattle.words.specs.List.{over, over-all, over-after, over-next, flat}
 use Rattle.words.specs.Bytes.{le32, bytesOf}
 use Rattle.aead.specs.declared.Sealed.{Sealed}
 use Rattle.aead.specs.Aead.{cipher, tagFor, within, sealed, sealedText}
 use Rattle.aead.specs.Claims.{length-cipher}
-use Rattle.lanes.specs.Lanes.{flat}
 use Rattle.content.specs.declared.Set.{Set}
 use Rattle.content.specs.Content.{part, fields, size, blockCount, Proper}
 use Rattle.content.specs.Laws.{blocks-bounds, take-laid}

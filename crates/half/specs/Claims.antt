@@ -9,8 +9,8 @@ use borrow.Author.Tests.{eq-eqb, eqb-true, leb-true, le-leb, lt-ltb, ltb-true, l
 use lib.Dec.{eqb, leb, ltb}
 use lib.ListN.{length, take}
 use lib.Seq.{take-all, take-take, take-add}
-use Rattle.poly1305.specs.Poly1305.{number}
-use Rattle.measure.specs.Order.{both}
+use Rattle.algebra.specs.Bit.{both}
+use Rattle.words.specs.Numbers.{number}
 use Rattle.messages.specs.Messages.{unless}
 use Rattle.messages.specs.Laws.{passed}
 use Rattle.content.specs.declared.Set.{Set}

@@ -4,7 +4,7 @@ use mathlib.Core.List.{List, [], _++_}
 use Prim.Native.Nat.{ℕ, zero, suc, _*_, _/_, _%_}
 use lib.Dec.{eqb, leb, ltb}
 use lib.ListN.{length}
-use Rattle.poly1305.specs.Poly1305.{bytes, number}
+use Rattle.words.specs.Numbers.{bytes, number}
 use Rattle.aead.specs.Aead.{cipher, tagFor, opens}
 use Rattle.messages.specs.Messages.{unless}
 use Rattle.content.specs.declared.Set.{Set}

@@ -9,10 +9,9 @@ use borrow.Rule.Slice.PartMut.{putMid}
 use lib.Dec.{ltb}
 use lib.ListN.{length, take, drop, length-append, length-drop}
 use lib.Seq.{take-append-le, drop-append-le, drop-append-add, drop-drop, take-all, take-add}
+use Rattle.words.specs.Numbers.{bytes, number, length-bytes, number-four, number-eight}
 use Rattle.words.specs.List.{over, over-eq}
-use Rattle.poly1305.specs.Poly1305.{bytes, number}
-use Rattle.poly1305.specs.Laws.{length-bytes, length-mac}
-use Rattle.poly1305.specs.Numbers.{number-four, number-eight}
+use Rattle.poly1305.specs.Laws.{length-mac}
 use Rattle.aead.specs.Aead.{cipher, tagFor, opens, polyKey, macData}
 use Rattle.aead.specs.Claims.{length-cipher, opens-if, cipher-twice}
 use Rattle.content.specs.Content.{part}

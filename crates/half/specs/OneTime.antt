@@ -3,8 +3,8 @@ use mathlib.Core.Path.{_≡_, ap, ap₂, sym, _∙_}
 use mathlib.Core.List.{List, [], _∷_, _++_}
 use Prim.Native.Nat.{ℕ, _*_, _/_, _%_, _^_, _<_}
 use lib.ListN.{take, drop}
+use Rattle.words.specs.Numbers.{eight, four}
 use Rattle.words.specs.Bytes.{le32, bytesOf}
-use Rattle.poly1305.specs.Numbers.{eight, four}
 use Rattle.aead.specs.Aead.{polyKey}
 use Rattle.one_time.specs.OneTime.{nonceOf, KeysTo}
 use Rattle.half.specs.Half.{header}

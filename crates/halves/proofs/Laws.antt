@@ -7,10 +7,10 @@ use lib.ListN.{getD, drop}
 use Prim.Native.Nat.{ℕ, zero, suc, _^_, _<_, _≤_}
 use native.Mathlib.Omega.{arith}
 use borrow.Author.Tests.{lt-ltb, ltb-true, leb-true}
+use Rattle.algebra.specs.Bit.{both}
 use Rattle.words.specs.List.{same}
 use Rattle.node.specs.declared.Correction.{Correction}
 use Rattle.measure.specs.Measure.{isCode}
-use Rattle.measure.specs.Order.{both}
 use Rattle.messages.specs.Laws.{passed, taken}
 use Rattle.content.specs.declared.Set.{Set}
 use Rattle.content.specs.Content.{size, blockCount, field, setIn, noSet, lengthFits, flagsFit, zeros, contentFits, FlagBytes, Proper}

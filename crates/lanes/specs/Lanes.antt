@@ -6,7 +6,7 @@ use native.Mathlib.Omega.{arith}
 use native.Mathlib.Numerals.{add-one}
 use lib.ListN.{length, getD, set, take, drop, length-append, length-map, drop-of-length-le}
 use lib.Seq.{take-all, take-at, drop-append-add}
-use Rattle.words.specs.List.{tab, length-tab, tab-ext, tab-add}
+use Rattle.words.specs.List.{flat, tab, length-tab, tab-ext, tab-add}
 use Rattle.rounds.specs.declared.Four.{Four}
 
 -- f 0, f 1, .., f (n - 1)
@@ -29,10 +29,6 @@ putFour n at a b c d x = set (set (set (set x at a) (n + at) b) (2 * n + at) c) 
 -- the n states
 unfoldable pub rows : ℕ → List ℕ → List (List ℕ)
 rows n x = each (λ l. col n l x) n
-
-unfoldable pub flat : List (List ℕ) → List ℕ
-flat [] = []
-flat (r ∷ s) = r ++ flat s
 
 -- their words, state after state
 unfoldable pub inOrder : ℕ → List ℕ → List ℕ

@@ -7,10 +7,9 @@ use native.Mathlib.Numerals.{add-one}
 use native.Mathlib.Omega.{arith}
 use lib.ListN.{length, getD, take, replicate, length-append}
 use lib.Seq.{take-suc, take-all, length-take-le}
-use Rattle.words.specs.List.{over, over-next, over-all, over-zeros}
+use Rattle.words.specs.Numbers.{bytes}
+use Rattle.words.specs.List.{over, over-next, over-all, over-zeros, flat}
 use Rattle.words.specs.Bytes.{le32, bytesOf, length-bytesOf}
-use Rattle.lanes.specs.Lanes.{flat}
-use Rattle.poly1305.specs.Poly1305.{bytes}
 use Rattle.node.specs.declared.Correction.{Correction}
 use Rattle.node.specs.Node.{none}
 use Rattle.content.specs.declared.Set.{Set}

@@ -15,9 +15,9 @@ use Rattle.algebra.specs.Integer.{residue, residue-pos, residue-mul, ringℤ, r
 use Rattle.algebra.specs.Ring.{ring}
 use Rattle.algebra.specs.Word.{words, add, neg, mul, signed, _≈_, mul≈, neg≈, neg-lt, signed≈, same-word}
 use Rattle.algebra.specs.Sum.{sum, sumℤ, sum≈, sum-lt}
-use Rattle.algebra.specs.Bit.{only, less, less-lt, less-ge}
+use Rattle.algebra.specs.Bit.{only, less, less-lt, less-ge, both}
 use Rattle.measure.specs.Measure.{Row, scalarProduct, squaredEuclid, hamming, row, isCode, element, own, measure, reached, within, inRange, allInRange, thresholdFits, word, kWord, ownWord}
-use Rattle.measure.specs.Order.{both, difference, Le, of-test, to-test, le-trans, le-sub, square-pos, product-most, product-least, sum-least, sum-most}
+use Rattle.measure.specs.Order.{difference, Le, of-test, to-test, le-trans, le-sub, square-pos, product-most, product-least, sum-least, sum-most}
 
 pub code-lt : (code : ℕ) → isCode code ≡ true → code < 3
 unfolding isCode

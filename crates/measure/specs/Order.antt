@@ -9,17 +9,9 @@ use borrow.Author.Tests.{ltb-true, ltb-false, lt-leb, le-leb}
 use lib.Dec.{T, ltb, leb, leb·zero, leb·suc-zero, leb·suc-suc}
 use lib.IntN.{ℤ, pos, negsuc, negℤ, subℕ, _+ℤ_, _-ℤ_, _*ℤ_}
 use lib.Signed.{leZ}
+use Rattle.algebra.specs.Bit.{neither}
 use Rattle.algebra.specs.Integer.{ringℤ, reifyℤ}
 use Rattle.algebra.specs.Sum.{sumℤ}
-
--- a test that is passed and failed
-pub neither {ℓ} : {X : Type ℓ} → false ≡ true → X
-neither h = absurd (subst T (sym h) tt)
-
--- two tests that are both passed
-pub both : (a b : Bool) → a && b ≡ true → (a ≡ true) × (b ≡ true)
-both true b h = (refl, h)
-both false b h = neither h
 
 -- ---- the test, as a test of the difference
 

@@ -5,6 +5,17 @@ ghost use mathlib.Core.Path.{_≡_};
 ghost use Rattle.algebra.specs.Word.{signed};
 ghost use Rattle.measure.specs.Measure.{row, isCode, inRange, allInRange, thresholdFits, kWord, within};
 
+// The most elements that a vector has under any measure: the places of every array of a vector's words.
+pub const MOST_ELEMENTS: usize = 512;
+
+// What both boxes know of a set: its measure's code, and how many elements a vector has (01's L). No
+// box knows the threshold.
+#[repr(C)]
+pub struct Terms {
+    pub code: u32,
+    pub n: usize,
+}
+
 // -2, -1024 and -2^30
 const MINUS_2: u32 = 4294967294;
 

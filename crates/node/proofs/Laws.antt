@@ -15,16 +15,6 @@ use Rattle.words.specs.Spelt.{all}
 use Rattle.words.specs.Xor.{xors, odd-xor}
 use Rattle.dcf.specs.Dcf.{Correction, bySign, bits, sideFlag, corrected}
 
--- a word under a mask of ones or zeros
-pub masked : (t : Bool) (x m : ℕ) → m ≡ sub 0 (only t 1) → x < 2 ^ 32 → bitAnd x m ≡ only t x
-unfolding only sub
-masked true x m e h =
-    let ones : m ≡ 2 ^ 32 - 1 = e ∙ refl in
-    rw ones (and-mask x 32 ∙ omega arith)
-masked false x m e h =
-    let zeros : m ≡ 0 = e ∙ refl in
-    rw zeros (and-zero-r x)
-
 -- x - 2x is -x
 pub by-sign : (t : Bool) (x y z : ℕ) → y ≡ add x x → z ≡ only t y → x < 2 ^ 32 → sub x z ≡ bySign t x
 unfolding only bySign

@@ -32,18 +32,11 @@ pub struct Walk {
     pub total: u32,
 }
 
-// x if the flag is set, else 0.
-pub fn only(flag: u32, x: u32) -> u32
-    ensures { λ r. ⌜ r ≡ onlyIf (odd flag) x ⌝ }
-{
-    x & words::sub(0, flag & 1)
-}
-
 // Sign × x, where the sign is -1 if the flag is set.
 pub fn by_sign(flag: u32, x: u32) -> u32
     ensures { λ r. ⌜ r ≡ bySign (odd flag) x ⌝ }
 {
-    words::sub(x, only(flag, words::add(x, x)))
+    words::sub(x, words::only(flag, words::add(x, x)))
 }
 
 // The bit of level i, from the highest.
@@ -59,14 +52,14 @@ pub fn corrected(flag: u32, s: [u32; 8], c: [u32; 8]) -> [u32; 8]
     ensures { λ r. ⌜ r ≡ correctedBy xors (odd flag) s c ⌝ }
 {
     [
-        s[0] ^ only(flag, c[0]),
-        s[1] ^ only(flag, c[1]),
-        s[2] ^ only(flag, c[2]),
-        s[3] ^ only(flag, c[3]),
-        s[4] ^ only(flag, c[4]),
-        s[5] ^ only(flag, c[5]),
-        s[6] ^ only(flag, c[6]),
-        s[7] ^ only(flag, c[7]),
+        s[0] ^ words::only(flag, c[0]),
+        s[1] ^ words::only(flag, c[1]),
+        s[2] ^ words::only(flag, c[2]),
+        s[3] ^ words::only(flag, c[3]),
+        s[4] ^ words::only(flag, c[4]),
+        s[5] ^ words::only(flag, c[5]),
+        s[6] ^ words::only(flag, c[6]),
+        s[7] ^ words::only(flag, c[7]),
     ]
 }
 
@@ -81,7 +74,7 @@ pub fn side_flag(c: Correction, d: u32) -> u32
 pub fn next_flag(old: u32, flag: u32, c: Correction, d: u32) -> u32
     ensures { λ r. ⌜ odd r ≡ xor (odd flag) (odd old && sideFlag (unpacked c) (odd d)) ⌝ }
 {
-    flag ^ only(old, side_flag(c, d))
+    flag ^ words::only(old, side_flag(c, d))
 }
 
 // A level of a party's walk to side d, whose child stands in the block s.
@@ -94,6 +87,6 @@ pub fn taken(w: Walk, c: Correction, d: u32, s: State) -> Walk
     Walk {
         seed: corrected(f, seed, e),
         flag: next_flag(f, s.x9, c, d),
-        total: words::add(words::add(w.total, s.x8), only(f, c.word)),
+        total: words::add(words::add(w.total, s.x8), words::only(f, c.word)),
     }
 }

@@ -6,11 +6,11 @@ use mathlib.Core.List.{List, [], _∷_, _++_, map}
 use lib.ListN.{length, getD, set, take}
 use lib.Seq.{length-take-le}
 use Rattle.algebra.specs.Word.{add}
-use Rattle.words.specs.List.{tab, over, over-next, over-all, take-tab}
+use Rattle.words.specs.List.{tab, over, over-next, over-all, take-tab, flat}
 use Rattle.words.specs.Bytes.{bytesOf, length-bytesOf, take-bytesOf, wordAt, wordsAt, wordAt-bytesOf}
 use Rattle.rounds.specs.Rounds.{blockFrom}
 use Rattle.chacha20.specs.ChaCha20.{start, block, blockBytes}
-use Rattle.lanes.specs.Lanes.{each, each-ext, map-each, getD-each, length-each, flat, flat-more, length-flat, col, rows, row, length-rows, length-col, upTo, row-more, row-all}
+use Rattle.lanes.specs.Lanes.{each, each-ext, map-each, getD-each, length-each, flat-more, length-flat, col, rows, row, length-rows, length-col, upTo, row-more, row-all}
 use Rattle.aead.specs.Aead.{polyKey}
 use Rattle.one_time.specs.OneTime.{nonceOf, keys, starts, firsts}
 

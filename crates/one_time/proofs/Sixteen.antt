@@ -10,10 +10,10 @@ use lib.Dec.{ltb}
 use lib.ListN.{length, take, drop, length-append, length-drop}
 use lib.Seq.{length-take-le, take-append-le, drop-append-le, drop-append-add, take-all}
 use Rattle.algebra.specs.Word.{add}
-use Rattle.words.specs.List.{over, over-after, length-tab}
+use Rattle.words.specs.List.{over, over-after, length-tab, flat}
 use Rattle.words.specs.Bytes.{bytesOf, length-bytesOf, wordAt, wordsAt}
 use Rattle.chacha20.specs.ChaCha20.{block, blockBytes, length-block}
-use Rattle.lanes.specs.Lanes.{each, flat, flat-at, length-flat}
+use Rattle.lanes.specs.Lanes.{each, flat-at, length-flat}
 use Rattle.aead.specs.Aead.{polyKey}
 use Rattle.one_time.specs.OneTime.{nonceOf, keys, KeysTo}
 

@@ -4,9 +4,10 @@ use mathlib.Core.List.{List, [], _∷_, _++_}
 use Prim.Native.Nat.{ℕ, _+_, _*_, _^_, _<_}
 use native.Mathlib.Omega.{arith}
 use lib.ListN.{length, getD, take, drop}
+use Rattle.words.specs.List.{flat}
 use Rattle.algebra.specs.Word.{add}
 use Rattle.words.specs.Bytes.{bytesOf}
-use Rattle.lanes.specs.Lanes.{each, flat, rows}
+use Rattle.lanes.specs.Lanes.{each, rows}
 use Rattle.chacha20.specs.ChaCha20.{start}
 use Rattle.aead.specs.Aead.{polyKey}
 

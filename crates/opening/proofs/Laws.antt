@@ -10,13 +10,12 @@ use borrow.Rule.Slice.PartMut.{putMid}
 use lib.Dec.{eqb}
 use lib.ListN.{length, take, drop, replicate, length-append, length-drop}
 use lib.Seq.{length-take-le}
+use Rattle.algebra.specs.Bit.{both}
+use Rattle.words.specs.Numbers.{number, number-word, number-words}
 use Rattle.words.specs.List.{over, over-all, over-next, tab}
 use Rattle.words.specs.Bytes.{wordAt, wordsAt}
-use Rattle.poly1305.specs.Poly1305.{number}
-use Rattle.poly1305.specs.Numbers.{number-word, number-words}
 use Rattle.aead.specs.Aead.{cipher, opens, openedText as openedTextOf}
 use Rattle.aead.specs.Claims.{length-cipher}
-use Rattle.measure.specs.Order.{both}
 use Rattle.content.specs.Content.{part, size}
 use Rattle.content.specs.Pieces.{part-is, length-part, wordAt-part}
 use Rattle.one_time.proofs.Laws.{nonce-words}

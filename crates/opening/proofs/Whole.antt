@@ -7,7 +7,7 @@ use native.Mathlib.Omega.{arith}
 use borrow.Author.Tests.{not-false, leb-true}
 use lib.Dec.{eqb, leb, ltb}
 use lib.ListN.{length}
-use Rattle.measure.specs.Order.{both}
+use Rattle.algebra.specs.Bit.{both}
 use Rattle.messages.specs.Laws as Refusals
 use Rattle.messages.specs.Laws.{turned-down, goes-on}
 use Rattle.content.specs.declared.Set.{Set}

@@ -7,10 +7,10 @@ use native.Mathlib.Omega.{arith}
 use borrow.Author.Tests.{leb-true, eqb-true, ne-eqb}
 use lib.Dec.{eqb, leb}
 use lib.ListN.{length, replicate}
+use Rattle.algebra.specs.Bit.{both}
 use Rattle.algebra.specs.Word.{add}
 use Rattle.words.specs.List.{over, length-tab}
 use Rattle.measure.specs.Measure.{isCode, allInRange, ownWord}
-use Rattle.measure.specs.Order.{both}
 use Rattle.share.specs.Share as Share
 use Rattle.share.specs.Share.{plus}
 use Rattle.messages.specs.declared.Label.{Label}

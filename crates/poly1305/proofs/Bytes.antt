@@ -7,12 +7,12 @@ use native.Mathlib.Omega.{arith}
 use lib.Dec.{T, ltb, lit<}
 use lib.ListN.{length, getD, take, drop, replicate, length-drop}
 use lib.Seq.{take-all, getD-take}
+use Rattle.words.specs.Numbers.{number, bytes, number4, last4, number-of-word, word-after}
 use Rattle.algebra.specs.Mod.{m-eq}
 use Rattle.algebra.specs.Ring.{ring=, reify}
 use Rattle.words.specs.List.{over}
 use Rattle.words.specs.Bytes.{le32, wordAt}
-use Rattle.poly1305.specs.Poly1305.{number, bytes, clamp, rOf, sOf, tagOf}
-use Rattle.poly1305.specs.Numbers.{number4, last4, number-of-word, word-after}
+use Rattle.poly1305.specs.Poly1305.{clamp, rOf, sOf, tagOf}
 use Rattle.limbs.specs.Limbs.{words4, low128}
 
 -- ---- words out of bytes

@@ -6,10 +6,11 @@ use native.Mathlib.Nat.{suc-add, zero-add, mul-zero, add-zero}
 use native.Mathlib.Omega.{arith}
 use lib.ListN.{length, take, drop, set, replicate, length-append, length-drop, length-set, length-replicate}
 use lib.Seq.{length-take-le, take-all, drop-append-le, set-at, append-snoc}
+use Rattle.words.specs.Numbers.{number}
 use Rattle.algebra.specs.Mod.{Mod, m-refl, m-eq, m-sym, m-trans, m-add, m-mul, m-mod}
 use Rattle.words.specs.List.{over, over-eq}
 use Rattle.limbs.specs.Limbs.{prime}
-use Rattle.poly1305.specs.Poly1305.{number, piece, firstPieces, pieces, absorb, absorbAll, pad16}
+use Rattle.poly1305.specs.Poly1305.{piece, firstPieces, pieces, absorb, absorbAll, pad16}
 use Rattle.poly1305.specs.Blocks.{unreduced}
 use Rattle.poly1305.specs.Laws.{absorb-mod, absorbAll-append, firstPieces-of, length-pad16, padded-same}
 use Rattle.poly1305.proofs.Bytes.{number-append}

@@ -1,7 +1,8 @@
 -- What the loop over a message has absorbed. Assumes nothing.
 use mathlib.Core.List.{List}
 use Prim.Native.Nat.{ℕ, zero, suc, _+_, _*_}
-use Rattle.poly1305.specs.Poly1305.{number, piece}
+use Rattle.words.specs.Numbers.{number}
+use Rattle.poly1305.specs.Poly1305.{piece}
 
 -- the accumulator a after the first n blocks of m, with t added to each, before the remainder
 unfoldable pub unreduced : ℕ → ℕ → ℕ → List ℕ → ℕ → ℕ

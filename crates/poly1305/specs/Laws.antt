@@ -7,10 +7,11 @@ use native.Mathlib.Omega.{arith}
 use lib.Dec.{lit<}
 use lib.ListN.{length, take, drop, replicate, length-append, length-replicate, length-drop}
 use lib.Seq.{take-all, take-append-le, drop-append-le, drop-append-add}
+use Rattle.words.specs.Numbers.{number, bytes, length-bytes}
 use Rattle.algebra.specs.Mod.{Mod, m-refl, m-eq, m-sym, m-trans, m-add, m-mul, m-mod}
 use Rattle.limbs.specs.Limbs.{value, modPrime}
 use Rattle.limbs.specs.Limbs.{prime}
-use Rattle.poly1305.specs.Poly1305.{number, bytes, piece, firstPieces, pieces, absorb, absorbAll, tagOf, rOf, sOf, mac, pad16}
+use Rattle.poly1305.specs.Poly1305.{piece, firstPieces, pieces, absorb, absorbAll, tagOf, rOf, sOf, mac, pad16}
 
 -- ---- the accumulator
 
@@ -107,11 +108,6 @@ padded-then r a b p m {c} h k l =
     subst (λ (q : List (List ℕ)). Mod prime c (absorbAll r a q)) (sym (pieces-append p (m ++ pad16 m) h)) (absorbAll-then r a b (pieces p) (pieces (m ++ pad16 m)) k l)
 
 -- ---- the tag
-
-pub length-bytes : (n x : ℕ) → length (bytes n x) ≡ n
-unfolding bytes
-length-bytes zero x = refl
-length-bytes (suc n) x = ap suc (length-bytes n (x / 256))
 
 pub length-tagOf : (a s : ℕ) → length (tagOf a s) ≡ 16
 unfolding tagOf

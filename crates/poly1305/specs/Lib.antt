@@ -1,4 +1,3 @@
 pub mod Poly1305
 pub mod Blocks
 pub mod Laws
-pub mod Numbers

@@ -2,17 +2,8 @@
 use mathlib.Core.List.{List, [], _∷_, _++_}
 use Prim.Native.Nat.{ℕ, zero, suc, _+_, _*_, _-_, _/_, _%_, _^_}
 use lib.ListN.{length, getD, take, drop, replicate}
+use Rattle.words.specs.Numbers.{bytes, number}
 use Rattle.limbs.specs.Limbs.{prime}
-
--- le_bytes_to_num: the number whose bytes these are, lowest first
-unfoldable pub number : List ℕ → ℕ
-number [] = 0
-number (b ∷ s) = b + 256 * number s
-
--- num_to_16_le_bytes, at n bytes: the n lowest bytes of a number, lowest first
-unfoldable pub bytes : ℕ → ℕ → List ℕ
-bytes zero x = []
-bytes (suc n) x = x % 256 ∷ bytes n (x / 256)
 
 -- "r[3], r[7], r[11], and r[15] are required to have their top four bits clear (be smaller than 16)";
 -- "r[4], r[8], and r[12] are required to have their bottom two bits clear (be divisible by 4)"

@@ -5,9 +5,10 @@ ghost use mathlib.Core.Path.{_≡_};
 ghost use Prim.Native.Nat.{_+_, _-_, _*_, _%_, _/_, _^_, _<_, _≤_};
 ghost use mathlib.Core.List.{_++_};
 ghost use lib.ListN.{length, take, drop, replicate};
+ghost use Rattle.words.specs.Numbers.{number};
 ghost use Rattle.algebra.specs.Mod.{Mod};
 ghost use Rattle.limbs.specs.Limbs.{prime, value, words4, Below, Limbs, modPrime};
-ghost use Rattle.poly1305.specs.Poly1305.{number, rOf, sOf, piece, pieces, pad16, absorbAll, tagOf, mac as macOf};
+ghost use Rattle.poly1305.specs.Poly1305.{rOf, sOf, piece, pieces, pad16, absorbAll, tagOf, mac as macOf};
 ghost use Rattle.poly1305.specs.Blocks.{unreduced};
 
 // The two halves of a key: r, clamped, in limbs; and s, in words, lowest first.

@@ -3,13 +3,14 @@ use mathlib.Core.Path.{_≡_, refl}
 use mathlib.Core.List.{List, [], _∷_}
 use Prim.Native.Nat.{ℕ}
 use lib.ListN.{replicate}
+use Rattle.words.specs.Numbers.{number, bytes}
 use Rattle.algebra.specs.Word.{add}
 use Rattle.words.specs.List.{tab}
 use Rattle.words.specs.Bytes.{rotl, le32, bytesOf, wordAt, wordsAt}
 use Rattle.rounds.specs.Rounds.{quarter, quarterAt, store, columnRound, diagonalRound, doubleRound, rounds, added, blockFrom}
 use Rattle.chacha20.specs.ChaCha20.{start, block, blockBytes}
 use Rattle.keystream.specs.Keystream.{keyWord, keyByte, stream, xored}
-use Rattle.poly1305.specs.Poly1305.{number, bytes, clamp, piece, firstPieces, pieces, absorb, absorbAll, tagOf, rOf, sOf, mac, pad16}
+use Rattle.poly1305.specs.Poly1305.{clamp, piece, firstPieces, pieces, absorb, absorbAll, tagOf, rOf, sOf, mac, pad16}
 use Rattle.aead.specs.Aead.{polyKey, cipher, macData, tagFor}
 
 -- 2.1.1

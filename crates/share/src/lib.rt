@@ -59,7 +59,7 @@ pub fn share_of(party: u32, n: usize, c: u32, mx: &[u32], my: &[u32], sx: &[u32]
     let mut total = c;
     let mut i: usize = 0;
     while i < n {
-        let factor = words::sub(node::only(party, my[i]), sy[i]);
+        let factor = words::sub(words::only(party, my[i]), sy[i]);
         let place = words::sub(words::mul(mx[i], factor), words::mul(my[i], sx[i]));
         total = words::add(total, place);
         i += 1;

@@ -18,7 +18,7 @@ fn finished(w: Walk, last: u32, party: u32) -> u32
     ensures { λ r. ⌜ r ≡ bySign (odd party) (totalOf xors nodeOf first last (asWalk w)) ⌝ }
 {
     let s = w.seed;
-    let total = words::add(words::add(w.total, s[0]), node::only(w.flag, last));
+    let total = words::add(words::add(w.total, s[0]), words::only(w.flag, last));
     node::by_sign(party, total)
 }
 

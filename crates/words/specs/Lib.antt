@@ -1,4 +1,5 @@
 pub mod List
 pub mod Bytes
+pub mod Numbers
 pub mod Spelt
 pub mod Xor

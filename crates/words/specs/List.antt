@@ -16,6 +16,11 @@ unfoldable pub over : ℕ → List ℕ → List ℕ → List ℕ
 over i [] s = s
 over i (v ∷ p) s = over (i + 1) p (set s i v)
 
+-- lists, one after the other
+unfoldable pub flat : List (List ℕ) → List ℕ
+flat [] = []
+flat (r ∷ s) = r ++ flat s
+
 -- f 0, f 1, .., f (n - 1)
 unfoldable pub tab : (ℕ → ℕ) → ℕ → List ℕ
 tab f zero = []

@@ -2,6 +2,7 @@
 ghost use mathlib.Core.Path.{_≡_};
 ghost use Prim.Native.Nat.{_<_};
 ghost use Rattle.algebra.specs.Word.{add as addOf, sub as subOf, mul as mulOf};
+ghost use Rattle.algebra.specs.Bit.{only as onlyIf, odd};
 ghost use Rattle.words.specs.Bytes.{rotl};
 
 pub fn add(a: u32, b: u32) -> u32
@@ -28,4 +29,11 @@ pub fn rotate_left(x: u32, n: u32) -> u32
     ensures { λ r. ⌜ r ≡ rotl n x ⌝ }
 {
     (x << n) | (x >> (32 - n))
+}
+
+// x if the flag is set, else 0: only the lowest bit of a flag counts, and nothing branches on it.
+pub fn only(flag: u32, x: u32) -> u32
+    ensures { λ r. ⌜ r ≡ onlyIf (odd flag) x ⌝ }
+{
+    x & sub(0, flag & 1)
 }

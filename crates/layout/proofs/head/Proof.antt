@@ -1,6 +1,6 @@
 use mathlib.Core.Path.{refl}
+use Rattle.words.specs.Numbers.{bytes}
 use Rattle.words.specs.List.{over}
-use Rattle.poly1305.specs.Poly1305.{bytes}
 use Rattle.layout.proofs.Stored.{head-law}
 use borrow.Author.Needs.{needs}
 use Rattle.layout.proofs.head.Statement.{statement}

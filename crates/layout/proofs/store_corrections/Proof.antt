@@ -3,8 +3,7 @@ use mathlib.Core.List.{map}
 use Prim.Native.Nat.{_*_, _-_, _≤_}
 use native.Mathlib.Omega.{arith}
 use lib.ListN.{length}
-use Rattle.words.specs.List.{over}
-use Rattle.lanes.specs.Lanes.{flat}
+use Rattle.words.specs.List.{over, flat}
 use Rattle.content.specs.Content.{correctionBytes}
 use Rattle.layout.proofs.Stored.{flag-at, front, front-next, front-all}
 use borrow.Author.Needs.{needs}

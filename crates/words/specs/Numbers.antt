@@ -1,15 +1,31 @@
--- Numbers in little-endian bytes: words make them up, and they are read back. Assumes nothing.
+-- Numbers as little-endian bytes (01, "Measures"; RFC 8439, 2.5.1): words make them up, and they are read back. Assumes nothing.
 use mathlib.Core.Path.{_≡_, refl, sym, ap, _∙_}
 use mathlib.Core.List.{List, [], _∷_, _++_}
-use Prim.Native.Nat.{ℕ, suc, _+_, _*_, _/_, _%_, _^_, _<_, _≤_}
+use Prim.Native.Nat.{ℕ, zero, suc, _+_, _*_, _/_, _%_, _^_, _<_, _≤_}
 use native.Mathlib.Numerals.{add-one}
 use native.Mathlib.Omega.{arith}
 use lib.ListN.{length, getD, take, drop}
 use lib.Seq.{drop-cons}
 use lib.Pow.{field, mod-mod-pow, shr-shr}
 use Rattle.algebra.specs.Ring.{ring=, reify}
 use Rattle.words.specs.Bytes.{le32, wordAt}
-use Rattle.poly1305.specs.Poly1305.{bytes, number}
+
+-- RFC 8439, 2.5.1, le_bytes_to_num: the number whose bytes these are, lowest first
+unfoldable pub number : List ℕ → ℕ
+number [] = 0
+number (b ∷ s) = b + 256 * number s
+
+-- RFC 8439, 2.5.1, num_to_16_le_bytes, at n bytes: the n lowest bytes of a number, lowest first
+unfoldable pub bytes : ℕ → ℕ → List ℕ
+bytes zero x = []
+bytes (suc n) x = x % 256 ∷ bytes n (x / 256)
+
+-- ---- laws
+
+pub length-bytes : (n x : ℕ) → length (bytes n x) ≡ n
+unfolding bytes
+length-bytes zero x = refl
+length-bytes (suc n) x = ap suc (length-bytes n (x / 256))
 
 -- a byte of the lower word of a
 low : (a j k : ℕ) → a % 2 ^ (j + 8 + k) / 2 ^ k % 256 ≡ a / 2 ^ k % 256

@@ -1,11 +1,11 @@
-use Rattle.node.proofs.Laws.{masked}
+use Rattle.words.proofs.Masks.{masked}
 use mathlib.Core.Path.{_∙_, ap, sym}
 use lib.Bits.{and-mask}
 use Rattle.algebra.specs.Word.{sub}
 use Rattle.algebra.specs.Bit.{only-odd}
 use borrow.Author.Needs.{needs}
-use Rattle.node.proofs.only.Statement.{statement}
-use Rattle.node.proofs.only.Tie as tie
+use Rattle.words.proofs.only.Statement.{statement}
+use Rattle.words.proofs.only.Tie as tie
 
 sub-requires : tie.Need-sub-requires
 sub-requires c κs = search needs
