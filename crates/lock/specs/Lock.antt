@@ -6,15 +6,19 @@ use lib.Dec.{eqb, leb, ltb}
 use lib.ListN.{replicate}
 use Rattle.algebra.specs.Word.{add}
 use Rattle.messages.specs.declared.Label.{Label}
-use Rattle.messages.specs.Messages.{unless, ifTaken, nameFits, padded, isName, expected}
+use Rattle.messages.specs.Messages.{badName, wrongLength, wrongMessage, wrongNumber, badSum, answerKind, cameraParty, officeParty, unless, ifTaken, nameFits, padded, isName, expected}
 use Rattle.lock.specs.declared.Lock.{Lock}
 use Rattle.lock.specs.declared.LockAnswer.{LockAnswer}
 
 unfoldable pub noLock : Lock
 noLock = record { name = replicate 16 0; last = 0 }
 
+-- a refused call's answer: "no state .. changes"
+abbrev pub refused : ℕ → Lock → LockAnswer
+refused why s = record { why = why; lock = s; bit = 0 }
+
 unfoldable pub whyNotLock : List ℕ → ℕ
-whyNotLock name = unless (nameFits name) 1 0
+whyNotLock name = unless (nameFits name) badName 0
 
 unfoldable pub startLock : List ℕ → ℕ → LockAnswer
 startLock name floor =
@@ -24,10 +28,12 @@ startLock name floor =
 -- "The lock takes party 0's answer first and party 1's second, and joins by summing the two"
 unfoldable pub whyNotJoin : Lock → Label → List ℕ → ℕ → Label → List ℕ → ℕ → ℕ
 whyNotJoin s l0 name0 answer0 l1 name1 answer1 =
-    unless (isName name0 && isName name1) 4
-    (unless (expected 2 (s .name) 0 l0 name0 && expected 2 (s .name) 1 l1 name1) 6
-    (unless (ltb (s .last) (l0 .number) && eqb (l1 .number) (l0 .number)) 7
-    (unless (leb (add answer0 answer1) 1) 12 0)))
+    unless (isName name0 && isName name1) wrongLength
+    (unless
+    (expected answerKind (s .name) cameraParty l0 name0 && expected answerKind (s .name) officeParty l1 name1)
+    wrongMessage
+    (unless (ltb (s .last) (l0 .number) && eqb (l1 .number) (l0 .number)) wrongNumber
+    (unless (leb (add answer0 answer1) 1) badSum 0)))
 
 unfoldable pub join : Lock → Label → List ℕ → ℕ → Label → List ℕ → ℕ → LockAnswer
 join s l0 name0 answer0 l1 name1 answer1 =

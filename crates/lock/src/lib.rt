@@ -1,12 +1,13 @@
 // The lock: joins the two boxes' answers to a yes or no.
 ghost use mathlib.Core.Path.{_≡_};
-ghost use Rattle.lock.specs.Lock.{startLock, whyNotJoin, join as joinOf};
+ghost use Rattle.lock.specs.Lock.{refused as refusedFor, startLock, whyNotJoin, join as joinOf};
 use messages::Label;
+use messages::NAME;
 
 // The door's padded name and the last joined number.
 #[repr(C)]
 pub struct Lock {
-    pub name: [u8; 16],
+    pub name: [u8; NAME],
     pub last: u64,
 }
 
@@ -18,19 +19,25 @@ pub struct LockAnswer {
     pub bit: u32,
 }
 
+// A refused call's answer: the state as it was.
+fn refused(why: u32, lock: Lock) -> LockAnswer
+    ensures { λ r. ⌜ r ≡ refusedFor why lock ⌝ }
+{
+    LockAnswer { why, lock, bit: 0 }
+}
+
 impl Lock {
     pub fn start(name: &[u8], floor: u64) -> LockAnswer
         ensures { λ r. ⌜ r ≡ startLock (now (name .entry)) floor ⌝ }
     {
         if !messages::name_fits(name) {
-            return LockAnswer {
-                why: 1,
-                lock: Lock {
-                    name: [0; 16],
+            return refused(
+                messages::BAD_NAME,
+                Lock {
+                    name: [0; NAME],
                     last: 0,
                 },
-                bit: 0,
-            };
+            );
         }
         LockAnswer {
             why: 0,
@@ -56,11 +63,7 @@ impl Lock {
     {
         let why = why_not_join(self, label0, name0, answer0, label1, name1, answer1);
         if why != 0 {
-            return LockAnswer {
-                why,
-                lock: self,
-                bit: 0,
-            };
+            return refused(why, self);
         }
         let name = self.name;
         LockAnswer {
@@ -86,11 +89,20 @@ fn why_not_join(
     ensures { λ r. ⌜ r ≡ whyNotJoin lock label0 (now (name0 .entry)) answer0 label1 (now (name1 .entry)) answer1 ⌝ }
 {
     let door = lock.name;
-    let first = messages::expected(2, door, 0, label0, name0);
-    let second = messages::expected(2, door, 1, label1, name1);
+    let first = messages::expected(messages::ANSWER, door, messages::CAMERA, label0, name0);
+    let second = messages::expected(messages::ANSWER, door, messages::OFFICE, label1, name1);
     let sum = words::add(answer0, answer1);
-    let lengths = (name0.len() == 16) & (name1.len() == 16);
+    let lengths = (name0.len() == NAME) & (name1.len() == NAME);
     let labels = first & second;
     let numbers = (lock.last < label0.number) & (label1.number == label0.number);
-    messages::first_refusal(lengths, 4, labels, 6, numbers, 7, sum <= 1, 12)
+    messages::first_refusal(
+        lengths,
+        messages::WRONG_LENGTH,
+        labels,
+        messages::WRONG_MESSAGE,
+        numbers,
+        messages::WRONG_NUMBER,
+        sum <= 1,
+        messages::BAD_SUM,
+    )
 }

@@ -8,7 +8,43 @@ use lib.ListN.{length, replicate}
 use Rattle.words.specs.List.{same}
 use Rattle.messages.specs.declared.Label.{Label}
 
--- ---- refusals: a call's number for why not is 0 where nothing refuses
+-- ---- the refusals' numbers (01, "When a call is turned down"); 0 where nothing refuses
+
+abbrev pub badName : ℕ
+badName = 1
+
+abbrev pub badPartyOrCode : ℕ
+badPartyOrCode = 2
+
+abbrev pub outOfTurn : ℕ
+outOfTurn = 3
+
+abbrev pub wrongLength : ℕ
+wrongLength = 4
+
+abbrev pub shortBuffer : ℕ
+shortBuffer = 5
+
+abbrev pub wrongMessage : ℕ
+wrongMessage = 6
+
+abbrev pub wrongNumber : ℕ
+wrongNumber = 7
+
+abbrev pub outOfRange : ℕ
+outOfRange = 8
+
+abbrev pub equalKeys : ℕ
+equalKeys = 9
+
+abbrev pub badBlock : ℕ
+badBlock = 10
+
+abbrev pub badContent : ℕ
+badContent = 11
+
+abbrev pub badSum : ℕ
+badSum = 12
 
 -- goes on if the test holds, else k is why not
 unfoldable pub unless : Bool → ℕ → ℕ → ℕ
@@ -34,10 +70,28 @@ padded s = s ++ replicate (16 - length s) 0
 
 -- ---- messages
 
+-- "its kind (0 masked vector, 1 word, 2 answer)"
+abbrev pub vectorKind : ℕ
+vectorKind = 0
+
+abbrev pub wordKind : ℕ
+wordKind = 1
+
+abbrev pub answerKind : ℕ
+answerKind = 2
+
+-- the parties: party 0 is the camera box, party 1 the office box
+abbrev pub cameraParty : ℕ
+cameraParty = 0
+
+abbrev pub officeParty : ℕ
+officeParty = 1
+
 -- 6: "A message's kind is not the one this call takes, its name is not this door's padded name, or its sender is not the expected party"
 unfoldable pub expected : ℕ → List ℕ → ℕ → Label → List ℕ → Bool
 expected kind door sender l name = eqb (l .kind) kind && (same name door && eqb (l .sender) sender)
 
+-- 4: "a message's name 16"
 unfoldable pub isName : List ℕ → Bool
 isName name = eqb (length name) 16
 

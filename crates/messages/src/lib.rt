@@ -4,6 +4,57 @@ ghost use Prim.Native.Nat.{_≤_};
 ghost use lib.ListN.{length};
 ghost use Rattle.messages.specs.Messages.{unless, printable as printableOf, nameFits, padded as paddedOf, expected as expectedOf};
 
+// Why a call is turned down (01, "When a call is turned down"): c/door.h says each in words. 0 where
+// nothing refuses.
+pub const BAD_NAME: u32 = 1;
+
+pub const BAD_PARTY_OR_CODE: u32 = 2;
+
+pub const OUT_OF_TURN: u32 = 3;
+
+pub const WRONG_LENGTH: u32 = 4;
+
+pub const SHORT_BUFFER: u32 = 5;
+
+pub const WRONG_MESSAGE: u32 = 6;
+
+pub const WRONG_NUMBER: u32 = 7;
+
+pub const OUT_OF_RANGE: u32 = 8;
+
+pub const EQUAL_KEYS: u32 = 9;
+
+pub const BAD_BLOCK: u32 = 10;
+
+pub const BAD_CONTENT: u32 = 11;
+
+pub const BAD_SUM: u32 = 12;
+
+// A message's kind.
+pub const VECTOR: u32 = 0;
+
+pub const WORD: u32 = 1;
+
+pub const ANSWER: u32 = 2;
+
+// The parties: party 0 is the camera box, party 1 the office box.
+pub const CAMERA: u32 = 0;
+
+pub const OFFICE: u32 = 1;
+
+// The bytes of a padded name, and of a box's key.
+pub const NAME: usize = 16;
+
+pub const KEY: usize = 32;
+
+// Who a box is: the door's padded name, its party and its key.
+#[repr(C)]
+pub struct Identity {
+    pub name: [u8; NAME],
+    pub party: u32,
+    pub key: [u8; KEY],
+}
+
 // What a message carries beside its name and its content.
 #[repr(C)]
 pub struct Label {
@@ -48,25 +99,25 @@ fn printable(name: &[u8]) -> bool
 pub fn name_fits(name: &[u8]) -> bool
     ensures { λ r. ⌜ r ≡ nameFits (now (name .entry)) ⌝ }
 {
-    if !(name.len() <= 16) {
+    if !(name.len() <= NAME) {
         return false;
     }
     (1 <= name.len()) & printable(name)
 }
 
 // The name as messages carry it, zero after its end.
-pub fn padded(name: &[u8]) -> [u8; 16]
+pub fn padded(name: &[u8]) -> [u8; NAME]
     requires { ⌜ length (now name) ≤ 16 ⌝ }
     ensures { λ r. ⌜ r ≡ paddedOf (now (name .entry)) ⌝ }
 {
-    let mut out = [0u8; 16];
+    let mut out = [0u8; NAME];
     slices::copy(&mut out, 0, name);
     out
 }
 
 // Whether a message is of the kind that a call takes, under the door's padded name, and from the
 // expected party.
-pub fn expected(kind: u32, door: [u8; 16], sender: u32, label: Label, name: &[u8]) -> bool
+pub fn expected(kind: u32, door: [u8; NAME], sender: u32, label: Label, name: &[u8]) -> bool
     ensures { λ r. ⌜ r ≡ expectedOf kind door sender label (now (name .entry)) ⌝ }
 {
     (label.kind == kind) & (slices::equal(name, &door) & (label.sender == sender))

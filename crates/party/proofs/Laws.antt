@@ -1,8 +1,8 @@
 -- What the code of a box comes to, over plain numbers and lists. Assumes nothing.
-use mathlib.Core.Path.{_≡_, refl, _∙_}
+use mathlib.Core.Path.{_≡_, refl, ap, _∙_}
 use mathlib.Core.Bool.{Bool, true, false, not, _&&_}
 use mathlib.Core.List.{List}
-use Prim.Native.Nat.{ℕ}
+use Prim.Native.Nat.{ℕ, _-_}
 use borrow.Author.Tests.{not-true, not-false, ne-eqb}
 use lib.Dec.{eqb, leb}
 use lib.ListN.{replicate}
@@ -10,7 +10,11 @@ use Rattle.measure.specs.Measure.{isCode}
 use Rattle.share.specs.Share.{share, boxWord}
 use Rattle.content.specs.declared.Set.{Set}
 use Rattle.content.specs.Content.{lengthFits, noSet}
-use Rattle.party.specs.Party.{idle, stateFits, boxShare}
+use Rattle.messages.specs.declared.Identity.{Identity}
+use Rattle.messages.specs.declared.Label.{Label}
+use Rattle.messages.specs.Messages.{outOfTurn, wrongLength, wrongMessage, wrongNumber, officeParty, unless, expected}
+use Rattle.party.specs.declared.Check.{Check}
+use Rattle.party.specs.Party.{idlePhase, noCheck, idle, stateFits, boxShare}
 
 -- ---- the tests of a state
 
@@ -29,10 +33,32 @@ module _ (party phase code n : ℕ) where
 
 -- ---- states
 
-pub idle-law : (name key : List ℕ) (party last : ℕ) (s : Set) → s ≡ noSet
-    → record { name = name; party = party; key = key; last = last; phase = 0; set = s; masked = replicate 512 0; own = 0; word = 0 } ≡ idle name party key last
+pub no-check-law : (s : Set) → s ≡ noSet
+    → record { phase = idlePhase; set = s; masked = replicate 512 0; own = 0; word = 0 } ≡ noCheck
+unfolding noCheck
+no-check-law s e = λ i. record { phase = idlePhase; set = e i; masked = replicate 512 0; own = 0; word = 0 }
+
+pub idle-law : (who : Identity) (last : ℕ) (c : Check) → c ≡ noCheck
+    → record { who = who; last = last; check = c } ≡ idle who last
 unfolding idle
-idle-law name key party last s e = λ i. record { name = name; party = party; key = key; last = last; phase = 0; set = e i; masked = replicate 512 0; own = 0; word = 0 }
+idle-law who last c e = λ i. record { who = who; last = last; check = e i }
+
+-- ---- a message's tests
+
+pub message-law : (turn lengths : Bool) (kind : ℕ) (door name : List ℕ) (label : Label) (number party : ℕ) {from : ℕ}
+    {fits : Bool} → from ≡ officeParty - party → fits ≡ expected kind door from label name
+    → unless turn outOfTurn
+    (unless lengths wrongLength (unless fits wrongMessage (unless (eqb (label .number) number) wrongNumber 0)))
+    ≡ unless turn outOfTurn
+    (unless lengths wrongLength
+    (unless (expected kind door (officeParty - party) label name) wrongMessage
+    (unless (eqb (label .number) number) wrongNumber 0)))
+message-law turn lengths kind door name label number party eo ef =
+    ap
+    (λ (fits : Bool).
+    unless turn outOfTurn
+    (unless lengths wrongLength (unless fits wrongMessage (unless (eqb (label .number) number) wrongNumber 0))))
+    (ef ∙ ap (λ (from : ℕ). expected kind door from label name) eo)
 
 -- ---- a box's share
 

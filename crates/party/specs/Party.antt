@@ -7,67 +7,106 @@ use lib.Dec.{eqb, leb}
 use lib.ListN.{length, replicate}
 use Rattle.algebra.specs.Word.{add}
 use Rattle.words.specs.List.{over}
-use Rattle.measure.specs.Measure.{isCode, allInRange, ownWord}
+use Rattle.measure.specs.Measure.{mostElements, isCode, allInRange, ownWord}
 use Rattle.share.specs.Share as Share
 use Rattle.share.specs.Share.{plus}
 use Rattle.messages.specs.declared.Label.{Label}
-use Rattle.messages.specs.Messages.{unless, ifTaken, nameFits, padded, isKey, isName, expected}
+use Rattle.messages.specs.declared.Identity.{Identity}
+use Rattle.messages.specs.Messages.{badName, badPartyOrCode, outOfTurn, wrongLength, shortBuffer, wrongMessage, wrongNumber, outOfRange, vectorKind, wordKind, cameraParty, officeParty, unless, ifTaken, nameFits, padded, isKey, isName, expected}
 use Rattle.content.specs.declared.Set.{Set}
 use Rattle.content.specs.Content.{fill, lengthFits, noSet}
 use Rattle.half.specs.Half.{whyNot, openedSet}
+use Rattle.party.specs.declared.Check.{Check}
 use Rattle.party.specs.declared.Party.{Party}
 use Rattle.party.specs.declared.PartyAnswer.{PartyAnswer}
 
--- with no set open
-unfoldable pub idle : List ℕ → ℕ → List ℕ → ℕ → Party
-idle name party key last =
-    record { name = name; party = party; key = key; last = last; phase = 0; set = noSet; masked = replicate 512 0; own = 0; word = 0 }
+-- ---- phases: with no set open, and after calls 1, 2 and 3
+
+abbrev pub idlePhase : ℕ
+idlePhase = 0
+
+abbrev pub loadedPhase : ℕ
+loadedPhase = 1
+
+abbrev pub maskedPhase : ℕ
+maskedPhase = 2
+
+abbrev pub takenPhase : ℕ
+takenPhase = 3
+
+-- ---- states
+
+-- "with no set open all of it is zero, code and L included"
+unfoldable pub noCheck : Check
+noCheck = record { phase = idlePhase; set = noSet; masked = replicate mostElements 0; own = 0; word = 0 }
+
+unfoldable pub idle : Identity → ℕ → Party
+idle who last = record { who = who; last = last; check = noCheck }
+
+-- the box with another check
+unfoldable pub withCheck : Party → Check → Party
+withCheck s check = record { who = s .who; last = s .last; check = check }
+
+abbrev pub nobody : Identity
+nobody = record { name = replicate 16 0; party = 0; key = replicate 32 0 }
 
 unfoldable pub noParty : Party
-noParty = idle (replicate 16 0) 0 (replicate 32 0) 0
+noParty = idle nobody 0
+
+-- ---- what a call answers: why not, the state that follows, and what is sent. A refused one leaves the state as it was
+-- and sends nothing.
+unfoldable pub answered : ℕ → Party → Party → ℕ → PartyAnswer
+answered why next s word = record { why = why; party = ifTaken why next s; word = ifTaken why word 0 }
+
+-- ---- start
 
 unfoldable pub whyNotParty : List ℕ → ℕ → List ℕ → ℕ
-whyNotParty name party key = unless (nameFits name) 1 (unless (leb party 1) 2 (unless (isKey key) 4 0))
+whyNotParty name party key =
+    unless (nameFits name) badName (unless (leb party officeParty) badPartyOrCode (unless (isKey key) wrongLength 0))
 
 unfoldable pub startParty : List ℕ → ℕ → List ℕ → ℕ → PartyAnswer
 startParty name party key floor =
-    let why : ℕ = whyNotParty name party key in
-    record { why = why; party = ifTaken why (idle (padded name) party key floor) noParty; word = 0 }
+    answered (whyNotParty name party key) (idle (record { name = padded name; party = party; key = key }) floor) noParty 0
+
+-- ---- the turn
 
 -- 3: "or the state handed in holds a phase or party, or at its phase a code or L, that no call leaves"
 unfoldable pub stateFits : ℕ → ℕ → ℕ → ℕ → Bool
 stateFits party phase code n =
-    leb party 1 && cond (eqb phase 0) (eqb code 0 && eqb n 0) (leb phase 3 && (isCode code && lengthFits n))
+    leb party officeParty
+    && cond (eqb phase idlePhase) (eqb code 0 && eqb n 0) (leb phase takenPhase && (isCode code && lengthFits n))
 
 unfoldable pub sound : Party → Bool
-sound s = stateFits (s .party) (s .phase) (s .set .code) (s .set .n)
+sound s = stateFits (s .who .party) (s .check .phase) (s .check .set .code) (s .check .set .n)
 
 -- 3: "A box call is out of its turn"
 unfoldable pub inTurn : ℕ → Party → Bool
-inTurn phase s = eqb (s .phase) phase && sound s
+inTurn phase s = eqb (s .check .phase) phase && sound s
 
--- load
+-- ---- load
 
 unfoldable pub whyNotLoad : Party → List ℕ → ℕ
-whyNotLoad s h = unless (inTurn 0 s) 3 (whyNot (s .key) (s .name) (s .party) (s .last) h)
+whyNotLoad s h =
+    unless (inTurn idlePhase s) outOfTurn (whyNot (s .who .key) (s .who .name) (s .who .party) (s .last) h)
+
+-- the check that a set opens
+unfoldable pub opened : Set → Check
+opened set = record { phase = loadedPhase; set = set; masked = replicate mostElements 0; own = 0; word = 0 }
 
 unfoldable pub loaded : Party → Set → Party
-loaded s set =
-    record { name = s .name; party = s .party; key = s .key; last = set .number; phase = 1; set = set; masked = replicate 512 0; own = 0; word = 0 }
+loaded s set = record { who = s .who; last = set .number; check = opened set }
 
 unfoldable pub load : Party → List ℕ → PartyAnswer
-load s h =
-    let why : ℕ = whyNotLoad s h in
-    record { why = why; party = ifTaken why (loaded s (openedSet (s .key) h)) s; word = 0 }
+load s h = answered (whyNotLoad s h) (loaded s (openedSet (s .who .key) h)) s 0
 
--- call 2
+-- ---- call 2
 
 unfoldable pub whyNotMask : Party → List ℕ → ℕ → ℕ
 whyNotMask s v room =
-    unless (inTurn 1 s) 3
-    (unless (eqb (length v) (s .set .n)) 4
-    (unless (leb (s .set .n) room) 5
-    (unless (allInRange (s .set .code) v) 8 0)))
+    unless (inTurn loadedPhase s) outOfTurn
+    (unless (eqb (length v) (s .check .set .n)) wrongLength
+    (unless (leb (s .check .set .n) room) shortBuffer
+    (unless (allInRange (s .check .set .code) v) outOfRange 0)))
 
 -- "Mask its own vector: element plus mask, as words"
 unfoldable pub maskedVector : Set → List ℕ → List ℕ
@@ -76,78 +115,75 @@ maskedVector set v = plus (set .n) v (set .mask)
 -- "The state keeps the masked vector and own"
 unfoldable pub masked : Party → List ℕ → Party
 masked s v =
-    record {
-      name = s .name;
-      party = s .party;
-      key = s .key;
-      last = s .last;
-      phase = 2;
-      set = s .set;
-      masked = fill (maskedVector (s .set) v);
-      own = ownWord (s .set .code) (s .set .n) v;
+    withCheck s
+    (record {
+      phase = maskedPhase;
+      set = s .check .set;
+      masked = fill (maskedVector (s .check .set) v);
+      own = ownWord (s .check .set .code) (s .check .set .n) v;
       word = 0;
-    }
+    })
 
 unfoldable pub mask : Party → List ℕ → ℕ → PartyAnswer
-mask s v room =
-    let why : ℕ = whyNotMask s v room in
-    record { why = why; party = ifTaken why (masked s v) s; word = 0 }
+mask s v room = answered (whyNotMask s v room) (masked s v) s 0
 
 unfoldable pub maskOut : Party → List ℕ → List ℕ → List ℕ
-maskOut s v out = ifTaken (whyNotMask s v (length out)) (over 0 (maskedVector (s .set) v) out) out
+maskOut s v out = ifTaken (whyNotMask s v (length out)) (over 0 (maskedVector (s .check .set) v) out) out
 
--- call 3
+-- ---- messages: the tests of calls 3 and 4, each at its phase, with a message of its kind. `lengths`: whether all that
+-- came is as long as 4 asks.
+unfoldable pub whyNotMessage : ℕ → ℕ → Party → Label → List ℕ → Bool → ℕ
+whyNotMessage phase kind s l name lengths =
+    unless (inTurn phase s) outOfTurn
+    (unless lengths wrongLength
+    (unless (expected kind (s .who .name) (officeParty - s .who .party) l name) wrongMessage
+    (unless (eqb (l .number) (s .check .set .number)) wrongNumber 0)))
+
+-- ---- call 3
 
 unfoldable pub whyNotTake : Party → Label → List ℕ → List ℕ → ℕ
-whyNotTake s l name v =
-    unless (inTurn 2 s) 3
-    (unless (isName name && eqb (length v) (s .set .n)) 4
-    (unless (expected 0 (s .name) (1 - s .party) l name) 6
-    (unless (eqb (l .number) (s .set .number)) 7 0)))
+whyNotTake s l name v = whyNotMessage maskedPhase vectorKind s l name (isName name && eqb (length v) (s .check .set .n))
 
 -- its share, from its own masked vector and the other's: MX is party 0's, MY party 1's
 unfoldable pub boxShare : ℕ → ℕ → ℕ → List ℕ → List ℕ → List ℕ → List ℕ → ℕ
 boxShare party n c ownMasked other x y =
-    cond (eqb party 0) (Share.share party n c ownMasked other x y) (Share.share party n c other ownMasked x y)
+    cond (eqb party cameraParty) (Share.share party n c ownMasked other x y) (Share.share party n c other ownMasked x y)
 
 -- "its word: k × (share) + own + its r"
-unfoldable pub wordOf : Set → ℕ → List ℕ → ℕ → List ℕ → ℕ
-wordOf set party ownMasked own other = Share.boxWord (set .code) (boxShare party (set .n) (set .c) ownMasked other (set .x) (set .y)) own (set .r)
+unfoldable pub wordOf : ℕ → Check → List ℕ → ℕ
+wordOf party check other =
+    let set : Set = check .set in
+    Share.boxWord (set .code) (boxShare party (set .n) (set .c) (check .masked) other (set .x) (set .y)) (check .own) (set .r)
 
 unfoldable pub worded : Party → ℕ → Party
 worded s w =
-    record { name = s .name; party = s .party; key = s .key; last = s .last; phase = 3; set = s .set; masked = s .masked; own = s .own; word = w }
+    withCheck s
+    (record { phase = takenPhase; set = s .check .set; masked = s .check .masked; own = s .check .own; word = w })
 
 unfoldable pub takeVector : Party → Label → List ℕ → List ℕ → PartyAnswer
 takeVector s l name v =
-    let why : ℕ = whyNotTake s l name v in
-    let w : ℕ = wordOf (s .set) (s .party) (s .masked) (s .own) v in
-    record { why = why; party = ifTaken why (worded s w) s; word = ifTaken why w 0 }
+    let w : ℕ = wordOf (s .who .party) (s .check) v in
+    answered (whyNotTake s l name v) (worded s w) s w
 
--- call 4
+-- ---- call 4
 
 unfoldable pub whyNotFinish : Party → Label → List ℕ → ℕ
-whyNotFinish s l name =
-    unless (inTurn 3 s) 3
-    (unless (isName name) 4
-    (unless (expected 1 (s .name) (1 - s .party) l name) 6
-    (unless (eqb (l .number) (s .set .number)) 7 0)))
+whyNotFinish s l name = whyNotMessage takenPhase wordKind s l name (isName name)
 
 unfoldable pub closed : Party → Party
-closed s = idle (s .name) (s .party) (s .key) (s .last)
+closed s = idle (s .who) (s .last)
 
 -- "With Z the sum of both words"
-unfoldable pub finish : Party → Label → List ℕ → ℕ → PartyAnswer
-finish s l name w =
-    let why : ℕ = whyNotFinish s l name in
-    record { why = why; party = ifTaken why (closed s) s; word = ifTaken why (Share.answer (s .party) (s .set .key) (s .set .seed) (add (s .word) w)) 0 }
+unfoldable pub answerOf : ℕ → Check → ℕ → ℕ
+answerOf party check other = Share.answer party (check .set .key) (check .set .seed) (add (check .word) other)
 
--- drop
+unfoldable pub finish : Party → Label → List ℕ → ℕ → PartyAnswer
+finish s l name w = answered (whyNotFinish s l name) (closed s) s (answerOf (s .who .party) (s .check) w)
+
+-- ---- drop
 
 unfoldable pub whyNotDrop : Party → ℕ
-whyNotDrop s = unless (not (eqb (s .phase) 0) && sound s) 3 0
+whyNotDrop s = unless (not (eqb (s .check .phase) idlePhase) && sound s) outOfTurn 0
 
 unfoldable pub dropSet : Party → PartyAnswer
-dropSet s =
-    let why : ℕ = whyNotDrop s in
-    record { why = why; party = ifTaken why (closed s) s; word = 0 }
+dropSet s = answered (whyNotDrop s) (closed s) s 0

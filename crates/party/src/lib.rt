@@ -2,32 +2,49 @@
 // "One check at a box"). A call takes the state by value and hands the next one back; a refused one
 // hands it back as it was, with the refusal's number, and leaves every lent buffer as it was.
 ghost use mathlib.Core.Path.{_≡_};
+ghost use mathlib.Core.Bool.{_&&_};
 ghost use Prim.Native.Nat.{_-_, _≤_};
 ghost use lib.Dec.{eqb, leb};
 ghost use lib.ListN.{length};
 ghost use Rattle.words.specs.List.{over};
 ghost use Rattle.measure.specs.Measure.{allInRange};
 ghost use Rattle.share.specs.Share.{plus};
-ghost use Rattle.messages.specs.Messages.{unless};
+ghost use Rattle.messages.specs.Messages.{outOfTurn, wrongLength, shortBuffer, wrongMessage, wrongNumber, outOfRange, officeParty, unless, expected};
 ghost use Rattle.content.specs.Content.{fill, lengthFits};
-ghost use Rattle.party.specs.Party.{idle as idleOf, whyNotParty, startParty, stateFits, load as loadOf, mask as maskOf, maskOut, takeVector as takeOf, boxShare, finish as finishOf, dropSet as dropOf};
+ghost use Rattle.party.specs.Party.{noCheck, opened as openedCheck, idle as idleOf, whyNotParty, startParty, stateFits, load as loadOf, mask as maskOf, maskOut, takeVector as takeOf, boxShare, finish as finishOf, dropSet as dropOf};
 use content::Set;
+use measure::MOST_ELEMENTS;
+use messages::Identity;
+use messages::KEY;
 use messages::Label;
+use messages::NAME;
 
-// A box of 01: party 0 is the camera box, party 1 the office box. The phase is 0 with no set open,
-// 1 after the load, 2 after call 2 and 3 after call 3. With no set open `set`, `masked`, `own` and
-// `word` are zero.
+// A check's phase: with no set open, and after calls 1, 2 and 3.
+pub const IDLE: u32 = 0;
+
+pub const LOADED: u32 = 1;
+
+pub const MASKED: u32 = 2;
+
+pub const TAKEN: u32 = 3;
+
+// The check that a box has open: the set, this box's masked vector and own term after call 2, and its
+// word after call 3. With no set open all of it is zero.
 #[repr(C)]
-pub struct Party {
-    pub name: [u8; 16],
-    pub party: u32,
-    pub key: [u8; 32],
-    pub last: u64,
+pub struct Check {
     pub phase: u32,
     pub set: Set,
-    pub masked: [u32; 512],
+    pub masked: [u32; MOST_ELEMENTS],
     pub own: u32,
     pub word: u32,
+}
+
+// A box of 01: who it is, its last set number, and its check.
+#[repr(C)]
+pub struct Party {
+    pub who: Identity,
+    pub last: u64,
+    pub check: Check,
 }
 
 // Why a call was refused (0 if it was not), the next state, and the word or answer that is sent.
@@ -36,12 +53,6 @@ pub struct PartyAnswer {
     pub why: u32,
     pub party: Party,
     pub word: u32,
-}
-
-// What a half is opened by: `load` says why it is a struct.
-struct Owner {
-    name: [u8; 16],
-    key: [u8; 32],
 }
 
 fn length_fits(n: usize) -> bool
@@ -54,28 +65,65 @@ fn length_fits(n: usize) -> bool
 fn state_fits(party: u32, phase: u32, code: u32, n: usize) -> bool
     ensures { λ r. ⌜ r ≡ stateFits party phase code n ⌝ }
 {
-    if !(party <= 1) {
+    if !(party <= messages::OFFICE) {
         return false;
     }
-    if phase == 0 {
+    if phase == IDLE {
         return (code == 0) & (n == 0);
     }
-    (phase <= 3) & (measure::is_code(code) & length_fits(n))
+    (phase <= TAKEN) & (measure::is_code(code) & length_fits(n))
+}
+
+// Whether it is the turn of the call that comes at phase `wanted`.
+fn in_turn(wanted: u32, party: u32, phase: u32, code: u32, n: usize) -> bool
+    ensures { λ r. ⌜ r ≡ (eqb phase wanted && stateFits party phase code n) ⌝ }
+{
+    (phase == wanted) & state_fits(party, phase, code, n)
+}
+
+fn no_check() -> Check
+    ensures { λ r. ⌜ r ≡ noCheck ⌝ }
+{
+    Check {
+        phase: IDLE,
+        set: content::no_set(),
+        masked: [0; MOST_ELEMENTS],
+        own: 0,
+        word: 0,
+    }
+}
+
+// The check that a set opens.
+fn opened(set: Set) -> Check
+    ensures { λ r. ⌜ r ≡ openedCheck set ⌝ }
+{
+    Check {
+        phase: LOADED,
+        set,
+        masked: [0; MOST_ELEMENTS],
+        own: 0,
+        word: 0,
+    }
 }
 
 // A box with no set open.
-fn idle(name: [u8; 16], party: u32, key: [u8; 32], last: u64) -> Party
-    ensures { λ r. ⌜ r ≡ idleOf name party key last ⌝ }
+fn idle(who: Identity, last: u64) -> Party
+    ensures { λ r. ⌜ r ≡ idleOf who last ⌝ }
 {
     Party {
-        name,
-        party,
-        key,
+        who,
         last,
-        phase: 0,
-        set: content::no_set(),
-        masked: [0; 512],
-        own: 0,
+        check: no_check(),
+    }
+}
+
+// A refused call's answer: the state as it was.
+fn refused(why: u32, party: Party) -> PartyAnswer
+    ensures { λ r. ⌜ r ≡ record { why = why; party = party; word = 0 } ⌝ }
+{
+    PartyAnswer {
+        why,
+        party,
         word: 0,
     }
 }
@@ -84,13 +132,13 @@ fn why_not_start(name: &[u8], party: u32, key: &[u8]) -> u32
     ensures { λ r. ⌜ r ≡ whyNotParty (now (name .entry)) party (now (key .entry)) ⌝ }
 {
     if !messages::name_fits(name) {
-        return 1;
+        return messages::BAD_NAME;
     }
-    if !(party <= 1) {
-        return 2;
+    if !(party <= messages::OFFICE) {
+        return messages::BAD_PARTY_OR_CODE;
     }
-    if !(key.len() == 32) {
-        return 4;
+    if !(key.len() == KEY) {
+        return messages::WRONG_LENGTH;
     }
     0
 }
@@ -98,28 +146,60 @@ fn why_not_start(name: &[u8], party: u32, key: &[u8]) -> u32
 // Call 2's refusals, from what decides them: whether the state and the turn fit, the set's length
 // and code, the vector, and the room in the buffer.
 fn why_not_mask(turn: bool, n: usize, code: u32, v: &[u32], room: usize) -> u32
-    ensures { λ r. ⌜ r ≡ unless turn 3 (unless (eqb (length (now (v .entry))) n) 4 (unless (leb n room) 5 (unless (allInRange code (now (v .entry))) 8 0))) ⌝ }
+    ensures { λ r. ⌜ r ≡ unless turn outOfTurn (unless (eqb (length (now (v .entry))) n) wrongLength (unless (leb n room) shortBuffer (unless (allInRange code (now (v .entry))) outOfRange 0))) ⌝ }
 {
     if !turn {
-        return 3;
+        return messages::OUT_OF_TURN;
     }
     if !(v.len() == n) {
-        return 4;
+        return messages::WRONG_LENGTH;
     }
     if !(n <= room) {
-        return 5;
+        return messages::SHORT_BUFFER;
     }
     if !measure::all_in_range(code, v) {
-        return 8;
+        return messages::OUT_OF_RANGE;
     }
     0
 }
 
 // The other party.
 fn other(party: u32) -> u32
-    ensures { λ r. ⌜ r ≡ 1 - party ⌝ }
+    ensures { λ r. ⌜ r ≡ officeParty - party ⌝ }
 {
-    if party == 0 { 1 } else { 0 }
+    if party == messages::CAMERA {
+        messages::OFFICE
+    } else {
+        messages::CAMERA
+    }
+}
+
+// The refusals of calls 3 and 4, from what decides them: whether the state and the turn fit, whether
+// all that came is as long as it should be, the kind of message that the call takes, the door, this
+// box's party and its open set's number, and the message's label and name.
+fn why_not_message(
+    turn: bool,
+    lengths: bool,
+    kind: u32,
+    door: [u8; NAME],
+    party: u32,
+    number: u64,
+    label: Label,
+    name: &[u8],
+) -> u32
+    ensures { λ r. ⌜ r ≡ unless turn outOfTurn (unless lengths wrongLength (unless (expected kind door (officeParty - party) label (now (name .entry))) wrongMessage (unless (eqb (label .number) number) wrongNumber 0))) ⌝ }
+{
+    let fits = messages::expected(kind, door, other(party), label, name);
+    messages::first_refusal(
+        turn,
+        messages::OUT_OF_TURN,
+        lengths,
+        messages::WRONG_LENGTH,
+        fits,
+        messages::WRONG_MESSAGE,
+        label.number == number,
+        messages::WRONG_NUMBER,
+    )
 }
 
 // A box's share of the product: MX is party 0's masked vector, MY party 1's.
@@ -127,32 +207,32 @@ fn box_share(
     party: u32,
     n: usize,
     c: u32,
-    masked: [u32; 512],
+    masked: [u32; MOST_ELEMENTS],
     other: &[u32],
-    x: [u32; 512],
-    y: [u32; 512],
+    x: [u32; MOST_ELEMENTS],
+    y: [u32; MOST_ELEMENTS],
 ) -> u32
     requires { ⌜ (n ≤ 512) × (n ≤ length (now other)) ⌝ }
     ensures { λ r. ⌜ r ≡ boxShare party n c masked (now (other .entry)) x y ⌝ }
 {
-    if party == 0 {
+    if party == messages::CAMERA {
         return share::share_of(party, n, c, &masked, other, &x, &y);
     }
     share::share_of(party, n, c, other, &masked, &x, &y)
 }
 
 // An array of 512 words: v and the mask, added over the first n places.
-fn masked_array(n: usize, v: &[u32], mask: &[u32; 512]) -> [u32; 512]
+fn masked_array(n: usize, v: &[u32], mask: &[u32; MOST_ELEMENTS]) -> [u32; MOST_ELEMENTS]
     requires { ⌜ (n ≤ 512) × (n ≤ length (now v)) ⌝ }
     ensures { λ r. ⌜ r ≡ fill (plus n (now (v .entry)) (now (mask .entry))) ⌝ }
 {
-    let mut out = [0u32; 512];
+    let mut out = [0u32; MOST_ELEMENTS];
     share::add_vectors(n, v, mask, &mut out);
     out
 }
 
 // The same from the start of out.
-fn write_masked(n: usize, v: &[u32], mask: &[u32; 512], out: &mut [u32])
+fn write_masked(n: usize, v: &[u32], mask: &[u32; MOST_ELEMENTS], out: &mut [u32])
     requires { ⌜ (n ≤ 512) × (n ≤ length (now v)) × (n ≤ length (now out)) ⌝ }
     ensures { λ _. ⌜ now (out .exit) ≡ over 0 (plus n (now (v .entry)) (now (mask .entry))) (now (out .entry)) ⌝ }
 {
@@ -166,40 +246,48 @@ impl Party {
     {
         let why = why_not_start(name, party, key);
         if why != 0 {
-            return PartyAnswer {
-                why,
-                party: idle([0; 16], 0, [0; 32], 0),
-                word: 0,
+            let nobody = Identity {
+                name: [0; NAME],
+                party: 0,
+                key: [0; KEY],
             };
+            return refused(why, idle(nobody, 0));
         }
+        let who = Identity {
+            name: messages::padded(name),
+            party,
+            key: slices::bytes_32(key),
+        };
         PartyAnswer {
             why,
-            party: idle(messages::padded(name), party, slices::bytes_32(key), floor),
+            party: idle(who, floor),
             word: 0,
         }
     }
 
     // Call 1. Refused or not, the answer is made at one place: LLVM then copies the state twice, and with
-    // an answer for each case three times. The key is lent from a struct: lent from an array of its own
-    // it would be read in the argument, and that be copied once more, whole.
+    // an answer for each case three times.
     pub fn load(self, h: &[u8]) -> PartyAnswer
         ensures { λ r. ⌜ r ≡ loadOf self (now (h .entry)) ⌝ }
     {
-        let turn = (self.phase == 0)
-            & state_fits(self.party, self.phase, self.set.code, self.set.n);
+        let turn = in_turn(
+            IDLE,
+            self.who.party,
+            self.check.phase,
+            self.check.set.code,
+            self.check.set.n,
+        );
         let mut next = self;
-        let mut why = 3;
+        let mut why = messages::OUT_OF_TURN;
         if turn {
-            let name = self.name;
-            let key = self.key;
-            let owner = Owner { name, key };
-            let examined = opening::examine(&owner.key, name, self.party, self.last, h);
+            let who = self.who;
+            let name = who.name;
+            let examined = opening::examine(&who.key, name, who.party, self.last, h);
             why = examined.why;
             if why == 0 {
                 let set = examined.set;
-                next = idle(name, self.party, key, set.number);
-                next.phase = 1;
-                next.set = set;
+                next.last = set.number;
+                next.check = opened(set);
             }
         }
         PartyAnswer {
@@ -214,20 +302,21 @@ impl Party {
         ensures { λ r. ⌜ r ≡ maskOf self (now (v .entry)) (length (now (out .entry))) ⌝ }
         ensures { λ _. ⌜ now (out .exit) ≡ maskOut self (now (v .entry)) (now (out .entry)) ⌝ }
     {
-        let n = self.set.n;
-        let code = self.set.code;
-        let turn = (self.phase == 1) & state_fits(self.party, self.phase, code, n);
+        let n = self.check.set.n;
+        let code = self.check.set.code;
+        let turn = in_turn(LOADED, self.who.party, self.check.phase, code, n);
         let refusal = why_not_mask(turn, n, code, v, out.len());
         let mut next = self;
         if refusal == 0 {
-            let mask = self.set.mask;
+            let mask = self.check.set.mask;
             write_masked(n, v, &mask, out);
             let kept = masked_array(n, v, &mask);
-            let own = own_term::own(code, v);
-            next.phase = 2;
-            next.masked = kept;
-            next.own = own;
-            next.word = 0;
+            let mut check = self.check;
+            check.phase = MASKED;
+            check.masked = kept;
+            check.own = own_term::own(code, v);
+            check.word = 0;
+            next.check = check;
         }
         PartyAnswer {
             why: refusal,
@@ -240,28 +329,33 @@ impl Party {
     pub fn take(self, label: Label, name: &[u8], v: &[u32]) -> PartyAnswer
         ensures { λ r. ⌜ r ≡ takeOf self label (now (name .entry)) (now (v .entry)) ⌝ }
     {
-        let n = self.set.n;
-        let turn = (self.phase == 2) & state_fits(self.party, self.phase, self.set.code, n);
-        let lengths = (name.len() == 16) & (v.len() == n);
-        let door = self.name;
-        let fits = messages::expected(0, door, other(self.party), label, name);
-        let number = label.number == self.set.number;
-        let why = messages::first_refusal(turn, 3, lengths, 4, fits, 6, number, 7);
+        let n = self.check.set.n;
+        let party = self.who.party;
+        let turn = in_turn(MASKED, party, self.check.phase, self.check.set.code, n);
+        let lengths = (name.len() == NAME) & (v.len() == n);
+        let door = self.who.name;
+        let number = self.check.set.number;
+        let why = why_not_message(
+            turn,
+            lengths,
+            messages::VECTOR,
+            door,
+            party,
+            number,
+            label,
+            name,
+        );
         if why != 0 {
-            return PartyAnswer {
-                why,
-                party: self,
-                word: 0,
-            };
+            return refused(why, self);
         }
-        let masked = self.masked;
-        let x = self.set.x;
-        let y = self.set.y;
-        let share = box_share(self.party, n, self.set.c, masked, v, x, y);
-        let word = answers::word(self.set.code, share, self.own, self.set.r);
+        let masked = self.check.masked;
+        let x = self.check.set.x;
+        let y = self.check.set.y;
+        let share = box_share(party, n, self.check.set.c, masked, v, x, y);
+        let word = answers::word(self.check.set.code, share, self.check.own, self.check.set.r);
         let mut next = self;
-        next.phase = 3;
-        next.word = word;
+        next.check.phase = TAKEN;
+        next.check.word = word;
         PartyAnswer {
             why,
             party: next,
@@ -273,26 +367,37 @@ impl Party {
     pub fn finish(self, label: Label, name: &[u8], word: u32) -> PartyAnswer
         ensures { λ r. ⌜ r ≡ finishOf self label (now (name .entry)) word ⌝ }
     {
-        let turn = (self.phase == 3)
-            & state_fits(self.party, self.phase, self.set.code, self.set.n);
-        let door = self.name;
-        let fits = messages::expected(1, door, other(self.party), label, name);
-        let number = label.number == self.set.number;
-        let why = messages::first_refusal(turn, 3, name.len() == 16, 4, fits, 6, number, 7);
+        let party = self.who.party;
+        let turn = in_turn(
+            TAKEN,
+            party,
+            self.check.phase,
+            self.check.set.code,
+            self.check.set.n,
+        );
+        let lengths = name.len() == NAME;
+        let door = self.who.name;
+        let number = self.check.set.number;
+        let why = why_not_message(
+            turn,
+            lengths,
+            messages::WORD,
+            door,
+            party,
+            number,
+            label,
+            name,
+        );
         if why != 0 {
-            return PartyAnswer {
-                why,
-                party: self,
-                word: 0,
-            };
+            return refused(why, self);
         }
-        let comparison = self.set.key;
-        let seed = self.set.seed;
-        let answer = answers::answer(self.party, comparison, seed, words::add(self.word, word));
-        let key = self.key;
+        let key = self.check.set.key;
+        let seed = self.check.set.seed;
+        let answer = answers::answer(party, key, seed, words::add(self.check.word, word));
+        let who = self.who;
         PartyAnswer {
             why,
-            party: idle(door, self.party, key, self.last),
+            party: idle(who, self.last),
             word: answer,
         }
     }
@@ -301,20 +406,15 @@ impl Party {
     pub fn drop(self) -> PartyAnswer
         ensures { λ r. ⌜ r ≡ dropOf self ⌝ }
     {
-        let turn = (self.phase != 0)
-            & state_fits(self.party, self.phase, self.set.code, self.set.n);
-        if !turn {
-            return PartyAnswer {
-                why: 3,
-                party: self,
-                word: 0,
-            };
+        let phase = self.check.phase;
+        let sound = state_fits(self.who.party, phase, self.check.set.code, self.check.set.n);
+        if !((phase != IDLE) & sound) {
+            return refused(messages::OUT_OF_TURN, self);
         }
-        let name = self.name;
-        let key = self.key;
+        let who = self.who;
         PartyAnswer {
             why: 0,
-            party: idle(name, self.party, key, self.last),
+            party: idle(who, self.last),
             word: 0,
         }
     }

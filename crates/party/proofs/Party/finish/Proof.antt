@@ -1,28 +1,25 @@
+use mathlib.Core.Path.{_∙_}
 use Rattle.party.proofs.Calls.{finish-refused, finish-taken}
 use borrow.Author.Needs.{needs}
 use Rattle.party.proofs.Party.finish.Statement.{statement}
 use Rattle.party.proofs.Party.finish.Tie as tie
 
-state-fits-requires : tie.Need-state-fits-requires
-state-fits-requires c κs = search needs
+in-turn-requires : tie.Need-in-turn-requires
+in-turn-requires c κs = search needs
 
-other-requires : tie.Need-other-requires
-other-requires c κs = search needs
+why-not-message-requires : tie.Need-why-not-message-requires
+why-not-message-requires c κs = search needs
 
-expected-requires : tie.Need-expected-requires
-expected-requires c κs = search needs
-
-first-refusal-requires : tie.Need-first-refusal-requires
-first-refusal-requires c κs = search needs
+refused-requires : tie.Need-refused-requires
+refused-requires c κs = search needs
 
 returns : tie.Need-returns
 returns c =
-    let at-first-refusal = c .before in
-    let at-expected = at-first-refusal .before .before .before in
-    let at-other = at-expected .before in
-    let at-state-fits = at-other .before .before in
-    let start = at-state-fits .before .before .before in
-    finish-refused (start .args .self) (at-state-fits .state-fits .result) (at-state-fits .state-fits .ensures) (start .args .label) (start .args .name .now) (start .args .word) (at-expected .expected .result) (at-other .other .result) (at-other .other .ensures) (at-expected .expected .ensures) (at-first-refusal .first-refusal .result) (at-first-refusal .first-refusal .ensures) (c .if1 .taken)
+    let at-if1 = c .before in
+    let at-why = at-if1 .before in
+    let at-turn = at-why .before .before in
+    c .refused .ensures
+    ∙ finish-refused _ _ (at-turn .in-turn .ensures) _ _ _ _ (at-why .why-not-message .ensures) (at-if1 .if1 .taken)
 
 add-requires : tie.Need-add-requires
 add-requires c κs = search needs
@@ -38,23 +35,10 @@ returns-2 c =
     let at-answer = c .before .before in
     let at-add = at-answer .before in
     let at-if1 = at-add .before .before .before in
-    let at-first-refusal = at-if1 .before in
-    let at-expected = at-first-refusal .before .before .before in
-    let at-other = at-expected .before in
-    let at-state-fits = at-other .before .before in
-    let start = at-state-fits .before .before .before in
-    finish-taken (start .args .self) (at-state-fits .state-fits .result) (at-state-fits .state-fits .ensures) (start .args .label) (start .args .name .now) (start .args .word) (at-expected .expected .result) (at-other .other .result) (at-other .other .ensures) (at-expected .expected .ensures) (at-first-refusal .first-refusal .result) (at-first-refusal .first-refusal .ensures) _ _ _ (at-if1 .if1 .left) (c .idle .ensures) (at-add .add .ensures) (at-answer .answer .ensures)
+    let at-why = at-if1 .before in
+    let at-turn = at-why .before .before in
+    finish-taken _ _ (at-turn .in-turn .ensures) _ _ _ _ (at-why .why-not-message .ensures) _ _ _ (at-if1 .if1 .left)
+    (c .idle .ensures) (at-add .add .ensures) (at-answer .answer .ensures)
 
 pub finish-spec : {M : Type 1} → statement M
-finish-spec =
-    tie.close
-    (tie.spec
-    state-fits-requires
-    other-requires
-    expected-requires
-    first-refusal-requires
-    returns
-    add-requires
-    answer-requires
-    idle-requires
-    returns-2)
+finish-spec = tie.close (tie.spec in-turn-requires why-not-message-requires refused-requires returns add-requires answer-requires idle-requires returns-2)

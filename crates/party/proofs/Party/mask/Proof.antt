@@ -4,8 +4,8 @@ use borrow.Author.Needs.{needs}
 use Rattle.party.proofs.Party.mask.Statement.{statement}
 use Rattle.party.proofs.Party.mask.Tie as tie
 
-state-fits-requires : tie.Need-state-fits-requires
-state-fits-requires c κs = search needs
+in-turn-requires : tie.Need-in-turn-requires
+in-turn-requires c κs = search needs
 
 why-not-mask-requires : tie.Need-why-not-mask-requires
 why-not-mask-requires c κs = search needs
@@ -13,20 +13,22 @@ why-not-mask-requires c κs = search needs
 write-masked-requires : tie.Need-write-masked-requires
 write-masked-requires c κs =
     let at-if1 = c .before .before .before in
-    let at-why-not-mask = at-if1 .before in
-    let at-state-fits = at-why-not-mask .before in
-    let start = at-state-fits .before .before .before .before in
-    let f = mask-fits (start .args .self) (at-state-fits .state-fits .result) (at-state-fits .state-fits .ensures) (start .args .v .now) (start .args .out .now) (at-why-not-mask .why-not-mask .result) (at-why-not-mask .why-not-mask .ensures) (at-if1 .if1 .taken) in
+    let at-why = at-if1 .before in
+    let at-turn = at-why .before in
+    let args = at-turn .before .before .before .args in
+    let f = mask-fits (args .self) _ (at-turn .in-turn .ensures) (args .v .now) (args .out .now) _
+    (at-why .why-not-mask .ensures) (at-if1 .if1 .taken) in
     (f .0, omega (arith, f .1), f .2)
 
 masked-array-requires : tie.Need-masked-array-requires
 masked-array-requires c κs =
     let at-write-masked = c .before .before .before in
     let at-if1 = at-write-masked .before .before .before .before in
-    let at-why-not-mask = at-if1 .before in
-    let at-state-fits = at-why-not-mask .before in
-    let start = at-state-fits .before .before .before .before in
-    let f = mask-fits (start .args .self) (at-state-fits .state-fits .result) (at-state-fits .state-fits .ensures) (start .args .v .now) (start .args .out .now) (at-why-not-mask .why-not-mask .result) (at-why-not-mask .why-not-mask .ensures) (at-if1 .if1 .taken) in
+    let at-why = at-if1 .before in
+    let at-turn = at-why .before in
+    let args = at-turn .before .before .before .args in
+    let f = mask-fits (args .self) _ (at-turn .in-turn .ensures) (args .v .now) (args .out .now) _
+    (at-why .why-not-mask .ensures) (at-if1 .if1 .taken) in
     (f .0, omega (arith, f .1))
 
 own-requires : tie.Need-own-requires
@@ -38,31 +40,27 @@ same-length c = search needs
 -- the vector is taken
 returns : tie.Need-returns
 returns c =
-    let at-masked-array = c .before in
+    let at-masked-array = c .before .before in
     let at-write-masked = at-masked-array .before .before .before .before in
     let at-if1 = at-write-masked .before .before .before .before in
-    let at-why-not-mask = at-if1 .before in
-    let at-state-fits = at-why-not-mask .before in
-    let start = at-state-fits .before .before .before .before in
-    (mask-taken (start .args .self) (at-state-fits .state-fits .result) (at-state-fits .state-fits .ensures) (start .args .v .now) (start .args .out .now) (at-why-not-mask .why-not-mask .result) (at-why-not-mask .why-not-mask .ensures) _ _ (at-if1 .if1 .taken) (at-masked-array .masked-array .ensures) (c .own .ensures), out-taken (start .args .self) (at-state-fits .state-fits .result) (at-state-fits .state-fits .ensures) (start .args .v .now) (start .args .out .now) (at-why-not-mask .why-not-mask .result) (at-why-not-mask .why-not-mask .ensures) _ (at-if1 .if1 .taken) (at-write-masked .write-masked .ensures))
+    let at-why = at-if1 .before in
+    let at-turn = at-why .before in
+    let args = at-turn .before .before .before .args in
+    let turn = at-turn .in-turn .ensures in
+    let why = at-why .why-not-mask .ensures in (
+      mask-taken (args .self) _ turn (args .v .now) (args .out .now) _ why _ _ (at-if1 .if1 .taken) (at-masked-array .masked-array .ensures) (c .own .ensures),
+      out-taken (args .self) _ turn (args .v .now) (args .out .now) _ why _ (at-if1 .if1 .taken) (at-write-masked .write-masked .ensures),
+    )
 
 -- it is refused
 returns-2 : tie.Need-returns-2
 returns-2 c =
-    let at-why-not-mask = c .before in
-    let at-state-fits = at-why-not-mask .before in
-    let start = at-state-fits .before .before .before .before in
-    (mask-refused (start .args .self) (at-state-fits .state-fits .result) (at-state-fits .state-fits .ensures) (start .args .v .now) (start .args .out .now) (at-why-not-mask .why-not-mask .result) (at-why-not-mask .why-not-mask .ensures) (c .if1 .left), out-refused (start .args .self) (at-state-fits .state-fits .result) (at-state-fits .state-fits .ensures) (start .args .v .now) (start .args .out .now) (at-why-not-mask .why-not-mask .result) (at-why-not-mask .why-not-mask .ensures) (c .if1 .left))
+    let at-why = c .before in
+    let at-turn = at-why .before in
+    let args = at-turn .before .before .before .args in
+    let turn = at-turn .in-turn .ensures in
+    let why = at-why .why-not-mask .ensures in
+    (mask-refused (args .self) _ turn (args .v .now) (args .out .now) _ why (c .if1 .left), out-refused (args .self) _ turn (args .v .now) (args .out .now) _ why (c .if1 .left))
 
 pub mask-spec : {M : Type 1} → statement M
-mask-spec =
-    tie.close
-    (tie.spec
-    state-fits-requires
-    why-not-mask-requires
-    write-masked-requires
-    masked-array-requires
-    own-requires
-    same-length
-    returns
-    returns-2)
+mask-spec = tie.close (tie.spec in-turn-requires why-not-mask-requires write-masked-requires masked-array-requires own-requires same-length returns returns-2)

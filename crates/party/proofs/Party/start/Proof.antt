@@ -1,3 +1,4 @@
+use mathlib.Core.Path.{_∙_}
 use Rattle.party.proofs.Calls.{start-refused, start-fits, started}
 use borrow.Author.Needs.{needs}
 use Rattle.party.proofs.Party.start.Statement.{statement}
@@ -9,25 +10,28 @@ why-not-start-requires c κs = search needs
 idle-requires : tie.Need-idle-requires
 idle-requires c κs = search needs
 
+refused-requires : tie.Need-refused-requires
+refused-requires c κs = search needs
+
 returns : tie.Need-returns
 returns c =
-    let at-if1 = c .before in
-    let at-why-not-start = at-if1 .before in
-    let start = at-why-not-start .before .before .before in
-    start-refused (start .args .name .now) (start .args .party) (start .args .key .now) (start .args .floor) (at-why-not-start .why-not-start .result) (at-why-not-start .why-not-start .ensures) _ (at-if1 .if1 .taken) (c .idle .ensures)
+    let at-idle = c .before in
+    let at-if1 = at-idle .before in
+    let at-why = at-if1 .before in
+    c .refused .ensures
+    ∙ start-refused _ _ _ _ _ (at-why .why-not-start .ensures) _ (at-if1 .if1 .taken) (at-idle .idle .ensures)
 
 padded-requires : tie.Need-padded-requires
 padded-requires c κs =
-    let at-why-not-start = c .before in
-    let start = at-why-not-start .before .before .before in
-    start-fits (start .args .name .now) (start .args .party) (start .args .key .now) (start .args .floor) (at-why-not-start .why-not-start .result) (at-why-not-start .why-not-start .ensures) (c .if1 .left) .0
+    let start = c .before .before .before .before in
+    start-fits _ _ _ (start .args .floor) _ (c .before .why-not-start .ensures) (c .if1 .left) .0
 
 bytes-32-requires : tie.Need-bytes-32-requires
 bytes-32-requires c κs =
     let at-if1 = c .before in
-    let at-why-not-start = at-if1 .before in
-    let start = at-why-not-start .before .before .before in
-    start-fits (start .args .name .now) (start .args .party) (start .args .key .now) (start .args .floor) (at-why-not-start .why-not-start .result) (at-why-not-start .why-not-start .ensures) (at-if1 .if1 .left) .1
+    let at-why = at-if1 .before in
+    let start = at-why .before .before .before in
+    start-fits _ _ _ (start .args .floor) _ (at-why .why-not-start .ensures) (at-if1 .if1 .left) .1
 
 idle-requires-2 : tie.Need-idle-requires-2
 idle-requires-2 c κs = search needs
@@ -37,18 +41,9 @@ returns-2 c =
     let at-bytes-32 = c .before in
     let at-padded = at-bytes-32 .before in
     let at-if1 = at-padded .before in
-    let at-why-not-start = at-if1 .before in
-    let start = at-why-not-start .before .before .before in
-    started (start .args .name .now) (start .args .party) (start .args .key .now) (start .args .floor) (at-why-not-start .why-not-start .result) (at-why-not-start .why-not-start .ensures) _ _ _ (at-if1 .if1 .left) (at-padded .padded .ensures) (at-bytes-32 .bytes-32 .ensures) (c .idle2 .ensures)
+    let at-why = at-if1 .before in
+    started _ _ _ _ _ (at-why .why-not-start .ensures) _ _ _ (at-if1 .if1 .left) (at-padded .padded .ensures)
+    (at-bytes-32 .bytes-32 .ensures) (c .idle2 .ensures)
 
 pub start-spec : {M : Type 1} → statement M
-start-spec =
-    tie.close
-    (tie.spec
-    why-not-start-requires
-    idle-requires
-    returns
-    padded-requires
-    bytes-32-requires
-    idle-requires-2
-    returns-2)
+start-spec = tie.close (tie.spec why-not-start-requires idle-requires refused-requires returns padded-requires bytes-32-requires idle-requires-2 returns-2)
