@@ -1,9 +1,8 @@
 -- The two boxes: which is which, their parties, and a value put in for one of them. Assumes nothing.
 use mathlib.Core.Path.{_≡_, refl}
-use mathlib.Core.Bool.{true, false, _&&_}
-use Prim.Native.Nat.{ℕ, _-_, _≤_}
+use mathlib.Core.Bool.{true, false}
+use Prim.Native.Nat.{_-_, _≤_}
 use native.Mathlib.Omega.{arith}
-use lib.Dec.{T, eqb, eqb→eq, eqb-refl}
 use Rattle.calls.specs.Lists.{Box, camera, office, partyOf, other, sameBox, put}
 
 pub apart : (b : Box) → sameBox b (other b) ≡ false
@@ -13,14 +12,6 @@ apart office = refl
 pub own-box : (b : Box) → sameBox b b ≡ true
 own-box camera = refl
 own-box office = refl
-
-pub same-number : (b : Box) (n m : ℕ) → T (sameBox b b && eqb n m) → n ≡ m
-same-number camera n m t = eqb→eq n m t
-same-number office n m t = eqb→eq n m t
-
-pub same-both : (b : Box) (n : ℕ) → T (sameBox b b && eqb n n)
-same-both camera n = eqb-refl n
-same-both office n = eqb-refl n
 
 pub both : (P : Box → Type 0) → P camera → P office → (b : Box) → P b
 both P p q camera = p

@@ -8,7 +8,8 @@ use Rattle.party.specs.Party as BoxCalls
 use Rattle.party.specs.Party.{whyNotDrop}
 use Rattle.calls.specs.Lists.{Box, World, Starts, Event, dealt, dropped, refused, drop, step}
 use Rattle.calls.specs.Demand.{openSets}
-use Rattle.calls.proofs.Boxes.{own-box, party-fits}
+use Rattle.calls.proofs.Boxes.{party-fits}
+use Rattle.calls.proofs.Parts.{open-dropped}
 use Rattle.calls.proofs.Dealt.{setOf, set-code, set-n, Sound}
 use Rattle.calls.proofs.Goes.{OpenAt, drop-goes}
 use Rattle.calls.proofs.History.{Good, Dealt, look}
@@ -59,5 +60,5 @@ module _ (S : Starts) (h : List Event) where
     unfolding BoxCalls.dropSet
     dropped-then = (
       new (whyNotDrop (w .box b)) (dropped b) (refused (whyNotDrop (w .box b))) not-refused,
-      rw (own-box b) (omega (arith, I .box-is b .few, I .box-is b .ok .count)),
+      omega (arith, open-dropped b h, I .box-is b .few, I .box-is b .ok .count),
     )

@@ -2,8 +2,7 @@
 -- are one admissible list. Assumes nothing.
 use mathlib.Core.Path.{_≡_, refl, sym, ap, ap₂, subst, _∙_}
 use mathlib.Core.List.{List, [], _∷_, _++_}
-use Prim.Native.Nat.{ℕ, suc, _-_, _/_, _^_, _<_}
-use native.Mathlib.Omega.{arith}
+use Prim.Native.Nat.{ℕ, _/_, _^_, _<_}
 use lib.ListN.{length, replicate}
 use Rattle.half.specs.Half.{blockAt}
 use Rattle.dealer.specs.Dealer.{Deal, halfSize}
@@ -58,10 +57,6 @@ module _ (name : List ℕ) (d : Deal) (v : Box → List ℕ) where
 
 third : {e f g : Event} {h : List Event} → In e (f ∷ g ∷ e ∷ h)
 third = there (there (here refl))
-
--- a load opens a set, calls 2 and 3 leave it open, call 4 closes it
-none-left : (k : ℕ) → k ≡ 0 → suc k - 0 - 0 - 1 ≡ 0
-none-left k e = omega (arith, e)
 
 module _ (s : Starts) (start-ok : Started s) (cs : List Call) (list-ok : Admissible s cs) (d : Deal) (v : Box → List ℕ)
     (R : InRange d v) (F : Free s (history s cs) (d .number)) where
@@ -129,7 +124,8 @@ module _ (s : Starts) (start-ok : Started s) (cs : List Call) (list-ok : Admissi
           before = _;
           says = history-is t;
           free = λ n l. free-then t n (record {
-            none-open = both _ (none-left _ (F .none-open camera)) (none-left _ (F .none-open office));
+            -- a load opens a set, calls 2 and 3 leave it open, call 4 closes it
+            none-open = both _ (rw (F .none-open camera) refl) (rw (F .none-open office) refl);
             above-dealer = l;
             above-box = both _ l l;
             above-lock = l;

@@ -1,6 +1,6 @@
 -- A list's events alone: each is right by those before it. Assumes nothing.
 use mathlib.Core.Path.{_≡_, refl, sym, subst}
-use mathlib.Core.Bool.{true, _&&_}
+use mathlib.Core.Bool.{true}
 use mathlib.Core.List.{List, [], _∷_}
 use Prim.Native.Nat.{ℕ}
 use lib.Dec.{eqb, eqb-refl}
@@ -8,9 +8,10 @@ use Rattle.measure.specs.Measure.{allInRange}
 use Rattle.messages.specs.Messages.{padded}
 use Rattle.half.specs.Half.{half}
 use Rattle.dealer.specs.Dealer.{Deal}
-use Rattle.calls.specs.Lists.{Box, camera, office, partyOf, sameBox, Starts, Event, dealt, loaded, sent, dropped, joined, refused, vector, word, answer, In, here, there}
+use Rattle.calls.specs.Lists.{Box, camera, office, partyOf, Starts, Event, dealt, loaded, sent, dropped, joined, refused, vector, word, answer, In, here, there}
+use Rattle.calls.specs.Demand.{dealsIn, Sending, sendsBy, collect}
 use Rattle.calls.specs.Demand.{dealOf, sentOf, vectorOf, deals, vectors, verdict}
-use Rattle.calls.proofs.Boxes.{same-both}
+use Rattle.calls.proofs.Boxes.{own-box}
 use Rattle.calls.proofs.Dealt.{setOf, Sound, maskOf, wordBy, answerBy}
 use Rattle.calls.proofs.Once.{in-collect, in-cond}
 
@@ -79,7 +80,14 @@ module _ (S : Starts) where
 -- ---- among the deals of n, and among a box's vectors under n
 
 pub in-deals : (h : List Event) (n : ℕ) (t : Dealt h n) → In (t .d) (deals n h)
-in-deals h n t = in-collect (dealOf n) (dealt (t .d) (t .f)) h (in-cond (eqb (t .d .number) n) (t .d ∷ []) (rw (t .is) (eqb-refl n)) (here refl)) (t .was)
+in-deals h n t =
+    let d = t .d in
+    let among : In d (collect dealsIn h) = in-collect dealsIn (dealt d (t .f)) h (here refl) (t .was) in
+    in-collect (dealOf n) d _ (in-cond (eqb (d .number) n) (d ∷ []) (rw (t .is) (eqb-refl n)) (here refl)) among
 
 pub in-vectors : (h : List Event) (b : Box) (n : ℕ) (x : List ℕ) → Vector h b n x → In x (vectors b n h)
-in-vectors h b n x t = in-collect (sentOf vectorOf b n) (sent b n (vector x (t .0))) h (in-cond (sameBox b b && eqb n n) (x ∷ []) (same-both b n) (here refl)) (t .1)
+in-vectors h b n x t =
+    let s : Sending = record { number = n; body = vector x (t .0) } in
+    let its-own : In s (sendsBy b (sent b n (s .body))) = rw (own-box b) (here refl) in
+    let among : In s (collect (sendsBy b) h) = in-collect (sendsBy b) _ h its-own (t .1) in
+    in-collect (sentOf vectorOf n) s _ (in-cond (eqb n n) (x ∷ []) (eqb-refl n) (here refl)) among

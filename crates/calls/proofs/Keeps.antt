@@ -28,6 +28,7 @@ use Rattle.calls.proofs.History.{door, EventOk, Pair, look}
 use Rattle.calls.proofs.Invariant.{BoxIs, dealerWith, lockWith, Inv, dealtBy, wrote, one-deal, one-pair}
 use Rattle.calls.proofs.Boxes.{put-same, put-all}
 use Rattle.calls.proofs.Parts.{other-away, dealt-away, joined-away, refused-away, own-quiet}
+use Rattle.calls.proofs.Parts.{deals-quiet, dealt-quiet, joined-quiet}
 use Rattle.calls.proofs.Kept.{told, box-away, Stepped, at-box, Masking, masking, Taking, taking, Finishing, finishing, Dropping, dropping, Loading, loading}
 
 module _ (S : Starts) (h : List Event) (w : World) (I : Inv S h w) where
@@ -46,10 +47,10 @@ module _ (S : Starts) (h : List Event) (w : World) (I : Inv S h w) where
       let q = own-quiet b e (k .0) in
       record {
         good = (I .good, k .1);
-        deals-once = λ n. rw (q .no-deal n, q .same-dealt (S .dealerFloor) h) (I .deals-once n);
-        dealer-is = I .dealer-is ∙ ap (dealerWith S) (sym (q .same-dealt (S .dealerFloor) h));
+        deals-once = λ n. rw (deals-quiet q h n, dealt-quiet q h (S .dealerFloor)) (I .deals-once n);
+        dealer-is = I .dealer-is ∙ ap (dealerWith S) (sym (dealt-quiet q h (S .dealerFloor)));
         box-is = put-all (BoxIs S (e ∷ h)) (w .box) b s (k .2) (box-away S h e (other b) (w .box (other b)) (other-away b e (k .0)) (I .box-is (other b)));
-        lock-is = I .lock-is ∙ ap (lockWith S) (sym (q .same-joined (S .lockFloor) h));
+        lock-is = I .lock-is ∙ ap (lockWith S) (sym (joined-quiet q h (S .lockFloor)));
       }
 
   on-box : (b : Box) (a : PartyAnswer) (s : Party) (e : Event) → a .party ≡ ifTaken (a .why) s (w .box b) → (a .why ≡ 0 → Stepped S h b s e)

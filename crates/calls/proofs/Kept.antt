@@ -20,11 +20,11 @@ use Rattle.calls.specs.Lists.{Box, camera, office, partyOf, other, World
 use Rattle.calls.proofs.Accepted.{Heard, load-tells, mask-tells, take-tells, finish-tells, drop-tells}
 use Rattle.calls.proofs.Dealt.{setOf, set-number, set-code, set-proper, Sound, maskOf, ownOf, wordBy}
 use Rattle.calls.proofs.History.{door, halfOf, EventOk, Dealt, Vector, look}
-use Rattle.calls.proofs.Slots.{Slot, fresh, masked, worded, Word, Away, Slots, slots-away, slots-load, slots-mask, slots-take, slots-close, slots-drop}
+use Rattle.calls.proofs.Slots.{Slot, fresh, masked, worded, Word, Slots, slots-away, slots-load, slots-mask, slots-take, slots-close, slots-drop}
 use Rattle.calls.proofs.Written.{new, masked-is}
 use Rattle.calls.proofs.Invariant.{showing, lastAt, BoxIs, Inv, one-deal, one-pair}
-use Rattle.calls.proofs.Boxes.{own-box, other-party, party-of}
-use Rattle.calls.proofs.Parts.{Own, own-load, own-sent, own-drop}
+use Rattle.calls.proofs.Boxes.{other-party, party-of}
+use Rattle.calls.proofs.Parts.{Away, last-away, Own, own-load, own-sent, own-drop, last-loaded}
 
 -- a vector for box b and one for the other
 two : Box → List ℕ → List ℕ → Box → List ℕ
@@ -56,7 +56,7 @@ module _ (S : Starts) where
 
   pub box-away : (h : List Event) (e : Event) (b : Box) (s : Party) → Away b e → BoxIs S h b s → BoxIs S (e ∷ h) b s
   box-away h e b s a k =
-      let l = sym (a .same-last (S .boxFloor b) h) in
+      let l = sym (last-away a h (S .boxFloor b)) in
       record {
         slots = k .slots;
         few = k .few;
@@ -208,7 +208,7 @@ module _ (S : Starts) where
           record { set = setOf d b; dealt = (d, f, i, refl); place = j; among = omega arith; is = e ∙ ap (λ z. blockAt z j) (k .1) }
 
       last-own : (n : ℕ) → lastAt S b (loaded b n ∷ h) ≡ n
-      last-own n = rw (own-box b) refl
+      last-own n = last-loaded b h (S .boxFloor b) n
 
       pub loading : (x : List ℕ) → ((i : ℕ) → i < length x / 512 → Written h b (blockAt x i)) → (ts : List Slot) → length ts ≤ 1 → Slots h b (lastAt S b h) ts
           → Loading b x (showing S b (lastAt S b h) ts)

@@ -6,7 +6,7 @@ use Prim.Native.Nat.{_≤_}
 use native.Mathlib.Omega.{arith}
 use lib.Dec.{T}
 use lib.ListN.{length}
-use Rattle.calls.specs.Lists.{In, here, there, Event}
+use Rattle.calls.specs.Lists.{In, here, there}
 use Rattle.calls.specs.Demand.{collect}
 
 abbrev pub All : {A : Type 0} → (A → Type 0) → List A → Type 0
@@ -29,9 +29,10 @@ in-right : {A : Type 0} {a : A} (l m : List A) → In a m → In a (l ++ m)
 in-right [] m i = i
 in-right (x ∷ l) m i = there (in-right l m i)
 
-pub in-collect : {A : Type 0} {a : A} (f : Event → List A) (e : Event) (h : List Event) → In a (f e) → In e h → In a (collect f h)
-in-collect f e (g ∷ h) i (here p) = in-left (f g) (collect f h) (rw p at i)
-in-collect f e (g ∷ h) i (there j) = in-right (f g) (collect f h) (in-collect f e h i j)
+pub in-collect : {A B : Type 0} {b : B} (f : A → List B) (a : A) (l : List A) → In b (f a) → In a l
+    → In b (collect f l)
+in-collect f a (x ∷ l) i (here p) = in-left (f x) (collect f l) (rw p at i)
+in-collect f a (x ∷ l) i (there j) = in-right (f x) (collect f l) (in-collect f a l i j)
 
 pub in-cond : {A : Type 0} {a : A} (b : Bool) (l : List A) → T b → In a l → In a (cond b l [])
 in-cond true l t i = i

@@ -1,20 +1,21 @@
 -- A box's sets as a list with rising numbers, each with how far it is, and what a box's events keep of it. How a state shows this list is another file's matter.
 -- Assumes nothing.
 use mathlib.Core.Path.{_≡_, refl, ap}
-use mathlib.Core.Bool.{cond, _&&_}
+use mathlib.Core.Bool.{cond}
 use mathlib.Core.List.{List, [], _∷_, _++_}
 use mathlib.Core.Logic.{_⊎_, inl, inr}
 use Prim.Native.Nat.{ℕ, _≤_, _<_}
 use native.Mathlib.Omega.{arith}
-use lib.Dec.{eqb}
+use lib.Dec.{eqb, eqb→eq}
 use lib.ListN.{length, length-append}
 use Rattle.measure.specs.Measure.{ownWord}
 use Rattle.content.specs.declared.Set.{Set}
 use Rattle.content.specs.Content.{fill}
 use Rattle.party.specs.Party.{maskedVector}
-use Rattle.calls.specs.Lists.{Box, sameBox, Event, loaded, sent, dropped, vector, word, answer, here, there}
-use Rattle.calls.specs.Demand.{sentOf, vectorOf, wordOf, vectors, sentWords, lastLoaded, openSets}
-use Rattle.calls.proofs.Boxes.{own-box, same-number}
+use Rattle.calls.specs.Lists.{Box, Event, Body, loaded, sent, dropped, vector, word, answer, here, there}
+use Rattle.calls.specs.Demand.{vectors, sentWords, openSets}
+use Rattle.calls.proofs.Parts.{Away, vectors-away, words-away, open-away}
+use Rattle.calls.proofs.Parts.{vectors-sent, words-sent, open-loaded, open-sent, open-dropped}
 use Rattle.calls.proofs.Dealt.{setOf, maskOf, ownOf, wordBy}
 use Rattle.calls.proofs.Once.{All, Once, once-map, once-cond, once-skip}
 use Rattle.calls.proofs.History.{Dealt, Vector, dealt-later, sents-later}
@@ -71,12 +72,6 @@ pub record Slots (h : List Event) (b : Box) (last : ℕ) (ts : List Slot) : Type
 
 -- ---- an event that is not this box's
 
-pub record Away (b : Box) (e : Event) : Type 0 where
-  pub no-vector : (n : ℕ) → sentOf vectorOf b n e ≡ []
-  pub no-word : (n : ℕ) → sentOf wordOf b n e ≡ []
-  pub same-last : (floor : ℕ) (h : List Event) → lastLoaded floor b (e ∷ h) ≡ lastLoaded floor b h
-  pub same-open : (h : List Event) → openSets b (e ∷ h) ≡ openSets b h
-
 slot-later : (h : List Event) (e : Event) (b : Box) (t : Slot) → SlotOk h b t → SlotOk (e ∷ h) b t
 slot-later h e b (fresh s) k = (dealt-later e (k .0), k .1)
 slot-later h e b (masked s m o) k = (dealt-later e (k .0), k .1, k .2, (k .3 .0, there (k .3 .1)), k .4, k .5)
@@ -92,9 +87,9 @@ slots-away h e b last ts a k =
       holds = slots-later h e b ts (k .holds);
       low = k .low;
       rising = k .rising;
-      count = rw (a .same-open h) (k .count);
-      vectors-once = λ n. rw (a .no-vector n) (k .vectors-once n);
-      words-once = λ n. rw (a .no-word n) (k .words-once n);
+      count = rw (open-away a h) (k .count);
+      vectors-once = λ n. rw (vectors-away a h n) (k .vectors-once n);
+      words-once = λ n. rw (words-away a h n) (k .words-once n);
     }
 
 -- ---- rising numbers
@@ -141,9 +136,9 @@ module _ (h : List Event) (b : Box) (last : ℕ) where
         holds = slots-later h _ b ts (k .holds .1);
         low = setIn t .number;
         rising = k .rising .1;
-        count = rw (own-box b) (omega (arith, k .count));
-        vectors-once = λ m. once-skip (vectors b m h) (sameBox b b && eqb n m) (k .vectors-once m) ended;
-        words-once = λ m. once-skip (sentWords b m h) (sameBox b b && eqb n m) (k .words-once m) ended;
+        count = omega (arith, open-sent b h n (answer a), k .count);
+        vectors-once = λ m. rw (vectors-sent b h n (answer a) m) (once-skip _ (eqb n m) (k .vectors-once m) ended);
+        words-once = λ m. rw (words-sent b h n (answer a) m) (once-skip _ (eqb n m) (k .words-once m) ended);
       }
 
   pub slots-drop : (t : Slot) (ts : List Slot) → Slots h b last (t ∷ ts) → Slots (dropped b ∷ h) b last ts
@@ -152,7 +147,7 @@ module _ (h : List Event) (b : Box) (last : ℕ) where
         holds = slots-later h _ b ts (k .holds .1);
         low = setIn t .number;
         rising = k .rising .1;
-        count = rw (own-box b) (omega (arith, k .count));
+        count = omega (arith, open-dropped b h, k .count);
         vectors-once = λ m. once-map (k .vectors-once m) ended;
         words-once = λ m. once-map (k .words-once m) ended;
       }
@@ -165,7 +160,7 @@ module _ (h : List Event) (b : Box) (last : ℕ) where
         holds = all-load (SlotOk (loaded b (s .number) ∷ h) b) (fresh s) ts (slots-later h _ b ts (k .holds)) (dealt-later _ t, e);
         low = k .low;
         rising = rising-load (k .low) last s ts l (k .rising);
-        count = rw (own-box b) (omega (arith, k .count, length-append ts (fresh s ∷ [])));
+        count = omega (arith, open-loaded b h (s .number), k .count, length-append ts (fresh s ∷ []));
         vectors-once = λ m. once-map (k .vectors-once m) (before m (Unmasked m) (λ q. q));
         words-once = λ m. once-map (k .words-once m) (before m (Unworded m) (λ q. q));
       }
@@ -177,9 +172,9 @@ module _ (h : List Event) (b : Box) (last : ℕ) where
   -- calls 2 and 3 act on the first: what they send was free under its number, and is not from then on
   send : {A : Type 0} (P : ℕ → Slot → Type 0) (f : (m : ℕ) (t : Slot) → P m t → setIn t .number ≡ m) (n m : ℕ) (t u : Slot) (ts : List Slot) → Rising n last ts
       → (n ≡ m → P m t) → (P m u → ⊥) → (x : A) (l : List A) → Once l ((last < m) ⊎ Some (P m) (t ∷ ts))
-      → Once (cond (sameBox b b && eqb n m) (x ∷ []) [] ++ l) ((last < m) ⊎ Some (P m) (u ∷ ts))
+      → Once (cond (eqb n m) (x ∷ []) [] ++ l) ((last < m) ⊎ Some (P m) (u ∷ ts))
   send P f n m t u ts r was not-now x l o =
-      once-cond x l (sameBox b b && eqb n m) o (λ p. inr (inl (was (same-number b n m p)))) (λ p q. never (same-number b n m p) q) rest
+      once-cond x l (eqb n m) o (λ p. inr (inl (was (eqb→eq n m p)))) (λ p q. never (eqb→eq n m p) q) rest
     where
       never : n ≡ m → (last < m) ⊎ Some (P m) (u ∷ ts) → ⊥
       never e (inl q) = omega (arith, rising-le n last ts r)
@@ -195,6 +190,8 @@ module _ (h : List Event) (b : Box) (last : ℕ) where
       → Slots (sent b (s .number) (vector x (maskedVector s x)) ∷ h) b last (masked s (fill (maskedVector s x)) (ownWord (s .code) (s .n) x) ∷ ts)
   slots-mask s ts k x =
       let u : Slot = masked s (fill (maskedVector s x)) (ownWord (s .code) (s .n) x) in
+      let n : ℕ = s .number in
+      let sends : Body = vector x (maskedVector s x) in
       let t = k .holds .0 .0 in
       let e = k .holds .0 .1 in
       record {
@@ -204,19 +201,23 @@ module _ (h : List Event) (b : Box) (last : ℕ) where
         );
         low = k .low;
         rising = k .rising;
-        count = rw (own-box b) (omega (arith, k .count));
-        vectors-once = λ m. send Unmasked unmasked-is (s .number) m (fresh s) u ts (k .rising .1) (λ p. p) (λ q. q) x (vectors b m h) (k .vectors-once m);
-        words-once = λ m. once-skip (sentWords b m h) (sameBox b b && eqb (s .number) m) (k .words-once m) (λ q. q);
+        count = omega (arith, open-sent b h n sends, k .count);
+        vectors-once = λ m. rw (vectors-sent b h n sends m)
+            (send Unmasked unmasked-is n m (fresh s) u ts (k .rising .1) (λ p. p) (λ q. q) x _ (k .vectors-once m));
+        words-once = λ m. rw (words-sent b h n sends m) (once-skip _ (eqb n m) (k .words-once m) (λ q. q));
       }
 
   pub slots-take : (s : Set) (m : List ℕ) (o : ℕ) (ts : List Slot) → Slots h b last (masked s m o ∷ ts) → (w : ℕ) → Word h b s w
       → Slots (sent b (s .number) (word w) ∷ h) b last (worded s m o w ∷ ts)
   slots-take s m o ts k w g =
+      let n : ℕ = s .number in
+      let t : Slot = worded s m o w in
       record {
         holds = ((dealt-later _ (g .0), g .1, g .2, sents-later _ (g .3), g .4), slots-later h _ b ts (k .holds .1));
         low = k .low;
         rising = k .rising;
-        count = rw (own-box b) (omega (arith, k .count));
-        vectors-once = λ i. once-skip (vectors b i h) (sameBox b b && eqb (s .number) i) (k .vectors-once i) (λ q. q);
-        words-once = λ i. send Unworded unworded-is (s .number) i (masked s m o) (worded s m o w) ts (k .rising .1) (λ p. p) (λ q. q) w (sentWords b i h) (k .words-once i);
+        count = omega (arith, open-sent b h n (word w), k .count);
+        vectors-once = λ i. rw (vectors-sent b h n (word w) i) (once-skip _ (eqb n i) (k .vectors-once i) (λ q. q));
+        words-once = λ i. rw (words-sent b h n (word w) i)
+            (send Unworded unworded-is n i (masked s m o) t ts (k .rising .1) (λ p. p) (λ q. q) w _ (k .words-once i));
       }

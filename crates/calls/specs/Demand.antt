@@ -1,10 +1,10 @@
 -- Demand 3 (01, "A door's list of calls"): what a list's accepted calls were, and the seven claims over every list.
 -- No proof stands here. Assumes nothing.
 use mathlib.Core.Path.{_≡_}
-use mathlib.Core.Bool.{Bool, true, false, cond, _&&_}
-use mathlib.Core.List.{List, [], _∷_, _++_}
+use mathlib.Core.Bool.{Bool, true, false, cond}
+use mathlib.Core.List.{List, [], _∷_, _++_, map}
 use mathlib.Core.Logic.{_⊎_}
-use Prim.Native.Nat.{ℕ, suc, _-_, _^_, _<_, _≤_}
+use Prim.Native.Nat.{ℕ, suc, _+_, _-_, _^_, _<_, _≤_}
 use lib.Dec.{eqb}
 use lib.ListN.{length}
 use Rattle.algebra.specs.Word.{signed}
@@ -15,25 +15,62 @@ use Rattle.calls.specs.Lists.{Box, camera, office, partyOf, other, sameB
 
 -- ---- what a list's accepted calls were
 
-abbrev pub collect : {A : Type 0} → (Event → List A) → List Event → List A
+-- By kind and part: what an event is if it is of that kind, else nothing. These five tell the kinds of events apart,
+-- and all else that is said of a list's events goes through them.
+
+-- what was dealt
+abbrev pub dealsIn : Event → List Deal
+dealsIn (dealt d f) = d ∷ []
+dealsIn (loaded c n) = []
+dealsIn (sent c n x) = []
+dealsIn (dropped c) = []
+dealsIn (joined n bit) = []
+dealsIn (refused why) = []
+
+-- which number box b loaded
+abbrev pub loadsBy : Box → Event → List ℕ
+loadsBy b (dealt d f) = []
+loadsBy b (loaded c n) = cond (sameBox c b) (n ∷ []) []
+loadsBy b (sent c n x) = []
+loadsBy b (dropped c) = []
+loadsBy b (joined n bit) = []
+loadsBy b (refused why) = []
+
+-- what box b sent by call 2, 3 or 4, and under which number
+pub record Sending : Type 0 where
+  pub number : ℕ
+  pub body : Body
+
+abbrev pub sendsBy : Box → Event → List Sending
+sendsBy b (dealt d f) = []
+sendsBy b (loaded c n) = []
+sendsBy b (sent c n x) = cond (sameBox c b) (record { number = n; body = x } ∷ []) []
+sendsBy b (dropped c) = []
+sendsBy b (joined n bit) = []
+sendsBy b (refused why) = []
+
+-- whether box b dropped its set
+abbrev pub dropsBy : Box → Event → List Box
+dropsBy b (dealt d f) = []
+dropsBy b (loaded c n) = []
+dropsBy b (sent c n x) = []
+dropsBy b (dropped c) = cond (sameBox c b) (c ∷ []) []
+dropsBy b (joined n bit) = []
+dropsBy b (refused why) = []
+
+-- under which number the lock joined
+abbrev pub joinsIn : Event → List ℕ
+joinsIn (dealt d f) = []
+joinsIn (loaded c n) = []
+joinsIn (sent c n x) = []
+joinsIn (dropped c) = []
+joinsIn (joined n bit) = n ∷ []
+joinsIn (refused why) = []
+
+-- all of them in a list, newest first as it is
+abbrev pub collect : {A B : Type 0} → (A → List B) → List A → List B
 collect f [] = []
-collect f (e ∷ h) = f e ++ collect f h
-
-abbrev pub dealOf : ℕ → Event → List Deal
-dealOf n (dealt d f) = cond (eqb (d .number) n) (d ∷ []) []
-dealOf n (loaded b m) = []
-dealOf n (sent b m x) = []
-dealOf n (dropped b) = []
-dealOf n (joined m bit) = []
-dealOf n (refused why) = []
-
-abbrev pub sentOf : {A : Type 0} → (Body → List A) → Box → ℕ → Event → List A
-sentOf f b n (dealt d g) = []
-sentOf f b n (loaded c m) = []
-sentOf f b n (sent c m x) = cond (sameBox c b && eqb m n) (f x) []
-sentOf f b n (dropped c) = []
-sentOf f b n (joined m bit) = []
-sentOf f b n (refused why) = []
+collect f (x ∷ l) = f x ++ collect f l
 
 abbrev pub vectorOf : Body → List (List ℕ)
 vectorOf (vector v m) = v ∷ []
@@ -45,60 +82,53 @@ wordOf (vector v m) = []
 wordOf (word w) = w ∷ []
 wordOf (answer a) = []
 
+abbrev pub answerOf : Body → List ℕ
+answerOf (vector v m) = []
+answerOf (word w) = []
+answerOf (answer a) = a ∷ []
+
+abbrev pub dealOf : ℕ → Deal → List Deal
+dealOf n d = cond (eqb (d .number) n) (d ∷ []) []
+
+abbrev pub sentOf : {A : Type 0} → (Body → List A) → ℕ → Sending → List A
+sentOf f n s = cond (eqb (s .number) n) (f (s .body)) []
+
 -- the accepted deals of n
 abbrev pub deals : ℕ → List Event → List Deal
-deals n h = collect (dealOf n) h
+deals n h = collect (dealOf n) (collect dealsIn h)
 
 -- the vectors handed to a box's accepted calls 2 under n
 abbrev pub vectors : Box → ℕ → List Event → List (List ℕ)
-vectors b n h = collect (sentOf vectorOf b n) h
+vectors b n h = collect (sentOf vectorOf n) (collect (sendsBy b) h)
 
 -- the words of a box's accepted calls 3 under n
 abbrev pub sentWords : Box → ℕ → List Event → List ℕ
-sentWords b n h = collect (sentOf wordOf b n) h
+sentWords b n h = collect (sentOf wordOf n) (collect (sendsBy b) h)
 
 -- "A part's last number is that of its last accepted deal, load or join, else its floor"
+abbrev pub newest : ℕ → List ℕ → ℕ
+newest floor [] = floor
+newest floor (n ∷ l) = n
+
 abbrev pub lastDealt : ℕ → List Event → ℕ
-lastDealt floor [] = floor
-lastDealt floor (dealt d f ∷ h) = d .number
-lastDealt floor (loaded b m ∷ h) = lastDealt floor h
-lastDealt floor (sent b m x ∷ h) = lastDealt floor h
-lastDealt floor (dropped b ∷ h) = lastDealt floor h
-lastDealt floor (joined m bit ∷ h) = lastDealt floor h
-lastDealt floor (refused why ∷ h) = lastDealt floor h
+lastDealt floor h = newest floor (map (λ d. d .number) (collect dealsIn h))
 
 abbrev pub lastLoaded : ℕ → Box → List Event → ℕ
-lastLoaded floor b [] = floor
-lastLoaded floor b (dealt d f ∷ h) = lastLoaded floor b h
-lastLoaded floor b (loaded c m ∷ h) = cond (sameBox c b) m (lastLoaded floor b h)
-lastLoaded floor b (sent c m x ∷ h) = lastLoaded floor b h
-lastLoaded floor b (dropped c ∷ h) = lastLoaded floor b h
-lastLoaded floor b (joined m bit ∷ h) = lastLoaded floor b h
-lastLoaded floor b (refused why ∷ h) = lastLoaded floor b h
+lastLoaded floor b h = newest floor (collect (loadsBy b) h)
 
 abbrev pub lastJoined : ℕ → List Event → ℕ
-lastJoined floor [] = floor
-lastJoined floor (dealt d f ∷ h) = lastJoined floor h
-lastJoined floor (loaded b m ∷ h) = lastJoined floor h
-lastJoined floor (sent b m x ∷ h) = lastJoined floor h
-lastJoined floor (dropped b ∷ h) = lastJoined floor h
-lastJoined floor (joined m bit ∷ h) = m
-lastJoined floor (refused why ∷ h) = lastJoined floor h
+lastJoined floor h = newest floor (collect joinsIn h)
 
 -- how many sets are open at a box: a load opens one, call 4 and drop close one
-abbrev pub closes : Body → ℕ
-closes (vector v m) = 0
-closes (word w) = 0
-closes (answer a) = 1
+abbrev pub opens : Box → Event → ℕ
+opens b e = length (loadsBy b e)
+
+abbrev pub closes : Box → Event → ℕ
+closes b e = length (collect (λ s. answerOf (s .body)) (sendsBy b e)) + length (dropsBy b e)
 
 abbrev pub openSets : Box → List Event → ℕ
 openSets b [] = 0
-openSets b (dealt d f ∷ h) = openSets b h
-openSets b (loaded c m ∷ h) = cond (sameBox c b) (suc (openSets b h)) (openSets b h)
-openSets b (sent c m x ∷ h) = cond (sameBox c b) (openSets b h - closes x) (openSets b h)
-openSets b (dropped c ∷ h) = cond (sameBox c b) (openSets b h - 1) (openSets b h)
-openSets b (joined m bit ∷ h) = openSets b h
-openSets b (refused why ∷ h) = openSets b h
+openSets b (e ∷ h) = openSets b h + opens b e - closes b e
 
 -- ---- no wrong report, no reuse
 
