@@ -14,7 +14,7 @@ use Rattle.messages.specs.Laws.{passed, fits-short}
 use Rattle.messages.specs.Messages.{unless, expected}
 use Rattle.half.specs.Half.{whyNot, setNumber}
 use Rattle.party.specs.declared.Party.{Party}
-use Rattle.party.specs.Party.{inTurn, whyNotLoad, whyNotMask, whyNotTake, whyNotFinish, whyNotDrop}
+use Rattle.party.specs.Party.{inTurn, whyNotLoad, whyNotMask, whyNotMessage, whyNotTake, whyNotFinish, whyNotDrop}
 use Rattle.lock.specs.declared.Lock.{Lock}
 use Rattle.lock.specs.Lock.{whyNotLock, whyNotJoin}
 use Rattle.lock.specs.Laws.{accepted}
@@ -43,30 +43,30 @@ heard kind sender number door l name e n =
 
 -- ---- a box
 
-in-turn : (k : ℕ) (s : Party) → inTurn k s ≡ true → s .phase ≡ k
+in-turn : (k : ℕ) (s : Party) → inTurn k s ≡ true → s .check .phase ≡ k
 unfolding inTurn
-in-turn k s e = eqb-true _ _ (both (eqb (s .phase) k) _ e .0)
+in-turn k s e = eqb-true _ _ (both (eqb (s .check .phase) k) _ e .0)
 
 half-above : (key name : List ℕ) (party last : ℕ) (h : List ℕ) → whyNot key name party last h ≡ 0 → last < setNumber h
 unfolding whyNot
 half-above key name party last h e = ltb-true _ _ (passed _ (passed _ e .1) .0)
 
 pub record LoadTells (s : Party) (h : List ℕ) : Type 0 where
-  pub turn : s .phase ≡ 0
-  pub examined : whyNot (s .key) (s .name) (s .party) (s .last) h ≡ 0
+  pub turn : s .check .phase ≡ 0
+  pub examined : whyNot (s .who .key) (s .who .name) (s .who .party) (s .last) h ≡ 0
   pub above : s .last < setNumber h
 
 pub load-tells : (s : Party) (h : List ℕ) → whyNotLoad s h ≡ 0 → LoadTells s h
 unfolding whyNotLoad
 load-tells s h e =
     let t = passed _ e in
-    record { turn = in-turn 0 s (t .0); examined = t .1; above = half-above (s .key) (s .name) (s .party) (s .last) h (t .1) }
+    record { turn = in-turn 0 s (t .0); examined = t .1; above = half-above (s .who .key) (s .who .name) (s .who .party) (s .last) h (t .1) }
 
 pub record MaskTells (s : Party) (v : List ℕ) (room : ℕ) : Type 0 where
-  pub turn : s .phase ≡ 1
-  pub long : length v ≡ s .set .n
-  pub room-fits : s .set .n ≤ room
-  pub in-range : allInRange (s .set .code) v ≡ true
+  pub turn : s .check .phase ≡ 1
+  pub long : length v ≡ s .check .set .n
+  pub room-fits : s .check .set .n ≤ room
+  pub in-range : allInRange (s .check .set .code) v ≡ true
 
 pub mask-tells : (s : Party) (v : List ℕ) (room : ℕ) → whyNotMask s v room ≡ 0 → MaskTells s v room
 unfolding whyNotMask
@@ -83,28 +83,28 @@ mask-tells s v room e =
 
 -- calls 3 and 4: at this phase, a message of this kind
 pub record MessageTells (phase kind : ℕ) (s : Party) (l : Label) (name : List ℕ) : Type 0 where
-  pub turn : s .phase ≡ phase
-  pub hears : Heard kind (1 - s .party) (s .set .number) (s .name) l name
+  pub turn : s .check .phase ≡ phase
+  pub hears : Heard kind (1 - s .who .party) (s .check .set .number) (s .who .name) l name
 
 message-tells : (phase kind : ℕ) (s : Party) (l : Label) (name : List ℕ) (lengths : Bool)
-    → unless (inTurn phase s) 3 (unless lengths 4 (unless (expected kind (s .name) (1 - s .party) l name) 6 (unless (eqb (l .number) (s .set .number)) 7 0))) ≡ 0
+    → unless (inTurn phase s) 3 (unless lengths 4 (unless (expected kind (s .who .name) (1 - s .who .party) l name) 6 (unless (eqb (l .number) (s .check .set .number)) 7 0))) ≡ 0
     → MessageTells phase kind s l name
 message-tells phase kind s l name lengths e =
     let t = passed _ e in
     let u = passed _ (passed _ (t .1) .1) in
-    record { turn = in-turn phase s (t .0); hears = heard kind _ _ (s .name) l name (u .0) (eqb-true _ _ (passed _ (u .1) .0)) }
+    record { turn = in-turn phase s (t .0); hears = heard kind _ _ (s .who .name) l name (u .0) (eqb-true _ _ (passed _ (u .1) .0)) }
 
 pub take-tells : (s : Party) (l : Label) (name v : List ℕ) → whyNotTake s l name v ≡ 0 → MessageTells 2 0 s l name
-unfolding whyNotTake
+unfolding whyNotTake whyNotMessage
 take-tells s l name v e = message-tells 2 0 s l name _ e
 
 pub finish-tells : (s : Party) (l : Label) (name : List ℕ) → whyNotFinish s l name ≡ 0 → MessageTells 3 1 s l name
-unfolding whyNotFinish
+unfolding whyNotFinish whyNotMessage
 finish-tells s l name e = message-tells 3 1 s l name _ e
 
-pub drop-tells : (s : Party) → whyNotDrop s ≡ 0 → s .phase ≡ 0 → ⊥
+pub drop-tells : (s : Party) → whyNotDrop s ≡ 0 → s .check .phase ≡ 0 → ⊥
 unfolding whyNotDrop
-drop-tells s e = eqb-false _ _ (not-true _ (both (not (eqb (s .phase) 0)) _ (passed _ e .0) .0))
+drop-tells s e = eqb-false _ _ (not-true _ (both (not (eqb (s .check .phase) 0)) _ (passed _ e .0) .0))
 
 -- ---- the lock
 

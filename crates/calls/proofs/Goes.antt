@@ -17,7 +17,7 @@ use Rattle.half.specs.Half.{whyNot}
 use Rattle.dealer.specs.declared.Dealer.{Dealer}
 use Rattle.dealer.specs.Dealer.{Deal, halfSize, whyNotDeal}
 use Rattle.party.specs.declared.Party.{Party}
-use Rattle.party.specs.Party.{stateFits, sound, inTurn, whyNotLoad, whyNotMask, whyNotTake, whyNotFinish, whyNotDrop}
+use Rattle.party.specs.Party.{stateFits, sound, inTurn, whyNotLoad, whyNotMask, whyNotMessage, whyNotTake, whyNotFinish, whyNotDrop}
 use Rattle.lock.specs.declared.Lock.{Lock}
 use Rattle.lock.specs.Lock.{whyNotJoin}
 use Rattle.calls.proofs.Accepted.{Heard}
@@ -52,69 +52,69 @@ door-long kind sender number door l name h e = rw (h .name-is) (eq-eqb (length d
 
 -- ---- a box: its turn, with no set open and at a later phase
 
-idle-turn : (s : Party) → s .phase ≡ 0 → s .party ≤ 1 → s .set .code ≡ 0 → s .set .n ≡ 0 → inTurn 0 s ≡ true
+idle-turn : (s : Party) → s .check .phase ≡ 0 → s .who .party ≤ 1 → s .check .set .code ≡ 0 → s .check .set .n ≡ 0 → inTurn 0 s ≡ true
 unfolding inTurn sound stateFits
-idle-turn s e p c n = rw (eq-eqb (s .phase) 0 e, le-leb (s .party) 1 p, eq-eqb (s .set .code) 0 c, eq-eqb (s .set .n) 0 n) refl
+idle-turn s e p c n = rw (eq-eqb (s .check .phase) 0 e, le-leb (s .who .party) 1 p, eq-eqb (s .check .set .code) 0 c, eq-eqb (s .check .set .n) 0 n) refl
 
 -- what 01's third refusal asks of a state with a set open
 pub record OpenAt (k : ℕ) (s : Party) : Type 0 where
-  pub phase-is : s .phase ≡ k
+  pub phase-is : s .check .phase ≡ k
   pub some-phase : 1 ≤ k
   pub last-phase : k ≤ 3
-  pub party-fits : s .party ≤ 1
-  pub code-fits : isCode (s .set .code) ≡ true
-  pub some : 1 ≤ s .set .n
-  pub most : s .set .n ≤ 512
+  pub party-fits : s .who .party ≤ 1
+  pub code-fits : isCode (s .check .set .code) ≡ true
+  pub some : 1 ≤ s .check .set .n
+  pub most : s .check .set .n ≤ 512
 
-some-open : (k : ℕ) (s : Party) → OpenAt k s → eqb (s .phase) 0 ≡ false
-some-open k s o = ne-eqb (s .phase) 0 (λ e. omega (arith, o .phase-is, o .some-phase))
+some-open : (k : ℕ) (s : Party) → OpenAt k s → eqb (s .check .phase) 0 ≡ false
+some-open k s o = ne-eqb (s .check .phase) 0 (λ e. omega (arith, o .phase-is, o .some-phase))
 
 open-sound : (k : ℕ) (s : Party) → OpenAt k s → sound s ≡ true
 unfolding sound stateFits lengthFits
 open-sound k s o =
     rw (
       some-open k s o,
-      le-leb (s .party) 1 (o .party-fits),
-      le-leb (s .phase) 3 (omega (arith, o .phase-is, o .last-phase)),
+      le-leb (s .who .party) 1 (o .party-fits),
+      le-leb (s .check .phase) 3 (omega (arith, o .phase-is, o .last-phase)),
       o .code-fits,
-      le-leb 1 (s .set .n) (o .some),
-      le-leb (s .set .n) 512 (o .most),
+      le-leb 1 (s .check .set .n) (o .some),
+      le-leb (s .check .set .n) 512 (o .most),
     )
     refl
 
 open-turn : (k : ℕ) (s : Party) → OpenAt k s → inTurn k s ≡ true
 unfolding inTurn
-open-turn k s o = rw (eq-eqb (s .phase) k (o .phase-is), open-sound k s o) refl
+open-turn k s o = rw (eq-eqb (s .check .phase) k (o .phase-is), open-sound k s o) refl
 
 -- its calls
 
-pub load-goes : (s : Party) (h : List ℕ) → s .phase ≡ 0 → s .party ≤ 1 → s .set .code ≡ 0 → s .set .n ≡ 0 → whyNot (s .key) (s .name) (s .party) (s .last) h ≡ 0
+pub load-goes : (s : Party) (h : List ℕ) → s .check .phase ≡ 0 → s .who .party ≤ 1 → s .check .set .code ≡ 0 → s .check .set .n ≡ 0 → whyNot (s .who .key) (s .who .name) (s .who .party) (s .last) h ≡ 0
     → whyNotLoad s h ≡ 0
 unfolding whyNotLoad unless
 load-goes s h e p c n f = rw (idle-turn s e p c n) f
 
-pub mask-goes : (s : Party) (v : List ℕ) (room : ℕ) → OpenAt 1 s → length v ≡ s .set .n → s .set .n ≤ room → allInRange (s .set .code) v ≡ true → whyNotMask s v room ≡ 0
+pub mask-goes : (s : Party) (v : List ℕ) (room : ℕ) → OpenAt 1 s → length v ≡ s .check .set .n → s .check .set .n ≤ room → allInRange (s .check .set .code) v ≡ true → whyNotMask s v room ≡ 0
 unfolding whyNotMask unless
-mask-goes s v room o l r f = rw (open-turn 1 s o, eq-eqb (length v) (s .set .n) l, le-leb (s .set .n) room r, f) refl
+mask-goes s v room o l r f = rw (open-turn 1 s o, eq-eqb (length v) (s .check .set .n) l, le-leb (s .check .set .n) room r, f) refl
 
-pub take-goes : (s : Party) (l : Label) (name v : List ℕ) → OpenAt 2 s → length (s .name) ≡ 16 → length v ≡ s .set .n
-    → Heard 0 (1 - s .party) (s .set .number) (s .name) l name → whyNotTake s l name v ≡ 0
-unfolding whyNotTake unless
+pub take-goes : (s : Party) (l : Label) (name v : List ℕ) → OpenAt 2 s → length (s .who .name) ≡ 16 → length v ≡ s .check .set .n
+    → Heard 0 (1 - s .who .party) (s .check .set .number) (s .who .name) l name → whyNotTake s l name v ≡ 0
+unfolding whyNotTake whyNotMessage unless
 take-goes s l name v o n e h =
     rw (
       open-turn 2 s o,
       door-long _ _ _ _ _ _ h n,
-      eq-eqb (length v) (s .set .n) e,
+      eq-eqb (length v) (s .check .set .n) e,
       expects _ _ _ _ _ _ h,
-      eq-eqb (l .number) (s .set .number) (h .number-is),
+      eq-eqb (l .number) (s .check .set .number) (h .number-is),
     )
     refl
 
-pub finish-goes : (s : Party) (l : Label) (name : List ℕ) → OpenAt 3 s → length (s .name) ≡ 16 → Heard 1 (1 - s .party) (s .set .number) (s .name) l name
+pub finish-goes : (s : Party) (l : Label) (name : List ℕ) → OpenAt 3 s → length (s .who .name) ≡ 16 → Heard 1 (1 - s .who .party) (s .check .set .number) (s .who .name) l name
     → whyNotFinish s l name ≡ 0
-unfolding whyNotFinish unless
+unfolding whyNotFinish whyNotMessage unless
 finish-goes s l name o n h =
-    rw (open-turn 3 s o, door-long _ _ _ _ _ _ h n, expects _ _ _ _ _ _ h, eq-eqb (l .number) (s .set .number) (h .number-is)) refl
+    rw (open-turn 3 s o, door-long _ _ _ _ _ _ h n, expects _ _ _ _ _ _ h, eq-eqb (l .number) (s .check .set .number) (h .number-is)) refl
 
 pub drop-goes : (k : ℕ) (s : Party) → OpenAt k s → whyNotDrop s ≡ 0
 unfolding whyNotDrop unless

@@ -9,6 +9,8 @@ use Rattle.content.specs.Content.{blockCount}
 use Rattle.half.specs.Claims.{length-half}
 use Rattle.dealer.specs.declared.Dealer.{Dealer}
 use Rattle.dealer.specs.Dealer.{Deal, startDealer, whyNotDeal, halfSize, halfFor, keyOf}
+use Rattle.messages.specs.declared.Identity.{Identity}
+use Rattle.party.specs.declared.Check.{Check}
 use Rattle.party.specs.declared.Party.{Party}
 use Rattle.party.specs.Party.{idle, startParty}
 use Rattle.lock.specs.declared.Lock.{Lock}
@@ -44,21 +46,17 @@ wordIn (fresh s) = 0
 wordIn (masked s m o) = 0
 wordIn (worded s m o w) = w
 
+-- the check of a box that holds it
+abbrev pub checkOf : Slot → Check
+checkOf t = record { phase = phaseOf t; set = setIn t; masked = arrayIn t; own = ownIn t; word = wordIn t }
+
 module _ (S : Starts) where
+  abbrev pub whoAt : Box → Identity
+  whoAt b = record { name = door S; party = partyOf b; key = S .key b }
+
   abbrev pub showing : Box → ℕ → List Slot → Party
-  showing b last [] = idle (door S) (partyOf b) (S .key b) last
-  showing b last (t ∷ ts) =
-      record {
-        name = door S;
-        party = partyOf b;
-        key = S .key b;
-        last = last;
-        phase = phaseOf t;
-        set = setIn t;
-        masked = arrayIn t;
-        own = ownIn t;
-        word = wordIn t;
-      }
+  showing b last [] = idle (whoAt b) last
+  showing b last (t ∷ ts) = record { who = whoAt b; last = last; check = checkOf t }
 
   abbrev pub lastAt : Box → List Event → ℕ
   lastAt b h = lastLoaded (S .boxFloor b) b h

@@ -80,10 +80,10 @@ module _ (S : Starts) where
     -- ---- call 2
 
     abbrev pub Masking : Box → List ℕ → List ℕ → Party → Type 0
-    Masking b v out z = whyNotMask z v (length out) ≡ 0 → Stepped h b (BoxCalls.masked z v) (sent b (z .set .number) (vector v (maskedBy z v out)))
+    Masking b v out z = whyNotMask z v (length out) ≡ 0 → Stepped h b (BoxCalls.masked z v) (sent b (z .check .set .number) (vector v (maskedBy z v out)))
 
     pub masking : (b : Box) (v out : List ℕ) (ts : List Slot) → length ts ≤ 1 → Slots h b (lastAt S b h) ts → Masking b v out (showing S b (lastAt S b h) ts)
-    unfolding idle BoxCalls.masked
+    unfolding idle BoxCalls.noCheck BoxCalls.masked
     masking b v out [] few k e = absurd (omega (arith, mask-tells _ v _ e .turn))
     masking b v out (masked s m o ∷ ts) few k e = absurd (omega (arith, mask-tells _ v _ e .turn))
     masking b v out (worded s m o u ∷ ts) few k e = absurd (omega (arith, mask-tells _ v _ e .turn))
@@ -100,7 +100,7 @@ module _ (S : Starts) where
     abbrev pub Taking : Box → Message (List ℕ) → Party → Type 0
     Taking b m z =
         whyNotTake z (m .label) (m .name) (m .content) ≡ 0
-        → Stepped h b (BoxCalls.worded z (BoxCalls.wordOf (z .set) (z .party) (z .masked) (z .own) (m .content))) (sent b (z .set .number) (word (BoxCalls.takeVector z (m .label) (m .name) (m .content) .word)))
+        → Stepped h b (BoxCalls.worded z (BoxCalls.wordOf (z .check .set) (z .who .party) (z .check .masked) (z .check .own) (m .content))) (sent b (z .check .set .number) (word (BoxCalls.takeVector z (m .label) (m .name) (m .content) .word)))
 
     right-word : (b : Box) (s : Set) (a : List ℕ) (o : ℕ) (ts : List Slot) (c : List ℕ) → Slots h b (lastAt S b h) (masked s a o ∷ ts) → SentVector h (other b) (s .number) c
         → Word h b s (BoxCalls.wordOf s (partyOf b) a o c)
@@ -119,7 +119,7 @@ module _ (S : Starts) where
 
     pub taking : (b : Box) (m : Message (List ℕ)) → Sent (door S) 0 (SentVector h) m → (ts : List Slot) → length ts ≤ 1 → Slots h b (lastAt S b h) ts
         → Taking b m (showing S b (lastAt S b h) ts)
-    unfolding idle BoxCalls.worded BoxCalls.takeVector
+    unfolding idle BoxCalls.noCheck BoxCalls.worded BoxCalls.takeVector
     taking b m ad [] few k e = absurd (omega (arith, take-tells _ _ _ _ e .turn))
     taking b m ad (fresh s ∷ ts) few k e = absurd (omega (arith, take-tells _ _ _ _ e .turn))
     taking b m ad (worded s a o u ∷ ts) few k e = absurd (omega (arith, take-tells _ _ _ _ e .turn))
@@ -140,7 +140,7 @@ module _ (S : Starts) where
     abbrev pub Finishing : Box → Message ℕ → Party → Type 0
     Finishing b m z =
         whyNotFinish z (m .label) (m .name) ≡ 0
-        → Stepped h b (BoxCalls.closed z) (sent b (z .set .number) (answer (BoxCalls.finish z (m .label) (m .name) (m .content) .word)))
+        → Stepped h b (BoxCalls.closed z) (sent b (z .check .set .number) (answer (BoxCalls.finish z (m .label) (m .name) (m .content) .word)))
 
     right-answer : (b : Box) (s : Set) (u c : ℕ) → Word h b s u → SentWord h (other b) (s .number) c
         → EventOk S h (sent b (s .number) (answer (Share.answer (partyOf b) (s .key) (s .seed) (add u c))))
@@ -158,7 +158,7 @@ module _ (S : Starts) where
 
     pub finishing : (b : Box) (m : Message ℕ) → Sent (door S) 1 (SentWord h) m → (ts : List Slot) → length ts ≤ 1 → Slots h b (lastAt S b h) ts
         → Finishing b m (showing S b (lastAt S b h) ts)
-    unfolding idle BoxCalls.finish
+    unfolding idle BoxCalls.noCheck BoxCalls.finish BoxCalls.answerOf
     finishing b m ad [] few k e = absurd (omega (arith, finish-tells _ _ _ e .turn))
     finishing b m ad (fresh s ∷ ts) few k e = absurd (omega (arith, finish-tells _ _ _ e .turn))
     finishing b m ad (masked s a o ∷ ts) few k e = absurd (omega (arith, finish-tells _ _ _ e .turn))
@@ -173,7 +173,7 @@ module _ (S : Starts) where
     Dropping b z = whyNotDrop z ≡ 0 → Stepped h b (BoxCalls.closed z) (dropped b)
 
     pub dropping : (b : Box) (ts : List Slot) → length ts ≤ 1 → Slots h b (lastAt S b h) ts → Dropping b (showing S b (lastAt S b h) ts)
-    unfolding idle
+    unfolding idle BoxCalls.noCheck
     dropping b [] few k e = absurd (drop-tells _ e refl)
     dropping b (t ∷ ts) few k e =
         (own-drop, tt, record { slots = ts; few = omega arith; shows = closing b t ts few; ok = slots-drop h b (lastAt S b h) t ts k })
@@ -181,7 +181,7 @@ module _ (S : Starts) where
     -- ---- load
 
     abbrev pub Loading : Box → List ℕ → Party → Type 0
-    Loading b x z = whyNotLoad z x ≡ 0 → Stepped h b (BoxCalls.loaded z (openedSet (z .key) x)) (loaded b (setNumber x))
+    Loading b x z = whyNotLoad z x ≡ 0 → Stepped h b (BoxCalls.loaded z (openedSet (z .who .key) x)) (loaded b (setNumber x))
 
     module _ (long : length (door S) ≡ 16) (b : Box) where
       -- the sets that were dealt to box b
@@ -212,7 +212,7 @@ module _ (S : Starts) where
 
       pub loading : (x : List ℕ) → ((i : ℕ) → i < length x / 512 → Written h b (blockAt x i)) → (ts : List Slot) → length ts ≤ 1 → Slots h b (lastAt S b h) ts
           → Loading b x (showing S b (lastAt S b h) ts)
-      unfolding idle BoxCalls.loaded
+      unfolding idle BoxCalls.noCheck BoxCalls.loaded BoxCalls.opened
       loading x ad [] few k e =
           let z : Party = showing S b (lastAt S b h) [] in
           let tells = load-tells z x e in

@@ -62,7 +62,7 @@ module _ (S : Starts) (d : Deal) (v : Box → List ℕ) where
 
     -- ---- each call, at the state that the run gives it
 
-    open-at : (b : Box) (t : Slot) (k : ℕ) → 1 ≤ k → k ≤ 3 → (showing S b (d .number) (t ∷ []) .phase ≡ k) → showing S b (d .number) (t ∷ []) .set ≡ setOf d b
+    open-at : (b : Box) (t : Slot) (k : ℕ) → 1 ≤ k → k ≤ 3 → (showing S b (d .number) (t ∷ []) .check .phase ≡ k) → showing S b (d .number) (t ∷ []) .check .set ≡ setOf d b
         → OpenAt k (showing S b (d .number) (t ∷ []))
     open-at b t k some last p s =
         record {
@@ -91,7 +91,7 @@ module _ (S : Starts) (d : Deal) (v : Box → List ℕ) where
 
     pub load-made : (b : Box) (last : ℕ) → last < d .number → (x : List ℕ) → x ≡ halfOf S d b
         → Made (BoxCalls.load (showing S b last []) x) (loaded b (setNumber x)) (shown b 0) (said (load b x))
-    unfolding BoxCalls.load BoxCalls.loaded idle noSet
+    unfolding BoxCalls.load BoxCalls.loaded BoxCalls.opened idle BoxCalls.noCheck noSet
     load-made b last l x q =
         let s : Set = setOf d b in
         let k = set-proper d b sound in
@@ -106,7 +106,7 @@ module _ (S : Starts) (d : Deal) (v : Box → List ℕ) where
 
     pub mask-made : (b : Box) (x out : List ℕ) → x ≡ v b → d .n ≤ length out
         → (let z : Party = shown b 0 in
-        Made (BoxCalls.mask z x (length out)) (sent b (z .set .number) (vector x (maskedBy z x out))) (shown b 1) (said (mask b x out)))
+        Made (BoxCalls.mask z x (length out)) (sent b (z .check .set .number) (vector x (maskedBy z x out))) (shown b 1) (said (mask b x out)))
     unfolding BoxCalls.mask BoxCalls.masked
     mask-made b x out q room =
         let z : Party = shown b 0 in
@@ -120,7 +120,7 @@ module _ (S : Starts) (d : Deal) (v : Box → List ℕ) where
     pub take-made : (b : Box) (m : Message (List ℕ)) → Labelled (door S) 0 (other b) (d .number) m → m .content ≡ maskOf d (other b) (v (other b))
         → (let z : Party = shown b 1 in
         let a : PartyAnswer = BoxCalls.takeVector z (m .label) (m .name) (m .content) in
-        Made a (sent b (z .set .number) (word (a .word))) (shown b 2) (said (take b m)))
+        Made a (sent b (z .check .set .number) (word (a .word))) (shown b 2) (said (take b m)))
     unfolding BoxCalls.takeVector BoxCalls.worded
     take-made b m a q =
         let z : Party = shown b 1 in
@@ -135,8 +135,8 @@ module _ (S : Starts) (d : Deal) (v : Box → List ℕ) where
     pub finish-made : (b : Box) (m : Message ℕ) → Labelled (door S) 1 (other b) (d .number) m → m .content ≡ wordBy d v (other b)
         → (let z : Party = shown b 2 in
         let a : PartyAnswer = BoxCalls.finish z (m .label) (m .name) (m .content) in
-        Made a (sent b (z .set .number) (answer (a .word))) (BoxCalls.closed z) (said (finish b m)))
-    unfolding BoxCalls.finish
+        Made a (sent b (z .check .set .number) (answer (a .word))) (BoxCalls.closed z) (said (finish b m)))
+    unfolding BoxCalls.finish BoxCalls.answerOf
     finish-made b m a q =
         let z : Party = shown b 2 in
         let k = finish-goes z (m .label) (m .name) (open-at b (slotAt b 2) 3 (omega arith) (omega arith) refl refl) long (hears 1 b (other b) _ m (sym (other-party b)) a) in

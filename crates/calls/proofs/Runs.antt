@@ -111,16 +111,16 @@ module _ (S : Starts) (d : Deal) (v : Box → List ℕ) where
           box-goes b (λ y. BoxCalls.load y x) (λ y. loaded b (setNumber x)) (showing S b last []) (shown S d v b 0) _ 0 m st made tt refl
       goes (mask b x out) (m, q, r) =
           let call : Party → PartyAnswer = λ y. BoxCalls.mask y x (length out) in
-          let leaves : Party → Event = λ y. sent b (y .set .number) (vector x (maskedBy y x out)) in
+          let leaves : Party → Event = λ y. sent b (y .check .set .number) (vector x (maskedBy y x out)) in
           box-goes b call leaves (shown S d v b 0) (shown S d v b 1) _ 1 m (holding b 1 m) (mask-made S d v long R b x out q r) refl refl
       goes (take b m) (e, a, i) =
           let call : Party → PartyAnswer = λ y. BoxCalls.takeVector y (m .label) (m .name) (m .content) in
-          let leaves : Party → Event = λ y. sent b (y .set .number) (word (call y .word)) in
+          let leaves : Party → Event = λ y. sent b (y .check .set .number) (word (call y .word)) in
           let made = take-made S d v long R b m a (A .exact-at _ (i .1)) in
           box-goes b call leaves (shown S d v b 1) (shown S d v b 2) _ 2 e (holding b 2 e) made refl refl
       goes (finish b m) (e, a, i) =
           let call : Party → PartyAnswer = λ y. BoxCalls.finish y (m .label) (m .name) (m .content) in
-          let leaves : Party → Event = λ y. sent b (y .set .number) (answer (call y .word)) in
+          let leaves : Party → Event = λ y. sent b (y .check .set .number) (answer (call y .word)) in
           let made = finish-made S d v long R b m a (A .exact-at _ i) in
           box-goes b call leaves (shown S d v b 2) (BoxCalls.closed (shown S d v b 2)) _ 3 e (holding b 3 e) made refl tt
       goes (join m n) (e, a, i, b, j) =

@@ -44,7 +44,7 @@ and-then s t u p q =
 
 -- what holds of box b's state s, of the state t that a call hands back, and of the call's event
 abbrev pub Spares : Box → Party → Event → Party → Type 0
-Spares b s e t = 1 ≤ s .phase → (Ends b e → ⊥) → Stays s t
+Spares b s e t = 1 ≤ s .check .phase → (Ends b e → ⊥) → Stays s t
 
 -- a refused call keeps all
 either : (b : Box) (why : ℕ) (new s : Party) (e : Event) → (why ≡ 0 → Spares b s e new)

@@ -13,9 +13,10 @@ use Rattle.share.specs.Share.{plus}
 use Rattle.messages.specs.Messages.{ifTaken}
 use Rattle.content.specs.Content.{fill, setIn, noSet}
 use Rattle.half.specs.Half.{openedSet}
+use Rattle.messages.specs.declared.Identity.{Identity}
 use Rattle.party.specs.declared.Party.{Party}
 use Rattle.party.specs.Party as BoxCalls
-use Rattle.party.specs.Party.{idle, noParty, startParty, loaded, masked, maskedVector, worded, closed}
+use Rattle.party.specs.Party.{noCheck, idle, noParty, startParty, opened, loaded, masked, maskedVector, worded, closed}
 use Rattle.calls.specs.Lists.{Box, camera, office, put, World, Starts, beginning, Call, deal, load, mask, take, finish, drop, join, step, after}
 use Rattle.calls.specs.States.{Tidy, AlwaysTidy}
 
@@ -36,13 +37,13 @@ fill-past f n i h =
 
 -- ---- the states that a box is put into
 
-tidy-idle : (name : List ℕ) (party : ℕ) (key : List ℕ) (last : ℕ) → Tidy (idle name party key last)
-unfolding idle noSet
-tidy-idle name party key last =
+tidy-idle : (who : Identity) (last : ℕ) → Tidy (idle who last)
+unfolding idle noCheck noSet
+tidy-idle who last =
     record { none-open = λ e. (refl, refl, refl, refl); past-length = λ i h. (zeros-at 512 i, zeros-at 512 i, zeros-at 512 i, zeros-at 512 i) }
 
 tidy-loaded : (s : Party) (key h : List ℕ) → Tidy (loaded s (openedSet key h))
-unfolding loaded openedSet setIn wordsAt
+unfolding loaded opened openedSet setIn wordsAt
 tidy-loaded s key h =
     record { none-open = λ e. absurd (omega arith); past-length = λ i l. (fill-past _ _ i l, fill-past _ _ i l, fill-past _ _ i l, zeros-at 512 i) }
 
@@ -70,7 +71,7 @@ either why new old n o = go (eqb why 0)
 
 tidy-closed : (s : Party) → Tidy (closed s)
 unfolding closed
-tidy-closed s = tidy-idle _ _ _ _
+tidy-closed s = tidy-idle _ _
 
 put-tidy : (f : Box → Party) (b : Box) (p : Party) → ((c : Box) → Tidy (f c)) → Tidy p → (c : Box) → Tidy (put f b p c)
 put-tidy f camera p t q camera = q
@@ -90,5 +91,5 @@ step-tidy w (join m n) t = t
 
 pub always-tidy : AlwaysTidy
 unfolding AlwaysTidy startParty noParty
-always-tidy s [] b = either _ _ _ (tidy-idle _ _ _ _) (tidy-idle _ _ _ _)
+always-tidy s [] b = either _ _ _ (tidy-idle _ _) (tidy-idle _ _)
 always-tidy s (c ∷ cs) b = step-tidy (after (beginning s) cs) c (always-tidy s cs) b

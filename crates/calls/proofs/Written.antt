@@ -31,6 +31,6 @@ unfolding dealOut
 written-is s d out0 out1 camera e l = ap (part 0 (halfSize (d .n))) (new _ _ _ e) ∙ start-of _ out0 _ l (deal-tells s d _ _ e .room-0)
 written-is s d out0 out1 office e l = ap (part 0 (halfSize (d .n))) (new _ _ _ e) ∙ start-of _ out1 _ l (deal-tells s d _ _ e .room-1)
 
-pub masked-is : (s : Party) (v out : List ℕ) → whyNotMask s v (length out) ≡ 0 → maskedBy s v out ≡ maskedVector (s .set) v
+pub masked-is : (s : Party) (v out : List ℕ) → whyNotMask s v (length out) ≡ 0 → maskedBy s v out ≡ maskedVector (s .check .set) v
 unfolding maskOut
-masked-is s v out e = ap (part 0 (s .set .n)) (new _ _ _ e) ∙ start-of _ out _ (mask-long (s .set) v) (mask-tells s v _ e .room-fits)
+masked-is s v out e = ap (part 0 (s .check .set .n)) (new _ _ _ e) ∙ start-of _ out _ (mask-long (s .check .set) v) (mask-tells s v _ e .room-fits)

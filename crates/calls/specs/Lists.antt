@@ -145,7 +145,7 @@ abbrev pub written : Dealer → Deal → List ℕ → List ℕ → Box → List 
 written s d out0 out1 b = part 0 (halfSize (d .n)) (DealerCalls.dealOut s d out0 out1 (partyOf b))
 
 abbrev pub maskedBy : Party → List ℕ → List ℕ → List ℕ
-maskedBy s v out = part 0 (s .set .n) (BoxCalls.maskOut s v out)
+maskedBy s v out = part 0 (s .check .set .n) (BoxCalls.maskOut s v out)
 
 abbrev pub step : World → Call → Step
 step w (deal d out0 out1) =
@@ -154,15 +154,15 @@ step w (deal d out0 out1) =
 step w (load b h) = onBox w b (BoxCalls.load (w .box b) h) (loaded b (setNumber h))
 step w (mask b v out) =
     let s : Party = w .box b in
-    onBox w b (BoxCalls.mask s v (length out)) (sent b (s .set .number) (vector v (maskedBy s v out)))
+    onBox w b (BoxCalls.mask s v (length out)) (sent b (s .check .set .number) (vector v (maskedBy s v out)))
 step w (take b m) =
     let s : Party = w .box b in
     let a : PartyAnswer = BoxCalls.takeVector s (m .label) (m .name) (m .content) in
-    onBox w b a (sent b (s .set .number) (word (a .word)))
+    onBox w b a (sent b (s .check .set .number) (word (a .word)))
 step w (finish b m) =
     let s : Party = w .box b in
     let a : PartyAnswer = BoxCalls.finish s (m .label) (m .name) (m .content) in
-    onBox w b a (sent b (s .set .number) (answer (a .word)))
+    onBox w b a (sent b (s .check .set .number) (answer (a .word)))
 step w (drop b) = onBox w b (BoxCalls.dropSet (w .box b)) (dropped b)
 step w (join m n) =
     let a : LockAnswer = LockCalls.join (w .lock) (m .label) (m .name) (m .content) (n .label) (n .name) (n .content) in

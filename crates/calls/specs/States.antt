@@ -18,24 +18,24 @@ pub data Ends (b : Box) : Event → Type 0 where
 -- "What a set has brought into the state stays there", from s to t: load brings the set, call 2 the masked vector and
 -- own, call 3 the word, and each call its phase
 pub record Stays (s t : Party) : Type 0 where
-  pub not-back : s .phase ≤ t .phase
-  pub same-set : t .set ≡ s .set
-  pub same-masked : 2 ≤ s .phase → t .masked ≡ s .masked
-  pub same-own : 2 ≤ s .phase → t .own ≡ s .own
-  pub same-word : 3 ≤ s .phase → t .word ≡ s .word
+  pub not-back : s .check .phase ≤ t .check .phase
+  pub same-set : t .check .set ≡ s .check .set
+  pub same-masked : 2 ≤ s .check .phase → t .check .masked ≡ s .check .masked
+  pub same-own : 2 ≤ s .check .phase → t .check .own ≡ s .check .own
+  pub same-word : 3 ≤ s .check .phase → t .check .word ≡ s .check .word
 
 -- ".. until it is closed or dropped": with a set open at b, over any list of calls from any states on, none of which
 -- ends it
 unfoldable pub StaysUntilEnded : Type 0
-StaysUntilEnded = (w : World) (b : Box) → 1 ≤ w .box b .phase → (cs : List Call)
+StaysUntilEnded = (w : World) (b : Box) → 1 ≤ w .box b .check .phase → (cs : List Call)
     → ((e : Event) → In e (events w cs) → Ends b e → ⊥) → Stays (w .box b) (after w cs .box b)
 
 -- ---- what else it holds
 
 -- "with no set open all of it is zero, code and L included, and array places past L are always zero"
 pub record Tidy (s : Party) : Type 0 where
-  pub none-open : s .phase ≡ 0 → (s .set ≡ noSet) × (s .masked ≡ replicate 512 0) × (s .own ≡ 0) × (s .word ≡ 0)
-  pub past-length : (i : ℕ) → s .set .n ≤ i → (getD (s .set .mask) i 0 ≡ 0) × (getD (s .set .x) i 0 ≡ 0) × (getD (s .set .y) i 0 ≡ 0) × (getD (s .masked) i 0 ≡ 0)
+  pub none-open : s .check .phase ≡ 0 → (s .check .set ≡ noSet) × (s .check .masked ≡ replicate 512 0) × (s .check .own ≡ 0) × (s .check .word ≡ 0)
+  pub past-length : (i : ℕ) → s .check .set .n ≤ i → (getD (s .check .set .mask) i 0 ≡ 0) × (getD (s .check .set .x) i 0 ≡ 0) × (getD (s .check .set .y) i 0 ≡ 0) × (getD (s .check .masked) i 0 ≡ 0)
 
 unfoldable pub AlwaysTidy : Type 0
 AlwaysTidy = (s : Starts) (cs : List Call) (b : Box) → Tidy (after (beginning s) cs .box b)

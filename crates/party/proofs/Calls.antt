@@ -26,7 +26,7 @@ use Rattle.party.specs.declared.Check.{Check}
 use Rattle.party.specs.declared.Party.{Party}
 use Rattle.party.specs.declared.PartyAnswer.{PartyAnswer}
 use Rattle.party.specs.Party as P
-use Rattle.party.specs.Party.{idlePhase, loadedPhase, maskedPhase, takenPhase, idle, withCheck, nobody, noParty, answered, whyNotParty, startParty, stateFits, sound, inTurn, whyNotLoad, opened, loaded, whyNotMask, masked, maskedVector, maskOut, whyNotMessage, whyNotTake, boxShare, wordOf, worded, whyNotFinish, answerOf, closed, whyNotDrop}
+use Rattle.party.specs.Party.{idlePhase, loadedPhase, maskedPhase, takenPhase, idle, nobody, noParty, answered, whyNotParty, startParty, stateFits, sound, inTurn, whyNotLoad, opened, loaded, whyNotMask, masked, maskedVector, maskOut, whyNotMessage, whyNotTake, boxShare, wordOf, worded, whyNotFinish, answerOf, closed, whyNotDrop}
 
 -- ---- an answer that refuses, and one that does not
 
@@ -34,12 +34,10 @@ abbrev told : ℕ → Party → ℕ → PartyAnswer
 told why s w = record { why = why; party = s; word = w }
 
 keeps : (k why : ℕ) (new s : Party) (w : ℕ) → k ≡ why → (k ≡ 0 → ⊥) → told k s 0 ≡ answered why new s w
-unfolding answered
 keeps k why new s w e some = λ i. told (e i) (Refusals.refused new s e some i) (Refusals.refused w 0 e some i)
 
 moves : (k why : ℕ) (next new s : Party) (x w : ℕ) → k ≡ why → k ≡ 0 → next ≡ new → x ≡ w
     → told k next x ≡ answered why new s w
-unfolding answered
 moves k why next new s x w e none en ex =
     λ i. told (e i) ((en ∙ Refusals.taken new s e none) i) ((ex ∙ Refusals.taken w 0 e none) i)
 
@@ -146,7 +144,7 @@ module _ (s : Party) (t : Bool) (et : t ≡ turn loadedPhase s) (v out : List �
         })
         0
         ≡ P.mask s v (length out)
-    unfolding P.mask masked maskedVector withCheck
+    unfolding P.mask masked maskedVector
     mask-taken a o none ea eo =
         let own = eo ∙ ap (λ (n : ℕ). ownWord (s .check .set .code) n v) (mask-fits none .1) in
         moves k _ _ _ s 0 0 why-mask none
@@ -216,9 +214,9 @@ module _ (s : Party) (t : Bool) (et : t ≡ turn maskedPhase s) (l : Label) (nam
         })
         w
         ≡ P.takeVector s l name v
-    unfolding P.takeVector worded wordOf withCheck
+    unfolding P.takeVector worded wordOf
     take-taken x w none ex ew =
-        let is : w ≡ wordOf (s .who .party) (s .check) v =
+        let is : w ≡ wordOf (s .check .set) (s .who .party) (s .check .masked) (s .check .own) v =
         ew ∙ ap (λ (y : ℕ). Share.boxWord (s .check .set .code) y (s .check .own) (s .check .set .r)) ex in
         moves k _ _ _ s w _ why-take none (ap (worded s) is) is
 

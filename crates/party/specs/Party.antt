@@ -44,7 +44,7 @@ unfoldable pub idle : Identity → ℕ → Party
 idle who last = record { who = who; last = last; check = noCheck }
 
 -- the box with another check
-unfoldable pub withCheck : Party → Check → Party
+abbrev pub withCheck : Party → Check → Party
 withCheck s check = record { who = s .who; last = s .last; check = check }
 
 abbrev pub nobody : Identity
@@ -55,7 +55,7 @@ noParty = idle nobody 0
 
 -- ---- what a call answers: why not, the state that follows, and what is sent. A refused one leaves the state as it was
 -- and sends nothing.
-unfoldable pub answered : ℕ → Party → Party → ℕ → PartyAnswer
+abbrev pub answered : ℕ → Party → Party → ℕ → PartyAnswer
 answered why next s word = record { why = why; party = ifTaken why next s; word = ifTaken why word 0 }
 
 -- ---- start
@@ -150,10 +150,9 @@ boxShare party n c ownMasked other x y =
     cond (eqb party cameraParty) (Share.share party n c ownMasked other x y) (Share.share party n c other ownMasked x y)
 
 -- "its word: k × (share) + own + its r"
-unfoldable pub wordOf : ℕ → Check → List ℕ → ℕ
-wordOf party check other =
-    let set : Set = check .set in
-    Share.boxWord (set .code) (boxShare party (set .n) (set .c) (check .masked) other (set .x) (set .y)) (check .own) (set .r)
+unfoldable pub wordOf : Set → ℕ → List ℕ → ℕ → List ℕ → ℕ
+wordOf set party ownMasked own other =
+    Share.boxWord (set .code) (boxShare party (set .n) (set .c) ownMasked other (set .x) (set .y)) own (set .r)
 
 unfoldable pub worded : Party → ℕ → Party
 worded s w =
@@ -162,7 +161,7 @@ worded s w =
 
 unfoldable pub takeVector : Party → Label → List ℕ → List ℕ → PartyAnswer
 takeVector s l name v =
-    let w : ℕ = wordOf (s .who .party) (s .check) v in
+    let w : ℕ = wordOf (s .check .set) (s .who .party) (s .check .masked) (s .check .own) v in
     answered (whyNotTake s l name v) (worded s w) s w
 
 -- ---- call 4
@@ -174,11 +173,11 @@ unfoldable pub closed : Party → Party
 closed s = idle (s .who) (s .last)
 
 -- "With Z the sum of both words"
-unfoldable pub answerOf : ℕ → Check → ℕ → ℕ
-answerOf party check other = Share.answer party (check .set .key) (check .set .seed) (add (check .word) other)
+unfoldable pub answerOf : Set → ℕ → ℕ → ℕ → ℕ
+answerOf set party word other = Share.answer party (set .key) (set .seed) (add word other)
 
 unfoldable pub finish : Party → Label → List ℕ → ℕ → PartyAnswer
-finish s l name w = answered (whyNotFinish s l name) (closed s) s (answerOf (s .who .party) (s .check) w)
+finish s l name w = answered (whyNotFinish s l name) (closed s) s (answerOf (s .check .set) (s .who .party) (s .check .word) w)
 
 -- ---- drop
 
