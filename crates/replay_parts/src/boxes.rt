@@ -97,13 +97,19 @@ fn as_it_is(p: Party) -> PartyAnswer {
 
 // put BOX PHASE PARTY CODE L
 fn put(p: Party, l: Line) -> PartyAnswer {
+    let phase = memory::low(l.f2);
+    let party = memory::low(l.f3);
     let code = memory::low(l.f4);
     let n = memory::size(l.f5);
+    let mut set = p.check.set;
+    set.code = code;
+    set.n = n;
+    let mut check = p.check;
+    check.phase = phase;
+    check.set = set;
     let mut next = p;
-    next.phase = memory::low(l.f2);
-    next.party = memory::low(l.f3);
-    next.set.code = code;
-    next.set.n = n;
+    next.who.party = party;
+    next.check = check;
     as_it_is(next)
 }
 

@@ -4,38 +4,49 @@ ghost use Prim.Native.Nat.{_≤_};
 use content::Set;
 use dealer::Dealer;
 use lock::Lock;
+use measure::MOST_ELEMENTS;
+use messages::Identity;
+use messages::KEY;
+use messages::NAME;
 use node::Correction;
 use node::Key;
+use party::Check;
 use party::Party;
 use replay_lines::memory;
 use replay_lines::memory::BYTES;
 
 pub fn no_dealer() -> Dealer {
     Dealer {
-        name: [0; 16],
-        key0: [0; 32],
-        key1: [0; 32],
+        name: [0; NAME],
+        key0: [0; KEY],
+        key1: [0; KEY],
         last: 0,
     }
 }
 
 pub fn no_party() -> Party {
-    Party {
-        name: [0; 16],
+    let who = Identity {
+        name: [0; NAME],
         party: 0,
-        key: [0; 32],
-        last: 0,
-        phase: 0,
+        key: [0; KEY],
+    };
+    let check = Check {
+        phase: party::IDLE,
         set: content::no_set(),
-        masked: [0; 512],
+        masked: [0; MOST_ELEMENTS],
         own: 0,
         word: 0,
+    };
+    Party {
+        who,
+        last: 0,
+        check,
     }
 }
 
 pub fn no_lock() -> Lock {
     Lock {
-        name: [0; 16],
+        name: [0; NAME],
         last: 0,
     }
 }
@@ -44,11 +55,11 @@ fn high(n: u64) -> u32 {
     (n / 4294967296) as u32
 }
 
-fn lay_name(b: &mut [u8; BYTES], name: [u8; 16]) {
+fn lay_name(b: &mut [u8; BYTES], name: [u8; NAME]) {
     slices::copy(b, 0, &name);
 }
 
-fn lay_secret(b: &mut [u8; BYTES], at: usize, key: [u8; 32])
+fn lay_secret(b: &mut [u8; BYTES], at: usize, key: [u8; KEY])
     requires { ⌜ at ≤ 9000 ⌝ }
 {
     slices::copy(b, at, &key);
@@ -78,7 +89,7 @@ fn lay_seed(b: &mut [u8; BYTES], at: usize, seed: [u32; 8])
     slices::store_all(b, at, &seed);
 }
 
-fn lay_vector(b: &mut [u8; BYTES], at: usize, w: [u32; 512])
+fn lay_vector(b: &mut [u8; BYTES], at: usize, w: [u32; MOST_ELEMENTS])
     requires { ⌜ at ≤ 9000 ⌝ }
 {
     slices::store_all(b, at, &w);
@@ -125,18 +136,18 @@ fn lay_set(b: &mut [u8; BYTES], s: Set) {
 
 // 9,608 bytes.
 pub fn lay_party(b: &mut [u8; BYTES], p: Party) {
-    let name = p.name;
-    let key = p.key;
-    let set = p.set;
-    let masked = p.masked;
+    let name = p.who.name;
+    let key = p.who.key;
+    let set = p.check.set;
+    let masked = p.check.masked;
     lay_name(b, name);
-    lay_word(b, 16, p.party);
+    lay_word(b, 16, p.who.party);
     lay_secret(b, 20, key);
     lay_wide(b, 52, p.last);
-    lay_word(b, 60, p.phase);
+    lay_word(b, 60, p.check.phase);
     lay_set(b, set);
     lay_vector(b, 7552, masked);
-    lay_words(b, 9600, [p.own, p.word]);
+    lay_words(b, 9600, [p.check.own, p.check.word]);
 }
 
 // 88 bytes.
