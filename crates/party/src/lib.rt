@@ -412,9 +412,10 @@ impl Party {
             return refused(messages::OUT_OF_TURN, self);
         }
         let who = self.who;
+        let last = self.last;
         PartyAnswer {
             why: 0,
-            party: idle(who, self.last),
+            party: idle(who, last),
             word: 0,
         }
     }
