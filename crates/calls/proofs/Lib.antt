@@ -11,6 +11,7 @@ pub mod Keeps
 pub mod Kept
 pub mod Made
 pub mod NotEmpty
+pub mod Numbers
 pub mod Once
 pub mod Parts
 pub mod Refusals

@@ -95,6 +95,9 @@ module _ {e : Event} (q : Quiet e) (h : List Event) where
   pub joined-quiet : (floor : ℕ) → lastJoined floor (e ∷ h) ≡ lastJoined floor h
   joined-quiet floor = rw (q .no-join) refl
 
+pub refused-quiet : (why : ℕ) → Quiet (refused why)
+refused-quiet why = record { no-deal = refl; no-join = refl }
+
 pub own-quiet : (b : Box) (e : Event) → Own b e → Quiet e
 own-quiet b e (own-load n) = record { no-deal = refl; no-join = refl }
 own-quiet b e (own-sent n x) = record { no-deal = refl; no-join = refl }

@@ -120,15 +120,12 @@ abbrev pub lastJoined : ℕ → List Event → ℕ
 lastJoined floor h = newest floor (collect joinsIn h)
 
 -- how many sets are open at a box: a load opens one, call 4 and drop close one
-abbrev pub opens : Box → Event → ℕ
-opens b e = length (loadsBy b e)
-
 abbrev pub closes : Box → Event → ℕ
 closes b e = length (collect (λ s. answerOf (s .body)) (sendsBy b e)) + length (dropsBy b e)
 
 abbrev pub openSets : Box → List Event → ℕ
 openSets b [] = 0
-openSets b (e ∷ h) = openSets b h + opens b e - closes b e
+openSets b (e ∷ h) = openSets b h + length (loadsBy b e) - closes b e
 
 -- ---- no wrong report, no reuse
 
