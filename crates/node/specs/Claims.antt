@@ -28,8 +28,9 @@ unfolding node child openedBlock block start
 seed-length i s d =
     let n : List ℕ = nodeNonce (i + 1) in
     let b : List ℕ = block s (only d 1) n in
-    let l : length b ≡ 8 + length s =
-        length-blockFrom (start s (only d 1) n) ∙ omega (arith, length-append s (only d 1 ∷ n), length-nonce (i + 1)) in
+    let from-start = length-blockFrom (start s (only d 1) n) in
+    let from-seed = length-append s (only d 1 ∷ n) in
+    let l : length b ≡ 8 + length s = from-start ∙ omega (arith, from-seed, length-nonce (i + 1)) in
     length-take-le 8 b (omega arith)
 
 back0 : (i : ℕ) (a b : List ℕ) (d : Bool) → xors ((node i a d) .seed) (xors ((node i a d) .seed) ((node i b d) .seed)) ≡ (node i b d) .seed
@@ -100,7 +101,8 @@ blockword-lt (a ∷ s) (b ∷ t) (suc i) = blockword-lt s t i
 
 pub in-bytes : (i : ℕ) (s : List ℕ) (d : Bool) → length s ≡ 8
     → (let b : List ℕ = bytesOf (block s (only d 1) (nodeNonce (i + 1))) in
-    (bytesOf ((node i s d) .seed) ≡ take 32 b) × (wordAt b 32 ≡ (node i s d) .word) × (odd (getD b 36 0) ≡ (node i s d) .flag))
+    let k : D.Child (List ℕ) = node i s d in
+    (bytesOf (k .seed) ≡ take 32 b) × (wordAt b 32 ≡ k .word) × (odd (getD b 36 0) ≡ k .flag))
 unfolding node child openedBlock block blockFrom odd le32
 in-bytes i s d h = (take-bytesOf 8 w, wordAt-bytesOf w 8 (omega (arith, long)) (blockword-lt _ _ 8), low-bit)
   where

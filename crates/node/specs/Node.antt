@@ -16,21 +16,21 @@ use Rattle.node.specs.declared.Walk.{Walk}
 unfoldable pub child : List ℕ → D.Child (List ℕ)
 child b = record { seed = take 8 b; word = getD b 8 0; flag = odd (getD b 9 0) }
 
--- the three words of the nonce under which a node is opened into its children. Their level counts from 1, the root's children, to 32.
+-- the three words of the nonce under which the children of a level are opened: 1 is the root's children, 32 the lowest.
 -- "nonce all zero", on every level
 unfoldable pub nodeNonce : ℕ → List ℕ
 nodeNonce level = 0 ∷ 0 ∷ 0 ∷ []
 
--- all that a law may know of the nonce
+-- what the laws know of it
 pub length-nonce : (level : ℕ) → length (nodeNonce level) ≡ 3
 unfolding nodeNonce
 length-nonce level = refl
 
--- "the ChaCha20 block under that seed": the child of a level that a counter opens
+-- "the ChaCha20 block under that seed", at a counter, which opens a child of that level
 unfoldable pub openedBlock : ℕ → List ℕ → ℕ → List ℕ
 openedBlock level seed counter = block seed counter (nodeNonce level)
 
--- "counter 0 for left and 1 for right". The comparison function counts the openings from 0: the one that it numbers i gives the children of level i + 1
+-- "counter 0 for left and 1 for right". The comparison function counts openings from 0, the root's: i gives level i + 1
 unfoldable pub node : ℕ → List ℕ → D.Opened (List ℕ)
 node i seed side = child (openedBlock (i + 1) seed (only side 1))
 
