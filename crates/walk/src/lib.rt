@@ -40,7 +40,7 @@ pub fn value(key: Key, seed: [u32; 8], party: u32, u: u32) -> u32
     while i < 32 {
         let c = corrections[i];
         let d = node::level_bit(u, i);
-        let level = (i + 1) as u32;
+        let level = i as u32 + 1;
         let s = w.seed;
         w = node::taken(w, c, d, chacha20::block(s, d, node::nonce(level)));
         i += 1;
@@ -91,7 +91,7 @@ pub fn values(key: Key, seed: [u32; 8], party: u32, u: u32, v: u32) -> Both
         let c = corrections[i];
         let d = node::level_bit(u, i);
         let e = node::level_bit(v, i);
-        let level = (i + 1) as u32;
+        let level = i as u32 + 1;
         w = both_taken(w, level, c, d, e);
         i += 1;
     }

@@ -24,11 +24,11 @@ array-copy-out-c c = search needs
 level-bit-requires : tie.Need-level-bit-requires Inv-loop μ-loop
 level-bit-requires c κs = search needs
 
-add-level : tie.Need-add-level Inv-loop μ-loop
-add-level c = search needs
-
 cast-level : tie.Need-cast-level Inv-loop μ-loop
 cast-level c = search needs
+
+add-level : tie.Need-add-level Inv-loop μ-loop
+add-level c = search needs
 
 nonce-requires : tie.Need-nonce-requires Inv-loop μ-loop
 nonce-requires c κs = search needs
@@ -78,8 +78,8 @@ value-spec =
     mul-c
     array-copy-out-c
     level-bit-requires
-    add-level
     cast-level
+    add-level
     nonce-requires
     block-requires
     taken-requires

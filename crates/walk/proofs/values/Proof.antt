@@ -28,11 +28,11 @@ level-bit-requires c κs = search needs
 level-bit-requires-2 : tie.Need-level-bit-requires-2 Inv-loop μ-loop
 level-bit-requires-2 c κs = search needs
 
-add-level : tie.Need-add-level Inv-loop μ-loop
-add-level c = search needs
-
 cast-level : tie.Need-cast-level Inv-loop μ-loop
 cast-level c = search needs
+
+add-level : tie.Need-add-level Inv-loop μ-loop
+add-level c = search needs
 
 both-taken-requires : tie.Need-both-taken-requires Inv-loop μ-loop
 both-taken-requires c κs = search needs
@@ -87,8 +87,8 @@ values-spec =
     array-copy-out-c
     level-bit-requires
     level-bit-requires-2
-    add-level
     cast-level
+    add-level
     both-taken-requires
     add-i
     loop-less
