@@ -18,7 +18,7 @@ use Rattle.rounds.specs.Rounds.{blockFrom}
 use Rattle.chacha20.specs.ChaCha20.{block}
 use Rattle.dcf.specs.Dcf as D
 use Rattle.node.specs.declared.Correction.{Correction}
-use Rattle.node.specs.Node.{child, node, first, packed, corrections, keyFor}
+use Rattle.node.specs.Node.{child, nodeNonce, openedBlock, node, first, packed, corrections, keyFor}
 use Rattle.node.specs.Claims.{seed-length, length-corrections, blockword-lt}
 
 -- each element is a word
@@ -37,9 +37,9 @@ block-below key counter nonce i = blockword-lt _ _ i
 
 -- ---- the xor of two children's seeds
 
-seed-below : (level : ℕ) (s : List ℕ) (d : Bool) → Below ((node level s d) .seed)
-unfolding node child
-seed-below level s d = take-below 8 (block s (only d 1) (0 ∷ 0 ∷ 0 ∷ [])) (block-below s (only d 1) (0 ∷ 0 ∷ 0 ∷ []))
+seed-below : (i : ℕ) (s : List ℕ) (d : Bool) → Below ((node i s d) .seed)
+unfolding node child openedBlock
+seed-below i s d = take-below 8 (openedBlock (i + 1) s (only d 1)) (block-below s (only d 1) (nodeNonce (i + 1)))
 
 length-xors : (a b : List ℕ) → length a ≡ length b → length (xors a b) ≡ length b
 unfolding xors zipWith

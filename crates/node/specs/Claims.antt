@@ -18,15 +18,19 @@ use Rattle.chacha20.specs.ChaCha20.{block, start, length-block}
 use Rattle.dcf.specs.Dcf as D
 use Rattle.dcf.specs.Comparison.{comparison, all-bits, walk-ext}
 use Rattle.node.specs.declared.Correction.{Correction}
-use Rattle.node.specs.Node.{child, node, first, packed, unpacked, corrections, keyFor, none, correctionAt, valueAt}
+use Rattle.node.specs.Node.{child, nodeNonce, length-nonce, openedBlock, node, first}
+use Rattle.node.specs.Node.{packed, unpacked, corrections, keyFor, none, correctionAt, valueAt}
 
 -- ---- a child's seed has eight words, whatever was opened
 
 pub seed-length : (i : ℕ) (s : List ℕ) (d : Bool) → length ((node i s d) .seed) ≡ 8
-unfolding node child block start
+unfolding node child openedBlock block start
 seed-length i s d =
-    let b : List ℕ = block s (only d 1) (0 ∷ 0 ∷ 0 ∷ []) in
-    let l : length b ≡ 8 + length s = length-blockFrom (start s (only d 1) (0 ∷ 0 ∷ 0 ∷ [])) ∙ omega (arith, length-append s (only d 1 ∷ 0 ∷ 0 ∷ 0 ∷ [])) in
+    let n : List ℕ = nodeNonce (i + 1) in
+    let b : List ℕ = block s (only d 1) n in
+    let from-start = length-blockFrom (start s (only d 1) n) in
+    let from-seed = length-append s (only d 1 ∷ n) in
+    let l : length b ≡ 8 + length s = from-start ∙ omega (arith, from-seed, length-nonce (i + 1)) in
     length-take-le 8 b (omega arith)
 
 back0 : (i : ℕ) (a b : List ℕ) (d : Bool) → xors ((node i a d) .seed) (xors ((node i a d) .seed) ((node i b d) .seed)) ≡ (node i b d) .seed
@@ -95,20 +99,21 @@ blockword-lt (a ∷ s) [] i = omega arith
 blockword-lt (a ∷ s) (b ∷ t) zero = add-lt a b
 blockword-lt (a ∷ s) (b ∷ t) (suc i) = blockword-lt s t i
 
-pub in-bytes : (level : ℕ) (s : List ℕ) (d : Bool) → length s ≡ 8
-    → (let b : List ℕ = bytesOf (block s (only d 1) (0 ∷ 0 ∷ 0 ∷ [])) in
-    (bytesOf ((node level s d) .seed) ≡ take 32 b) × (wordAt b 32 ≡ (node level s d) .word) × (odd (getD b 36 0) ≡ (node level s d) .flag))
-unfolding node child block blockFrom odd le32
-in-bytes level s d h =
-    let w : List ℕ = block s (only d 1) (0 ∷ 0 ∷ 0 ∷ []) in
-    let l : length w ≡ 16 = length-block s (only d 1) (0 ∷ 0 ∷ 0 ∷ []) h refl in
-    (take-bytesOf 8 w, wordAt-bytesOf w 8 (omega arith) (bounded 8), low-bit)
+pub in-bytes : (i : ℕ) (s : List ℕ) (d : Bool) → length s ≡ 8
+    → (let b : List ℕ = bytesOf (block s (only d 1) (nodeNonce (i + 1))) in
+    let k : D.Child (List ℕ) = node i s d in
+    (bytesOf (k .seed) ≡ take 32 b) × (wordAt b 32 ≡ k .word) × (odd (getD b 36 0) ≡ k .flag))
+unfolding node child openedBlock block blockFrom odd le32
+in-bytes i s d h = (take-bytesOf 8 w, wordAt-bytesOf w 8 (omega (arith, long)) (blockword-lt _ _ 8), low-bit)
   where
-    bounded : (i : ℕ) → getD (block s (only d 1) (0 ∷ 0 ∷ 0 ∷ [])) i 0 < 2 ^ 32
-    bounded i = blockword-lt _ _ i
+    w : List ℕ
+    w = block s (only d 1) (nodeNonce (i + 1))
+
+    long : length w ≡ 16
+    long = length-block s (only d 1) (nodeNonce (i + 1)) h (length-nonce (i + 1))
 
     low : (x : ℕ) → odd (x % 256) ≡ odd x
     low x = ap (λ (y : ℕ). eqb y 1) (let e : x % 256 % 2 ≡ x % 2 = omega arith in e)
 
-    low-bit : odd (getD (bytesOf (block s (only d 1) (0 ∷ 0 ∷ 0 ∷ []))) 36 0) ≡ odd (getD (block s (only d 1) (0 ∷ 0 ∷ 0 ∷ [])) 9 0)
-    low-bit = ap odd (getD-bytesOf (block s (only d 1) (0 ∷ 0 ∷ 0 ∷ [])) 36 (omega (arith, length-block s (only d 1) (0 ∷ 0 ∷ 0 ∷ []) h refl))) ∙ low (getD (block s (only d 1) (0 ∷ 0 ∷ 0 ∷ [])) 9 0)
+    low-bit : odd (getD (bytesOf w) 36 0) ≡ odd (getD w 9 0)
+    low-bit = ap odd (getD-bytesOf w 36 (omega (arith, long))) ∙ low (getD w 9 0)

@@ -1,8 +1,9 @@
 -- 01, "Node", "Key for a point" and "Value of a key at u", over ChaCha20 blocks and 32 levels: what the contracts of key making and walking cite.
 -- A seed of 32 bytes is its eight words. Assumes nothing.
+use mathlib.Core.Path.{_≡_, refl}
 use mathlib.Core.List.{List, [], _∷_, _++_}
 use Prim.Native.Nat.{ℕ, zero, suc, _+_, _*_, _/_}
-use lib.ListN.{getD, take}
+use lib.ListN.{length, getD, take}
 use Rattle.algebra.specs.Bit.{only, odd}
 use Rattle.words.specs.Xor.{xors}
 use Rattle.chacha20.specs.ChaCha20.{block}
@@ -15,9 +16,23 @@ use Rattle.node.specs.declared.Walk.{Walk}
 unfoldable pub child : List ℕ → D.Child (List ℕ)
 child b = record { seed = take 8 b; word = getD b 8 0; flag = odd (getD b 9 0) }
 
--- "the ChaCha20 block under that seed, nonce all zero, counter 0 for left and 1 for right", on every level
+-- the three words of the nonce under which the children of a level are opened: 1 is the root's children, 32 the lowest.
+-- "nonce all zero", on every level
+unfoldable pub nodeNonce : ℕ → List ℕ
+nodeNonce level = 0 ∷ 0 ∷ 0 ∷ []
+
+-- what the laws know of it
+pub length-nonce : (level : ℕ) → length (nodeNonce level) ≡ 3
+unfolding nodeNonce
+length-nonce level = refl
+
+-- "the ChaCha20 block under that seed", at a counter, which opens a child of that level
+unfoldable pub openedBlock : ℕ → List ℕ → ℕ → List ℕ
+openedBlock level seed counter = block seed counter (nodeNonce level)
+
+-- "counter 0 for left and 1 for right". The comparison function counts openings from 0, the root's: i gives level i + 1
 unfoldable pub node : ℕ → List ℕ → D.Opened (List ℕ)
-node level seed side = child (block seed (only side 1) (0 ∷ 0 ∷ 0 ∷ []))
+node i seed side = child (openedBlock (i + 1) seed (only side 1))
 
 -- "the first word of the seed"
 unfoldable pub first : List ℕ → ℕ

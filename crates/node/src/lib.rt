@@ -8,7 +8,7 @@ ghost use Rattle.algebra.specs.Bit.{only as onlyIf, odd};
 ghost use Rattle.words.specs.Xor.{xors};
 ghost use Rattle.rounds.specs.Rounds.{words};
 ghost use Rattle.dcf.specs.Dcf.{bySign, bits, sideFlag, corrected as correctedBy, taken as takenBy};
-ghost use Rattle.node.specs.Node.{child, unpacked, asWalk};
+ghost use Rattle.node.specs.Node.{child, nodeNonce, unpacked, asWalk};
 use rounds::State;
 
 // A level's correction. Of the flags, bit 0 is the left one and bit 1 the right one.
@@ -30,6 +30,13 @@ pub struct Walk {
     pub seed: [u32; 8],
     pub flag: u32,
     pub total: u32,
+}
+
+// The nonce under which the children of a level are opened: 1 for the root's children, to 32.
+pub fn nonce(level: u32) -> [u32; 3]
+    ensures { λ r. ⌜ r ≡ nodeNonce level ⌝ }
+{
+    [0, 0, 0]
 }
 
 // Sign × x, where the sign is -1 if the flag is set.

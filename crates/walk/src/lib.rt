@@ -2,11 +2,9 @@
 // opening only the side taken.
 ghost use mathlib.Core.Path.{_≡_};
 ghost use Rattle.algebra.specs.Bit.{odd};
-ghost use mathlib.Core.List.{[], _∷_};
-ghost use Rattle.chacha20.specs.ChaCha20.{block as blockOf};
 ghost use Rattle.words.specs.Xor.{xors};
 ghost use Rattle.dcf.specs.Dcf.{bySign, taken as takenBy, total as totalOf};
-ghost use Rattle.node.specs.Node.{child, node as nodeOf, first, unpacked, asWalk, valueAt};
+ghost use Rattle.node.specs.Node.{child, openedBlock, node as nodeOf, first, unpacked, asWalk, valueAt};
 use node::Correction;
 use node::Key;
 use node::Walk;
@@ -42,8 +40,9 @@ pub fn value(key: Key, seed: [u32; 8], party: u32, u: u32) -> u32
     while i < 32 {
         let c = corrections[i];
         let d = node::level_bit(u, i);
+        let level = i as u32 + 1;
         let s = w.seed;
-        w = node::taken(w, c, d, chacha20::block(s, d, [0; 3]));
+        w = node::taken(w, c, d, chacha20::block(s, d, node::nonce(level)));
         i += 1;
     }
     finished(w, key.last, party)
@@ -56,17 +55,18 @@ pub struct Walks {
 }
 
 // A level of both walks, to side d and to side e: two blocks at once.
-fn both_taken(w: Walks, c: Correction, d: u32, e: u32) -> Walks
-    ensures { λ r. ⌜ asWalk (r .a) ≡ takenBy xors (unpacked c) (odd d) (child (blockOf (w .a .seed) d (0 ∷ 0 ∷ 0 ∷ []))) (asWalk (w .a)) ⌝ }
-    ensures { λ r. ⌜ asWalk (r .b) ≡ takenBy xors (unpacked c) (odd e) (child (blockOf (w .b .seed) e (0 ∷ 0 ∷ 0 ∷ []))) (asWalk (w .b)) ⌝ }
+fn both_taken(w: Walks, level: u32, c: Correction, d: u32, e: u32) -> Walks
+    ensures { λ r. ⌜ asWalk (r .a) ≡ takenBy xors (unpacked c) (odd d) (child (openedBlock level (w .a .seed) d)) (asWalk (w .a)) ⌝ }
+    ensures { λ r. ⌜ asWalk (r .b) ≡ takenBy xors (unpacked c) (odd e) (child (openedBlock level (w .b .seed) e)) (asWalk (w .b)) ⌝ }
 {
+    let nonce = node::nonce(level);
     let a = w.a;
     let b = w.b;
     let s = a.seed;
     let t = b.seed;
     let blocks = pair::two_blocks(Two {
-        a: chacha20::start(s, d, [0; 3]),
-        b: chacha20::start(t, e, [0; 3]),
+        a: chacha20::start(s, d, nonce),
+        b: chacha20::start(t, e, nonce),
     });
     Walks {
         a: node::taken(a, c, d, blocks.a),
@@ -91,7 +91,8 @@ pub fn values(key: Key, seed: [u32; 8], party: u32, u: u32, v: u32) -> Both
         let c = corrections[i];
         let d = node::level_bit(u, i);
         let e = node::level_bit(v, i);
-        w = both_taken(w, c, d, e);
+        let level = i as u32 + 1;
+        w = both_taken(w, level, c, d, e);
         i += 1;
     }
     let a = w.a;

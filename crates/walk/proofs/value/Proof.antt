@@ -1,4 +1,4 @@
-use Rattle.walk.proofs.Levels.{starts, one-more, ends}
+use Rattle.walk.proofs.Levels.{opened, starts, one-more, ends}
 use Prim.Native.Nat.{_-_, _≤_}
 use mathlib.Core.Path.{_≡_, refl}
 use borrow.Author.Needs.{needs}
@@ -24,6 +24,15 @@ array-copy-out-c c = search needs
 level-bit-requires : tie.Need-level-bit-requires Inv-loop μ-loop
 level-bit-requires c κs = search needs
 
+cast-level : tie.Need-cast-level Inv-loop μ-loop
+cast-level c = search needs
+
+add-level : tie.Need-add-level Inv-loop μ-loop
+add-level c = search needs
+
+nonce-requires : tie.Need-nonce-requires Inv-loop μ-loop
+nonce-requires c κs = search needs
+
 block-requires : tie.Need-block-requires Inv-loop μ-loop
 block-requires c κs = search needs
 
@@ -37,18 +46,27 @@ loop-less : tie.Need-loop-less Inv-loop μ-loop
 loop-less c = search needs
 
 loop-again : tie.Need-loop-again Inv-loop μ-loop
-loop-again c = (
-  search needs,
-  one-more (c .before .before .before .before .before .before .before .before .args .party) (c .before .before .before .before .before .before .before .before .args .key) (c .before .before .before .before .before .before .before .before .args .seed) (c .before .before .before .before .before .before .before .before .args .u) (c .before .before .before .before .before .before .loop .i) _ (c .before .before .before .before .before .before .loop .w) (c .taken .result) _ _ (c .before .before .before .before .before .before .loop .inv .1) refl
-      (c .before .before .before .level-bit .ensures) (c .before .block .ensures) (c .taken .ensures),
-)
+loop-again c =
+    let at-block = c .before in
+    let at-nonce = at-block .before in
+    let at-level-bit = at-nonce .before .before in
+    let at-loop = at-level-bit .before .before .before in
+    let start = at-loop .before .before in (
+      search needs,
+      one-more (start .args .party) (start .args .key) (start .args .seed) (start .args .u) (at-loop .loop .i) _
+          (at-loop .loop .w) (c .taken .result) _ _ (at-loop .loop .inv .1) refl (at-level-bit .level-bit .ensures)
+          (opened _ _ _ _ _ (at-nonce .nonce .ensures) (at-block .block .ensures)) (c .taken .ensures),
+    )
 
 finished-requires : tie.Need-finished-requires Inv-loop μ-loop
 finished-requires c κs = search needs
 
 returns : tie.Need-returns Inv-loop μ-loop
 returns c =
-    ends (c .before .before .before .before .args .party) (c .before .before .before .before .args .key) (c .before .before .before .before .args .seed) (c .before .before .before .before .args .u) (c .before .before .loop .i) _ (c .before .before .loop .w) (search needs) (search needs) (c .before .before .loop .inv .1) (c .finished .ensures)
+    let at-loop = c .before .before in
+    let start = at-loop .before .before in
+    ends (start .args .party) (start .args .key) (start .args .seed) (start .args .u) (at-loop .loop .i) _
+    (at-loop .loop .w) (search needs) (search needs) (at-loop .loop .inv .1) (c .finished .ensures)
 
 pub value-spec : {M : Type 1} → statement M
 value-spec =
@@ -60,6 +78,9 @@ value-spec =
     mul-c
     array-copy-out-c
     level-bit-requires
+    cast-level
+    add-level
+    nonce-requires
     block-requires
     taken-requires
     add-i

@@ -28,6 +28,12 @@ level-bit-requires c κs = search needs
 level-bit-requires-2 : tie.Need-level-bit-requires-2 Inv-loop μ-loop
 level-bit-requires-2 c κs = search needs
 
+cast-level : tie.Need-cast-level Inv-loop μ-loop
+cast-level c = search needs
+
+add-level : tie.Need-add-level Inv-loop μ-loop
+add-level c = search needs
+
 both-taken-requires : tie.Need-both-taken-requires Inv-loop μ-loop
 both-taken-requires c κs = search needs
 
@@ -38,11 +44,19 @@ loop-less : tie.Need-loop-less Inv-loop μ-loop
 loop-less c = search needs
 
 loop-again : tie.Need-loop-again Inv-loop μ-loop
-loop-again c = (
-  search needs,
-  one-more (c .before .before .before .before .before .before .before .args .party) (c .before .before .before .before .before .before .before .args .key) (c .before .before .before .before .before .before .before .args .seed) (c .before .before .before .before .before .before .before .args .u) (c .before .before .before .before .before .loop .i) _ (c .before .before .before .before .before .loop .w .a) (c .both-taken .result .a) _ _ (c .before .before .before .before .before .loop .inv .1) refl (c .before .before .level-bit .ensures) refl (c .both-taken .ensures .0),
-  one-more (c .before .before .before .before .before .before .before .args .party) (c .before .before .before .before .before .before .before .args .key) (c .before .before .before .before .before .before .before .args .seed) (c .before .before .before .before .before .before .before .args .v) (c .before .before .before .before .before .loop .i) _ (c .before .before .before .before .before .loop .w .b) (c .both-taken .result .b) _ _ (c .before .before .before .before .before .loop .inv .2) refl (c .before .level-bit2 .ensures) refl (c .both-taken .ensures .1),
-)
+loop-again c =
+    let at-level-bit2 = c .before in
+    let at-level-bit = at-level-bit2 .before in
+    let at-loop = at-level-bit .before .before .before in
+    let start = at-loop .before .before in (
+      search needs,
+      one-more (start .args .party) (start .args .key) (start .args .seed) (start .args .u) (at-loop .loop .i) _
+          (at-loop .loop .w .a) (c .both-taken .result .a) _ _ (at-loop .loop .inv .1) refl
+          (at-level-bit .level-bit .ensures) refl (c .both-taken .ensures .0),
+      one-more (start .args .party) (start .args .key) (start .args .seed) (start .args .v) (at-loop .loop .i) _
+          (at-loop .loop .w .b) (c .both-taken .result .b) _ _ (at-loop .loop .inv .2) refl
+          (at-level-bit2 .level-bit2 .ensures) refl (c .both-taken .ensures .1),
+    )
 
 finished-requires : tie.Need-finished-requires Inv-loop μ-loop
 finished-requires c κs = search needs
@@ -51,10 +65,16 @@ finished-requires-2 : tie.Need-finished-requires-2 Inv-loop μ-loop
 finished-requires-2 c κs = search needs
 
 returns : tie.Need-returns Inv-loop μ-loop
-returns c = (
-  ends (c .before .before .before .before .before .before .before .args .party) (c .before .before .before .before .before .before .before .args .key) (c .before .before .before .before .before .before .before .args .seed) (c .before .before .before .before .before .before .before .args .u) (c .before .before .before .before .before .loop .i) _ (c .before .before .before .before .before .loop .w .a) (search needs) (search needs) (c .before .before .before .before .before .loop .inv .1) (c .before .finished .ensures),
-  ends (c .before .before .before .before .before .before .before .args .party) (c .before .before .before .before .before .before .before .args .key) (c .before .before .before .before .before .before .before .args .seed) (c .before .before .before .before .before .before .before .args .v) (c .before .before .before .before .before .loop .i) _ (c .before .before .before .before .before .loop .w .b) (search needs) (search needs) (c .before .before .before .before .before .loop .inv .2) (c .finished2 .ensures),
-)
+returns c =
+    let at-finished = c .before in
+    let at-a = at-finished .before .before in
+    let at-loop = at-a .before .before in
+    let start = at-loop .before .before in (
+      ends (start .args .party) (start .args .key) (start .args .seed) (start .args .u) (at-loop .loop .i) _
+          (at-loop .loop .w .a) (search needs) (search needs) (at-loop .loop .inv .1) (at-finished .finished .ensures),
+      ends (start .args .party) (start .args .key) (start .args .seed) (start .args .v) (at-loop .loop .i) _
+          (at-loop .loop .w .b) (search needs) (search needs) (at-loop .loop .inv .2) (c .finished2 .ensures),
+    )
 
 pub values-spec : {M : Type 1} → statement M
 values-spec =
@@ -67,6 +87,8 @@ values-spec =
     array-copy-out-c
     level-bit-requires
     level-bit-requires-2
+    cast-level
+    add-level
     both-taken-requires
     add-i
     loop-less
