@@ -197,21 +197,21 @@ opened-fits key name party last x e =
     content-fits name party _ (setNumber x) _ (passed _ (blocks .1) .0)
 
 -- at its phase k, which a call in turn has seen
-sound-at : (k : ℕ) (p : Party) → inTurn k p ≡ true → stateFits (p .party) k (p .set .code) (p .set .n) ≡ true
+sound-at : (k : ℕ) (p : Party) → inTurn k p ≡ true → stateFits (p .who .party) k (p .check .set .code) (p .check .set .n) ≡ true
 unfolding inTurn sound
 sound-at k p e =
-    let t = both (eqb (p .phase) k) _ e in
-    subst (λ i. stateFits (p .party) i (p .set .code) (p .set .n) ≡ true) (eqb-true _ _ (t .0)) (t .1)
+    let t = both (eqb (p .check .phase) k) _ e in
+    subst (λ i. stateFits (p .who .party) i (p .check .set .code) (p .check .set .n) ≡ true) (eqb-true _ _ (t .0)) (t .1)
 
-party-at : (p : Party) → sound p ≡ true → leb (p .party) 1 ≡ true
+party-at : (p : Party) → sound p ≡ true → leb (p .who .party) 1 ≡ true
 unfolding sound stateFits
-party-at p e = both (leb (p .party) 1) _ e .0
+party-at p e = both (leb (p .who .party) 1) _ e .0
 
 sound-loaded : (p : Party) (x : List ℕ) → whyNotLoad p x ≡ 0 → sound p ≡ true
-    → sound (BoxCalls.loaded p (openedSet (p .key) x)) ≡ true
-unfolding sound stateFits BoxCalls.loaded
+    → sound (BoxCalls.loaded p (openedSet (p .who .key) x)) ≡ true
+unfolding sound stateFits BoxCalls.loaded BoxCalls.opened
 sound-loaded p x e f =
-    ap₂ _&&_ (party-at p f) (opened-fits (p .key) (p .name) (p .party) (p .last) x (load-tells p x e .examined))
+    ap₂ _&&_ (party-at p f) (opened-fits (p .who .key) (p .who .name) (p .who .party) (p .last) x (load-tells p x e .examined))
 
 sound-masked : (p : Party) (v : List ℕ) (room : ℕ) → whyNotMask p v room ≡ 0 → sound (BoxCalls.masked p v) ≡ true
 unfolding whyNotMask sound stateFits BoxCalls.masked
@@ -219,11 +219,11 @@ sound-masked p v room e = sound-at 1 p (passed _ e .0)
 
 sound-worded : (p : Party) (l : Label) (name v : List ℕ) (w : ℕ) → whyNotTake p l name v ≡ 0
     → sound (BoxCalls.worded p w) ≡ true
-unfolding whyNotTake sound stateFits BoxCalls.worded
+unfolding whyNotTake BoxCalls.whyNotMessage sound stateFits BoxCalls.worded
 sound-worded p l name v w e = sound-at 2 p (passed _ e .0)
 
 sound-closed : (p : Party) → sound p ≡ true → sound (BoxCalls.closed p) ≡ true
-unfolding sound stateFits BoxCalls.closed idle noSet
+unfolding sound stateFits BoxCalls.closed idle BoxCalls.noCheck noSet
 sound-closed p f = ap₂ _&&_ (party-at p f) refl
 
 -- ---- an answer: what is new where nothing refuses, and what was there where something does
@@ -245,18 +245,18 @@ open-phase (suc k) f = omega arith
 
 module _ (S : Starts) where
   abbrev BoxAt : Box → List Event → Party → Type 0
-  BoxAt b h p = At (S .boxFloor b) b h (p .last) (p .phase) (p .set .number) × (sound p ≡ true)
+  BoxAt b h p = At (S .boxFloor b) b h (p .last) (p .check .phase) (p .check .set .number) × (sound p ≡ true)
 
   module _ (b : Box) (h : List Event) (p : Party) (a : BoxAt b h p) where
-    at-phase : (k : ℕ) → p .phase ≡ k → At (S .boxFloor b) b h (p .last) k (p .set .number)
-    at-phase k e = subst (λ i. At (S .boxFloor b) b h (p .last) i (p .set .number)) e (a .0)
+    at-phase : (k : ℕ) → p .check .phase ≡ k → At (S .boxFloor b) b h (p .last) k (p .check .set .number)
+    at-phase k e = subst (λ i. At (S .boxFloor b) b h (p .last) i (p .check .set .number)) e (a .0)
 
     box-away : (e : Event) → Away b e → BoxAt b (e ∷ h) p
-    box-away e f = (at-away (S .boxFloor b) b h (p .last) e f (p .phase) (p .set .number) (a .0), a .1)
+    box-away e f = (at-away (S .boxFloor b) b h (p .last) e f (p .check .phase) (p .check .set .number) (a .0), a .1)
 
     box-loaded : (x : List ℕ) → whyNotLoad p x ≡ 0
-        → BoxAt b (loaded b (setNumber x) ∷ h) (BoxCalls.loaded p (openedSet (p .key) x))
-    unfolding BoxCalls.loaded openedSet setIn
+        → BoxAt b (loaded b (setNumber x) ∷ h) (BoxCalls.loaded p (openedSet (p .who .key) x))
+    unfolding BoxCalls.loaded BoxCalls.opened openedSet setIn
     box-loaded x e =
         let tells = load-tells p x e in (
           at-loaded (S .boxFloor b) b h (p .last) _ (setNumber x) (at-phase 0 (tells .turn)) (tells .above),
@@ -264,31 +264,31 @@ module _ (S : Starts) where
         )
 
     box-masked : (v y : List ℕ) (room : ℕ) → whyNotMask p v room ≡ 0
-        → BoxAt b (sent b (p .set .number) (vector v y) ∷ h) (BoxCalls.masked p v)
+        → BoxAt b (sent b (p .check .set .number) (vector v y) ∷ h) (BoxCalls.masked p v)
     unfolding BoxCalls.masked
     box-masked v y room e =
         let at-1 = at-phase 1 (mask-tells p v room e .turn) in
         (at-masked (S .boxFloor b) b h (p .last) _ v y at-1, sound-masked p v room e)
 
     box-worded : (l : Label) (name v : List ℕ) (w u : ℕ) → whyNotTake p l name v ≡ 0
-        → BoxAt b (sent b (p .set .number) (word u) ∷ h) (BoxCalls.worded p w)
+        → BoxAt b (sent b (p .check .set .number) (word u) ∷ h) (BoxCalls.worded p w)
     unfolding BoxCalls.worded
     box-worded l name v w u e =
         let at-2 = at-phase 2 (take-tells p l name v e .turn) in
         (at-worded (S .boxFloor b) b h (p .last) _ u at-2, sound-worded p l name v w e)
 
     box-answered : (l : Label) (name : List ℕ) (u : ℕ) → whyNotFinish p l name ≡ 0
-        → BoxAt b (sent b (p .set .number) (answer u) ∷ h) (BoxCalls.closed p)
-    unfolding BoxCalls.closed idle noSet
+        → BoxAt b (sent b (p .check .set .number) (answer u) ∷ h) (BoxCalls.closed p)
+    unfolding BoxCalls.closed idle BoxCalls.noCheck noSet
     box-answered l name u e =
         let at-3 = at-phase 3 (finish-tells p l name e .turn) in
         (at-answered (S .boxFloor b) b h (p .last) _ u at-3, sound-closed p (a .1))
 
     box-dropped : whyNotDrop p ≡ 0 → BoxAt b (dropped b ∷ h) (BoxCalls.closed p)
-    unfolding BoxCalls.closed idle noSet
+    unfolding BoxCalls.closed idle BoxCalls.noCheck noSet
     box-dropped e =
-        let some = open-phase (p .phase) (drop-tells p e) in
-        (at-dropped (S .boxFloor b) b h (p .last) (p .phase) _ some (a .0), sound-closed p (a .1))
+        let some = open-phase (p .check .phase) (drop-tells p e) in
+        (at-dropped (S .boxFloor b) b h (p .last) (p .check .phase) _ some (a .0), sound-closed p (a .1))
 
   -- ---- the four states
 
@@ -305,7 +305,7 @@ module _ (S : Starts) where
     lock-at : LockAt h (w .lock)
 
   all-start : Started S → AllAt [] (beginning S)
-  unfolding DealerCalls.startDealer BoxCalls.startParty LockCalls.startLock idle noSet sound stateFits
+  unfolding DealerCalls.startDealer BoxCalls.startParty LockCalls.startLock idle BoxCalls.noCheck noSet sound stateFits
   all-start f =
       record {
         dealer-at = rw (new _ _ _ (f .dealer-taken)) (refl, tt);
@@ -375,13 +375,13 @@ module _ (S : Starts) where
 
 -- ---- what that tells
 
-drops : (p : Party) → sound p ≡ true → 1 ≤ p .phase → whyNotDrop p ≡ 0
+drops : (p : Party) → sound p ≡ true → 1 ≤ p .check .phase → whyNotDrop p ≡ 0
 unfolding whyNotDrop unless
-drops p f some = rw (ne-eqb (p .phase) 0 (λ e. omega (arith, some, e)), f) refl
+drops p f some = rw (ne-eqb (p .check .phase) 0 (λ e. omega (arith, some, e)), f) refl
 
-drops-not : (p : Party) → p .phase ≡ 0 → whyNotDrop p ≡ 3
+drops-not : (p : Party) → p .check .phase ≡ 0 → whyNotDrop p ≡ 3
 unfolding whyNotDrop unless
-drops-not p e = rw (eq-eqb (p .phase) 0 e) refl
+drops-not p e = rw (eq-eqb (p .check .phase) 0 e) refl
 
 module _ (floor : ℕ) (b : Box) (h : List Event) (last : ℕ) where
   some-open : (phase m : ℕ) → At floor b h last phase m → 1 ≤ openSets b h → 1 ≤ phase

@@ -26,7 +26,7 @@ pub record Numbers (s : Starts) (h : List Event) (w : World) : Type 0 where
   pub joins-rise : Rise (s .lockFloor) (collect joinsIn h)
   -- a box has one set open or none, and at phase 0 none
   pub one-open : (b : Box) → openSets b h ≤ 1
-  pub none-open : (b : Box) → (w .box b .phase ≡ 0) ↔ (openSets b h ≡ 0)
+  pub none-open : (b : Box) → (w .box b .check .phase ≡ 0) ↔ (openSets b h ≡ 0)
   -- "Drop ends the open set", and is refused 3 "with no open set"
   pub drop-taken : (b : Box) → 1 ≤ openSets b h → step w (drop b) .event ≡ dropped b
   pub drop-refused : (b : Box) → openSets b h ≡ 0 → step w (drop b) .event ≡ refused 3
