@@ -7,6 +7,7 @@ use lib.ListN.{getD}
 use Rattle.words.specs.Bytes.{wordsAt}
 use Rattle.keystream.specs.Keystream.{stream}
 use Rattle.node.specs.Node.{keyFor}
+use Rattle.measure.specs.declared.Terms.{Terms}
 use Rattle.share.specs.Share.{plus, otherC, otherR}
 use Rattle.content.specs.declared.Set.{Set}
 use Rattle.content.specs.Content.{part, fill}
@@ -52,22 +53,22 @@ module _ (n : ℕ) (w : List ℕ) where
   unfoldable pub rOf : ℕ → ℕ → ℕ
   rOf t party = cond (eqb party 0) r0 (otherR r t r0)
 
-  -- the set that a party gets, for a number, a code and a threshold
-  unfoldable pub setFrom : ℕ → ℕ → ℕ → ℕ → Set
-  setFrom number code t party =
-      record {
-        number = number;
-        code = code;
-        n = n;
-        mask = fill (ownMask party);
-        x = fill (x party);
-        y = fill (y party);
-        c = cOf party;
-        r = rOf t party;
-        seed = keySeed party;
-        key = keyFor (keySeed 0) (keySeed 1) r;
-      }
+-- the set that a party gets from the words, for a number, the terms and a threshold
+unfoldable pub setFrom : List ℕ → ℕ → Terms → ℕ → ℕ → Set
+setFrom w number terms t party =
+    let n : ℕ = terms .n in
+    record {
+      number = number;
+      terms = terms;
+      mask = fill (ownMask n w party);
+      x = fill (x n w party);
+      y = fill (y n w party);
+      c = cOf n w party;
+      r = rOf n w t party;
+      seed = keySeed n w party;
+      key = keyFor (keySeed n w 0) (keySeed n w 1) (r n w);
+    }
 
 -- what a deal gives a party
-unfoldable pub dealtSet : List ℕ → ℕ → ℕ → ℕ → ℕ → ℕ → Set
-dealtSet seed number code n t party = setFrom n (setWords seed n) number code t party
+unfoldable pub dealtSet : List ℕ → ℕ → Terms → ℕ → ℕ → Set
+dealtSet seed number terms t party = setFrom (setWords seed (terms .n)) number terms t party
