@@ -15,9 +15,9 @@ use Rattle.messages.specs.Laws.{unless-false, unless-true, turned-down, goes-on
 use Rattle.content.specs.declared.Set.{Set}
 use Rattle.content.specs.Content.{mostElements, blockBytes, blockCount, lengthFits, Proper}
 use Rattle.content.specs.Laws.{blocks-bounds, length-fits}
-use Rattle.dealing.specs.Dealing.{setFrom, dealtSet}
+use Rattle.dealing.specs.Dealing.{Deal, dealFrom, setFrom, dealtSet}
 use Rattle.half.specs.Half.{half}
-use Rattle.dealer.specs.Dealer.{noDealer, whyNotDealer, startDealer, Deal, halfSize, whyNotDeal, keyOf, halfFor, deal, dealOut}
+use Rattle.dealer.specs.Dealer.{noDealer, whyNotDealer, startDealer, halfSize, whyNotDeal, keyOf, halfFor, deal, dealOut}
 use Rattle.dealer.specs.Laws.{DealTells, dealt-proper}
 use Rattle.dealer.specs.declared.Dealer.{Dealer}
 use Rattle.dealer.specs.declared.DealerAnswer.{DealerAnswer}
@@ -128,9 +128,10 @@ module _ {last long : ℕ} (s : Dealer) (d : Deal) (el : s .last ≡ last) (es :
 -- ---- the two halves
 
 module _ (s : Dealer) (d : Deal) (room0 room1 : ℕ) (a : DealTells s d room0 room1)
-    (party : ℕ) (seed : List ℕ) (es : seed ≡ d .seed) (set : Set) (e : set ≡ dealtSet seed (d .number) (d .terms) (d .t) party) where
-  is-dealt : set ≡ dealtSet (d .seed) (d .number) (d .terms) (d .t) party
-  is-dealt = e ∙ ap (λ (l : List ℕ). dealtSet l (d .number) (d .terms) (d .t) party) es
+    (party : ℕ) (seed : List ℕ) (es : seed ≡ d .seed) (set : Set)
+    (e : set ≡ dealtSet (dealFrom (d .number) seed (d .terms) (d .t)) party) where
+  is-dealt : set ≡ dealtSet d party
+  is-dealt = e ∙ ap (λ (l : List ℕ). dealtSet (dealFrom (d .number) l (d .terms) (d .t)) party) es
 
   -- what writing a half asks
   pub half-asks : (room : ℕ) → halfSize (d .terms .n) ≤ room → d .number < 2 ^ 64 → party ≤ 1 → ((party < 256) × (blockBytes * blockCount (set .terms .n) ≤ room)) × Proper set

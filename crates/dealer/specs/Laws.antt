@@ -12,9 +12,9 @@ use Rattle.messages.specs.Messages.{nameFits, isKey}
 use Rattle.messages.specs.Laws.{passed}
 use Rattle.content.specs.Content.{mostElements, Proper}
 use Rattle.content.specs.Laws.{length-fits}
-use Rattle.dealing.specs.Dealing.{dealtSet}
+use Rattle.dealing.specs.Dealing.{Deal, dealtSet}
 use Rattle.dealing.specs.Laws.{proper}
-use Rattle.dealer.specs.Dealer.{whyNotDealer, Deal, halfSize, whyNotDeal}
+use Rattle.dealer.specs.Dealer.{whyNotDealer, halfSize, whyNotDeal}
 use Rattle.dealer.specs.declared.Dealer.{Dealer}
 
 -- ---- start
@@ -68,5 +68,5 @@ deal-tells s d room0 room1 h =
 
 -- what an accepted deal gives each party
 pub dealt-proper : (s : Dealer) (d : Deal) (room0 room1 party : ℕ) → DealTells s d room0 room1 → d .number < 2 ^ 64 → party ≤ 1
-    → Proper (dealtSet (d .seed) (d .number) (d .terms) (d .t) party)
-dealt-proper s d room0 room1 party a number low = proper _ _ _ _ _ number (a .code-fits) (a .some) (a .most) low
+    → Proper (dealtSet d party)
+dealt-proper s d room0 room1 party a number low = proper d party number (a .code-fits) (a .some) (a .most) low

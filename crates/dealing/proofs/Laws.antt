@@ -19,7 +19,7 @@ use Rattle.content.specs.declared.Set.{Set}
 use Rattle.content.specs.Content.{mostElements, part, fill}
 use Rattle.content.specs.Laws.{fill-rest, fill-over}
 use Rattle.content.specs.Pieces.{length-part}
-use Rattle.dealing.specs.Dealing.{setWords, x, y, c0, r, r0, keySeed, maskX, maskY, ownMask, cOf, rOf, setFrom}
+use Rattle.dealing.specs.Dealing.{setWords, x, y, c0, r, r0, keySeed, maskX, maskY, ownMask, cOf, dealFrom, rOf, setFrom}
 use Rattle.dealing.specs.Laws.{other-c-fill}
 
 -- ---- copies
@@ -123,9 +123,9 @@ module _ (terms : Terms) where
         → camera ≡ setWith 0 number terms w mx (getD w (4 * n) 0) (getD w (4 * n + 2) 0) key
         → c1 ≡ otherC n mx my (getD w (4 * n) 0) → r1 ≡ otherR (getD w (4 * n + 1) 0) t (getD w (4 * n + 2) 0)
         → office ≡ setWith 1 number terms w my c1 r1 key
-        → (camera ≡ setFrom w number terms t 0) × (office ≡ setFrom w number terms t 1)
+        → (seed : List ℕ) → (camera ≡ setFrom (dealFrom number seed terms t) w 0) × (office ≡ setFrom (dealFrom number seed terms t) w 1)
     unfolding setFrom ownMask cOf rOf c0 r r0
-    sets-law camera office c1 r1 e ec er f =
+    sets-law camera office c1 r1 e ec er f seed =
         let first : ℕ = getD w (4 * n) 0 in
         let is-c1 : c1 ≡ otherC n (maskX n w) (maskY n w) first =
         ec ∙ ap₂ (λ (a b : List ℕ). otherC n a b first) is-x is-y ∙ other-c-fill n (maskX n w) (maskY n w) first in (

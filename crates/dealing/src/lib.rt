@@ -1,11 +1,12 @@
 // Deals a set (01, "Dealing a set"): from the set seed's key stream to what each party's half holds.
 // The words that are drawn stand in one array, in 01's order, and are read from there by their place.
 ghost use mathlib.Core.Path.{_≡_};
-ghost use Prim.Native.Nat.{_+_, _*_, _≤_};
+ghost use mathlib.Core.List.{List};
+ghost use Prim.Native.Nat.{ℕ, _+_, _*_, _≤_};
 ghost use lib.ListN.{length, take};
 ghost use Rattle.share.specs.Share.{plus};
 ghost use Rattle.content.specs.Content.{mostElements, part, fill};
-ghost use Rattle.dealing.specs.Dealing.{setWords, x as shareX, y as shareY, keySeed, setFrom, dealtSet};
+ghost use Rattle.dealing.specs.Dealing.{setWords, x as shareX, y as shareY, keySeed, dealFrom, setFrom, dealtSet};
 use content::Set;
 use measure::MOST_ELEMENTS;
 use measure::Terms;
@@ -86,7 +87,17 @@ fn set_for(
     key: Key,
 ) -> Set
     requires { ⌜ (party ≤ 1) × (terms .n ≤ mostElements) × (4 * terms .n + 19 ≤ length (now w)) ⌝ }
-    ensures { λ s. ⌜ s ≡ record { number = number; terms = terms; mask = mask; x = fill (shareX (terms .n) (now (w .entry)) party); y = fill (shareY (terms .n) (now (w .entry)) party); c = c; r = r; seed = keySeed (terms .n) (now (w .entry)) party; key = key } ⌝ }
+    ensures { λ s. ⌜ s ≡ record {
+      number = number;
+      terms = terms;
+      mask = mask;
+      x = fill (shareX (terms .n) (now (w .entry)) party);
+      y = fill (shareY (terms .n) (now (w .entry)) party);
+      c = c;
+      r = r;
+      seed = keySeed (terms .n) (now (w .entry)) party;
+      key = key;
+    } ⌝ }
 {
     let n = terms.n;
     let x = words_from(w, party * n, n);
@@ -105,10 +116,11 @@ fn set_for(
     }
 }
 
-// Both parties' sets, from the words that were drawn. They hold one key.
+// Both parties' sets, from the words that were drawn from any seed. They hold one key.
 fn sets_from(w: &[u32], number: u64, terms: Terms, t: u32) -> Dealt
     requires { ⌜ (terms .n ≤ mostElements) × (4 * terms .n + 19 ≤ length (now w)) ⌝ }
-    ensures { λ s. ⌜ (s .camera ≡ setFrom (now (w .entry)) number terms t 0) × (s .office ≡ setFrom (now (w .entry)) number terms t 1) ⌝ }
+    ensures { λ s. ⌜ ((seed : List ℕ) → (s .camera ≡ setFrom (dealFrom number seed terms t) (now (w .entry)) 0)
+        × (s .office ≡ setFrom (dealFrom number seed terms t) (now (w .entry)) 1)) ⌝ }
 {
     let n = terms.n;
     let mask_x = mask(w, 0, n);
@@ -129,7 +141,8 @@ fn sets_from(w: &[u32], number: u64, terms: Terms, t: u32) -> Dealt
 // Both parties' sets of a deal.
 pub fn sets(seed: &[u8; 32], number: u64, terms: Terms, t: u32) -> Dealt
     requires { ⌜ terms .n ≤ mostElements ⌝ }
-    ensures { λ s. ⌜ (s .camera ≡ dealtSet (now (seed .entry)) number terms t 0) × (s .office ≡ dealtSet (now (seed .entry)) number terms t 1) ⌝ }
+    ensures { λ s. ⌜ (s .camera ≡ dealtSet (dealFrom number (now (seed .entry)) terms t) 0)
+        × (s .office ≡ dealtSet (dealFrom number (now (seed .entry)) terms t) 1) ⌝ }
 {
     let n = terms.n;
     let w = draw(seed, n);

@@ -10,22 +10,21 @@ use borrow.Author.Tests.{ltb-true, leb-true}
 use Rattle.algebra.specs.Bit.{both}
 use Rattle.words.specs.List.{same}
 use Rattle.node.specs.declared.Correction.{Correction}
-use Rattle.measure.specs.declared.Terms.{Terms}
 use Rattle.measure.specs.Measure.{isCode}
 use Rattle.measure.specs.Laws.{code-lt}
 use Rattle.messages.specs.Laws.{passed, taken}
 use Rattle.content.specs.declared.Set.{Set}
 use Rattle.content.specs.Content.{mostElements, size, blockCount, field, setIn, noSet, lengthFits, flagsFit, zeros, contentFits, FlagBytes, Proper}
-use Rattle.dealing.specs.Dealing.{dealtSet}
+use Rattle.dealing.specs.Dealing.{Deal, dealtSet}
 use Rattle.dealing.specs.Laws.{proper}
 use Rattle.opening.specs.declared.Examined.{Examined}
 use Rattle.half.specs.Half.{whyNot, whyNotOpened, openedSet}
 use Rattle.opening.specs.Examined.{answerFor, examined}
 
-pub dealt-proper : (seed : List ℕ) (number : ℕ) (terms : Terms) (t party : ℕ) (s : Set) → s ≡ dealtSet seed number terms t party
-    → number < 2 ^ 64 → isCode (terms .code) ≡ true → 1 ≤ terms .n → terms .n ≤ mostElements → party ≤ 1 → Proper s
-dealt-proper seed number terms t party s e hnumber hcode some most hparty =
-    subst Proper (sym e) (proper seed number terms t party hnumber hcode some most hparty)
+pub dealt-proper : (d : Deal) (party : ℕ) (s : Set) → s ≡ dealtSet d party → d .number < 2 ^ 64 → isCode (d .terms .code) ≡ true
+    → 1 ≤ d .terms .n → d .terms .n ≤ mostElements → party ≤ 1 → Proper s
+dealt-proper d party s e hnumber hcode some most hparty =
+    subst Proper (sym e) (proper d party hnumber hcode some most hparty)
 
 -- ---- what laying a set out asks of it
 

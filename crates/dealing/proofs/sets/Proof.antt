@@ -27,7 +27,9 @@ sets-from-requires c κs = (search needs, omega (arith, length-take-le (4 * c .b
 
 returns : tie.Need-returns
 unfolding dealtSet
-returns c = rw (c .before .before .draw .ensures) at (c .sets-from .ensures)
+returns c =
+    let at-draw = c .before .before in
+    rw (at-draw .draw .ensures) at (c .sets-from .ensures (at-draw .before .args .seed .now))
 
 pub sets-spec : {M : Type 1} → statement M
 sets-spec =

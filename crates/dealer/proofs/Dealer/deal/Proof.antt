@@ -1,5 +1,5 @@
 use mathlib.Core.Path.{refl}
-use Rattle.dealer.specs.Dealer.{dealFrom}
+use Rattle.dealing.specs.Dealing.{dealFrom}
 use Rattle.dealer.proofs.Laws.{none, deal-refused, dealt}
 use borrow.Author.Needs.{needs}
 use Rattle.dealer.proofs.Dealer.deal.Statement.{statement}
