@@ -17,9 +17,26 @@ use Rattle.content.specs.declared.Set.{Set}
 unfoldable pub part : ℕ → ℕ → List ℕ → List ℕ
 part at n l = take n (drop at l)
 
--- an array of 512 words, "zero-filled past L"
+-- the most elements of a vector, and so the places of an array of its words (01, "Forms by place": "fixed arrays of 512 words")
+abbrev pub mostElements : ℕ
+mostElements = 512
+
+-- "A block is 512 bytes", "484 sealed bytes" among them; "a half 3 to 16 whole blocks"; and what all these hold
+abbrev pub blockBytes : ℕ
+blockBytes = 512
+
+abbrev pub textBytes : ℕ
+textBytes = 484
+
+abbrev pub mostBlocks : ℕ
+mostBlocks = 16
+
+abbrev pub roomBytes : ℕ
+roomBytes = mostBlocks * textBytes
+
+-- an array of a vector's words, "zero-filled past L"
 unfoldable pub fill : List ℕ → List ℕ
-fill l = l ++ replicate (512 - length l) 0
+fill l = l ++ replicate (mostElements - length l) 0
 
 -- ---- the layout
 
@@ -31,7 +48,7 @@ correctionBytes c = bytesOf (c .seed) ++ (le32 (c .word) ++ (c .flags ∷ []))
 -- its c and r words, key seed, 32 corrections of 37 bytes (..), final word": the fields, and how many bytes each has
 unfoldable pub fields : List ℕ → ℕ → Set → List (List ℕ)
 fields name party s =
-    name ∷ (party ∷ []) ∷ (s .code ∷ []) ∷ bytes 2 (s .n) ∷ bytesOf (take (s .n) (s .mask)) ∷ bytesOf (take (s .n) (s .x)) ∷ bytesOf (take (s .n) (s .y)) ∷ le32 (s .c)
+    name ∷ (party ∷ []) ∷ (s .terms .code ∷ []) ∷ bytes 2 (s .terms .n) ∷ bytesOf (take (s .terms .n) (s .mask)) ∷ bytesOf (take (s .terms .n) (s .x)) ∷ bytesOf (take (s .terms .n) (s .y)) ∷ le32 (s .c)
     ∷ le32 (s .r) ∷ bytesOf (s .seed) ∷ flat (map correctionBytes (s .key .corrections)) ∷ le32 (s .key .last) ∷ []
 
 unfoldable pub widths : ℕ → List ℕ
@@ -42,10 +59,10 @@ unfoldable pub size : ℕ → ℕ
 size n = 1248 + 12 * n
 
 unfoldable pub blockCount : ℕ → ℕ
-blockCount n = (size n + 483) / 484
+blockCount n = (size n + textBytes - 1) / textBytes
 
 unfoldable pub plain : List ℕ → ℕ → Set → List ℕ
-plain name party s = flat (fields name party s) ++ replicate (484 * blockCount (s .n) - size (s .n)) 0
+plain name party s = flat (fields name party s) ++ replicate (textBytes * blockCount (s .terms .n) - size (s .terms .n)) 0
 
 -- ---- read back
 
@@ -77,8 +94,7 @@ setIn set b =
     let n : ℕ = lengthIn b in
     record {
       number = set;
-      code = getD (field b 2) 0 0;
-      n = n;
+      terms = record { code = getD (field b 2) 0 0; n = n };
       mask = fill (wordsAt n (field b 4));
       x = fill (wordsAt n (field b 5));
       y = fill (wordsAt n (field b 6));
@@ -96,11 +112,10 @@ unfoldable pub noSet : Set
 noSet =
     record {
       number = 0;
-      code = 0;
-      n = 0;
-      mask = replicate 512 0;
-      x = replicate 512 0;
-      y = replicate 512 0;
+      terms = record { code = 0; n = 0 };
+      mask = replicate mostElements 0;
+      x = replicate mostElements 0;
+      y = replicate mostElements 0;
       c = 0;
       r = 0;
       seed = replicate 8 0;
@@ -110,7 +125,7 @@ noSet =
 -- ---- 01's eleventh refusal: "Opened content has another name or party, a code, L or flag byte out of range, a block count that doesn't fit L, or non-zero fill"
 
 unfoldable pub lengthFits : ℕ → Bool
-lengthFits n = leb 1 n && leb n 512
+lengthFits n = leb 1 n && leb n mostElements
 
 unfoldable pub flagsFit : List Correction → Bool
 flagsFit [] = true
@@ -124,7 +139,7 @@ zeros (x ∷ l) = eqb x 0 && zeros l
 unfoldable pub contentFits : List ℕ → ℕ → ℕ → List ℕ → Bool
 contentFits name party count b =
     let s : Set = setIn 0 b in
-    same (field b 0) name && (eqb (getD (field b 1) 0 0) party && (isCode (s .code) && (lengthFits (s .n) && (eqb (blockCount (s .n)) count && (flagsFit (s .key .corrections) && zeros (drop (size (s .n)) b))))))
+    same (field b 0) name && (eqb (getD (field b 1) 0 0) party && (isCode (s .terms .code) && (lengthFits (s .terms .n) && (eqb (blockCount (s .terms .n)) count && (flagsFit (s .key .corrections) && zeros (drop (size (s .terms .n)) b))))))
 
 -- ---- a set as a deal makes it: what lies in the ranges of its fields
 
@@ -146,12 +161,12 @@ FlagBytes l = (i : ℕ) → i < length l → getD l i noCorrection .flags < 256
 
 pub record Proper (s : Set) : Type 0 where
   pub number-fits : s .number < 2 ^ 64
-  pub code-fits : isCode (s .code) ≡ true
-  pub some : 1 ≤ s .n
-  pub most : s .n ≤ 512
-  pub masked : Filled (s .n) (s .mask)
-  pub x-filled : Filled (s .n) (s .x)
-  pub y-filled : Filled (s .n) (s .y)
+  pub code-fits : isCode (s .terms .code) ≡ true
+  pub some : 1 ≤ s .terms .n
+  pub most : s .terms .n ≤ mostElements
+  pub masked : Filled (s .terms .n) (s .mask)
+  pub x-filled : Filled (s .terms .n) (s .x)
+  pub y-filled : Filled (s .terms .n) (s .y)
   pub c-fits : s .c < 2 ^ 32
   pub r-fits : s .r < 2 ^ 32
   pub seed-fits : Words 8 (s .seed)

@@ -4,7 +4,7 @@ use mathlib.Core.Bool.{true, _&&_}
 use mathlib.Core.List.{List, [], _∷_, _++_, map, append-nil}
 use Prim.Native.Nat.{ℕ, zero, suc, _+_, _*_, _-_, _^_, _<_, _≤_}
 use native.Mathlib.Omega.{arith}
-use borrow.Author.Tests.{eq-eqb, eqb-true, le-leb, leb-true, lt-ltb, ltb-true}
+use borrow.Author.Tests.{eq-eqb, eqb-true, le-leb, leb-true, lt-ltb}
 use lib.Dec.{eqb}
 use lib.ListN.{length, getD, take, drop, replicate, length-append, length-replicate, length-map}
 use lib.Seq.{take-at, drop-at, take-suc, take-all, getD-take, getD-drop, take-append-add}
@@ -14,21 +14,22 @@ use Rattle.words.specs.List.{over, same, same-refl, drop-replicate, over-zeros,
 use Rattle.words.specs.Bytes.{le32, bytesOf, wordAt, wordsAt, length-bytesOf}
 use Rattle.node.specs.declared.Correction.{Correction}
 use Rattle.measure.specs.Measure.{isCode}
+use Rattle.measure.specs.Laws.{code-lt}
 use Rattle.content.specs.declared.Set.{Set}
-use Rattle.content.specs.Content.{part, fill, correctionBytes, fields, widths, size, blockCount, plain, cut, lengthIn, field, correctionIn, correctionsIn, setIn, noCorrection, lengthFits, flagsFit, zeros, contentFits, Words, Filled, Corrections, FlagBytes, Proper}
+use Rattle.content.specs.Content.{mostElements, textBytes, mostBlocks, roomBytes, part, fill, correctionBytes, fields, widths, size, blockCount, plain, cut, lengthIn, field, correctionIn, correctionsIn, setIn, noCorrection, lengthFits, flagsFit, zeros, contentFits, Words, Filled, Corrections, FlagBytes, Proper}
 use Rattle.content.specs.Pieces.{offset, length-flat, cut-flat, cut-at, part-flat, take-replicate, wordAt-past, getD-past, length-even, wordsAt-bytesOf, words-back, wordAt-le32}
 
 -- ---- sizes
 
-pub blocks-bounds : (n : ℕ) → 1 ≤ n → n ≤ 512 → (3 ≤ blockCount n) × (blockCount n ≤ 16)
+pub blocks-bounds : (n : ℕ) → 1 ≤ n → n ≤ mostElements → (3 ≤ blockCount n) × (blockCount n ≤ mostBlocks)
 unfolding blockCount size
 blocks-bounds n h k = (omega arith, omega arith)
 
-pub size-le : (n : ℕ) → size n ≤ 484 * blockCount n
+pub size-le : (n : ℕ) → size n ≤ textBytes * blockCount n
 unfolding blockCount size
 size-le n = omega arith
 
-pub length-fits : (n : ℕ) → lengthFits n ≡ true → (1 ≤ n) × (n ≤ 512)
+pub length-fits : (n : ℕ) → lengthFits n ≡ true → (1 ≤ n) × (n ≤ mostElements)
 unfolding lengthFits
 length-fits n h =
     let parts = both _ _ h in
@@ -37,18 +38,18 @@ length-fits n h =
 -- ---- an array of n words
 
 -- n words and the rest of an array of zeros ..
-pub fill-rest : (l a : List ℕ) (n : ℕ) → length l ≡ n → n ≤ 512 → a ≡ replicate 512 0 → l ++ drop n a ≡ fill l
+pub fill-rest : (l a : List ℕ) (n : ℕ) → length l ≡ n → n ≤ mostElements → a ≡ replicate mostElements 0 → l ++ drop n a ≡ fill l
 unfolding fill
-fill-rest l a n e h ea = ap (λ (r : List ℕ). l ++ r) (ap (drop n) ea ∙ drop-replicate n 512 h ∙ ap (λ (k : ℕ). replicate (512 - k) 0) (sym e))
+fill-rest l a n e h ea = ap (λ (r : List ℕ). l ++ r) (ap (drop n) ea ∙ drop-replicate n mostElements h ∙ ap (λ (k : ℕ). replicate (mostElements - k) 0) (sym e))
 
 -- .. and written over its start
-pub fill-over : (l a : List ℕ) (n : ℕ) → length l ≡ n → n ≤ 512 → a ≡ replicate 512 0 → over 0 l a ≡ fill l
+pub fill-over : (l a : List ℕ) (n : ℕ) → length l ≡ n → n ≤ mostElements → a ≡ replicate mostElements 0 → over 0 l a ≡ fill l
 unfolding fill
-fill-over l a n e h ea = over-zeros l a (length l) 512 refl (omega arith) ea
+fill-over l a n e h ea = over-zeros l a (length l) mostElements refl (omega arith) ea
 
 pub take-fill : (n : ℕ) (a l : List ℕ) → length l ≡ n → a ≡ fill l → take n a ≡ l
 unfolding fill
-take-fill n a l h e = ap (take n) e ∙ take-at l (replicate (512 - length l) 0) n h
+take-fill n a l h e = ap (take n) e ∙ take-at l (replicate (mostElements - length l) 0) n h
 
 pub words-filled : (n : ℕ) (a : List ℕ) → Filled n a → Words n (take n a)
 unfolding Filled
@@ -131,10 +132,10 @@ lengthIn-agree k a b h e = sym (lengthIn-take k a h) ∙ ap lengthIn e ∙ lengt
 -- ---- plain content
 
 module _ (name : List ℕ) (party : ℕ) (s : Set) (named : length name ≡ 16) (p : Proper s) where
-  vector : (a : List ℕ) → Filled (s .n) a → length (bytesOf (take (s .n) a)) ≡ 4 * s .n
-  vector a f = length-bytesOf (take (s .n) a) ∙ ap (λ (k : ℕ). 4 * k) (words-filled (s .n) a f .long)
+  vector : (a : List ℕ) → Filled (s .terms .n) a → length (bytesOf (take (s .terms .n) a)) ≡ 4 * s .terms .n
+  vector a f = length-bytesOf (take (s .terms .n) a) ∙ ap (λ (k : ℕ). 4 * k) (words-filled (s .terms .n) a f .long)
 
-  lengths : map length (fields name party s) ≡ widths (s .n)
+  lengths : map length (fields name party s) ≡ widths (s .terms .n)
   unfolding fields widths bytes le32
   lengths =
       let m = vector (s .mask) (p .masked) in
@@ -144,47 +145,47 @@ module _ (name : List ℕ) (party : ℕ) (s : Set) (named : length name ≡ 16) 
       let c : length (flat (map correctionBytes (s .key .corrections))) ≡ 32 * 37 = length-corrections (s .key .corrections) (p .corrections-fit) ∙ omega (arith, p .levels) in
       λ k. named k ∷ 1 ∷ 1 ∷ 2 ∷ m k ∷ x k ∷ y k ∷ 4 ∷ 4 ∷ e k ∷ c k ∷ 4 ∷ []
 
-  pub length-fields : length (flat (fields name party s)) ≡ size (s .n)
+  pub length-fields : length (flat (fields name party s)) ≡ size (s .terms .n)
   unfolding size widths offset fields
   length-fields = length-flat (fields name party s) ∙ ap (λ (ws : List ℕ). offset ws 12) lengths ∙ omega arith
 
-  pub length-plain : length (plain name party s) ≡ 484 * blockCount (s .n)
+  pub length-plain : length (plain name party s) ≡ textBytes * blockCount (s .terms .n)
   unfolding plain
   length-plain =
-      length-append (flat (fields name party s)) (replicate (484 * blockCount (s .n) - size (s .n)) 0)
-      ∙ omega (arith, length-fields, length-replicate {A = ℕ} (484 * blockCount (s .n) - size (s .n)) 0, size-le (s .n))
+      length-append (flat (fields name party s)) (replicate (textBytes * blockCount (s .terms .n) - size (s .terms .n)) 0)
+      ∙ omega (arith, length-fields, length-replicate {A = ℕ} (textBytes * blockCount (s .terms .n) - size (s .terms .n)) 0, size-le (s .terms .n))
 
-  -- laid out in an array of 16 blocks, the plain content is what its own blocks hold
-  pub take-laid : take (484 * blockCount (s .n)) (flat (fields name party s) ++ replicate (7744 - size (s .n)) 0) ≡ plain name party s
+  -- laid out in an array for the most blocks, the plain content is what its own blocks hold
+  pub take-laid : take (textBytes * blockCount (s .terms .n)) (flat (fields name party s) ++ replicate (roomBytes - size (s .terms .n)) 0) ≡ plain name party s
   unfolding plain
   take-laid =
       let f = flat (fields name party s) in
-      let z : List ℕ = replicate (7744 - size (s .n)) 0 in
-      let k = 484 * blockCount (s .n) - size (s .n) in
-      let e : 484 * blockCount (s .n) ≡ length f + k = omega (arith, length-fields, size-le (s .n)) in
+      let z : List ℕ = replicate (roomBytes - size (s .terms .n)) 0 in
+      let k = textBytes * blockCount (s .terms .n) - size (s .terms .n) in
+      let e : textBytes * blockCount (s .terms .n) ≡ length f + k = omega (arith, length-fields, size-le (s .terms .n)) in
       ap (λ (i : ℕ). take i (f ++ z)) e ∙ take-append-add f z k
-      ∙ ap (λ (l : List ℕ). f ++ l) (take-replicate k (7744 - size (s .n)) (omega (arith, blocks-bounds (s .n) (p .some) (p .most))))
+      ∙ ap (λ (l : List ℕ). f ++ l) (take-replicate k (roomBytes - size (s .terms .n)) (omega (arith, blocks-bounds (s .terms .n) (p .some) (p .most))))
 
-  drop-plain : drop (size (s .n)) (plain name party s) ≡ replicate (484 * blockCount (s .n) - size (s .n)) 0
+  drop-plain : drop (size (s .terms .n)) (plain name party s) ≡ replicate (textBytes * blockCount (s .terms .n) - size (s .terms .n)) 0
   unfolding plain
-  drop-plain = drop-at (flat (fields name party s)) (replicate (484 * blockCount (s .n) - size (s .n)) 0) (size (s .n)) length-fields
+  drop-plain = drop-at (flat (fields name party s)) (replicate (textBytes * blockCount (s .terms .n) - size (s .terms .n)) 0) (size (s .terms .n)) length-fields
 
-  cut-plain : cut (widths (s .n)) (plain name party s) ≡ fields name party s
+  cut-plain : cut (widths (s .terms .n)) (plain name party s) ≡ fields name party s
   unfolding plain
-  cut-plain = cut-flat (widths (s .n)) (fields name party s) (replicate (484 * blockCount (s .n) - size (s .n)) 0) lengths
+  cut-plain = cut-flat (widths (s .terms .n)) (fields name party s) (replicate (textBytes * blockCount (s .terms .n) - size (s .terms .n)) 0) lengths
 
-  pub lengthIn-plain : lengthIn (plain name party s) ≡ s .n
+  pub lengthIn-plain : lengthIn (plain name party s) ≡ s .terms .n
   unfolding lengthIn widths offset fields bytes number
   lengthIn-plain =
-      let at : part 18 2 (plain name party s) ≡ bytes 2 (s .n) = sym (cut-at (widths (s .n)) (plain name party s) 3) ∙ ap (λ (f : List (List ℕ)). getD f 3 []) cut-plain in
+      let at : part 18 2 (plain name party s) ≡ bytes 2 (s .terms .n) = sym (cut-at (widths (s .terms .n)) (plain name party s) 3) ∙ ap (λ (f : List (List ℕ)). getD f 3 []) cut-plain in
       ap number at ∙ omega (arith, p .most)
 
   pub field-plain : (i : ℕ) → field (plain name party s) i ≡ getD (fields name party s) i []
   unfolding field
   field-plain i = ap (λ (n : ℕ). getD (cut (widths n) (plain name party s)) i []) lengthIn-plain ∙ ap (λ (f : List (List ℕ)). getD f i []) cut-plain
 
-  array : (i : ℕ) (a : List ℕ) → getD (fields name party s) i [] ≡ bytesOf (take (s .n) a) → Filled (s .n) a → fill (wordsAt (lengthIn (plain name party s)) (field (plain name party s) i)) ≡ a
-  array i a e f = ap₂ (λ (n : ℕ) (b : List ℕ). fill (wordsAt n b)) lengthIn-plain (field-plain i ∙ e) ∙ fill-filled (s .n) a f
+  array : (i : ℕ) (a : List ℕ) → getD (fields name party s) i [] ≡ bytesOf (take (s .terms .n) a) → Filled (s .terms .n) a → fill (wordsAt (lengthIn (plain name party s)) (field (plain name party s) i)) ≡ a
+  array i a e f = ap₂ (λ (n : ℕ) (b : List ℕ). fill (wordsAt n b)) lengthIn-plain (field-plain i ∙ e) ∙ fill-filled (s .terms .n) a f
 
   word : (i x : ℕ) → getD (fields name party s) i [] ≡ le32 x → x < 2 ^ 32 → wordAt (field (plain name party s) i) 0 ≡ x
   word i x e h = ap (λ (b : List ℕ). wordAt b 0) (field-plain i ∙ e ∙ sym (append-nil (le32 x))) ∙ wordAt-le32 x [] h
@@ -209,27 +210,26 @@ module _ (name : List ℕ) (party : ℕ) (s : Set) (named : length name ≡ 16) 
       let r = word 8 (s .r) refl (p .r-fits) in
       let seed = ap (wordsAt 8) (field-plain 9) ∙ words-back 8 (s .seed) (p .seed-fits) in
       let last = word 11 (s .key .last) refl (p .last-fits) in
-      λ k. record { number = s .number; code = code k; n = n k; mask = mask k; x = x k; y = y k; c = c k; r = r k; seed = seed k; key = record { corrections = corrections k; last = last k } }
+      λ k. record { number = s .number; terms = record { code = code k; n = n k }; mask = mask k; x = x k; y = y k; c = c k; r = r k; seed = seed k; key = record { corrections = corrections k; last = last k } }
 
   -- and it fits
-  pub fits-plain : contentFits name party (blockCount (s .n)) (plain name party s) ≡ true
+  pub fits-plain : contentFits name party (blockCount (s .terms .n)) (plain name party s) ≡ true
   unfolding contentFits setIn lengthFits fields
   fits-plain =
       let named : same (field (plain name party s) 0) name ≡ true = ap (λ (b : List ℕ). same b name) (field-plain 0) ∙ same-refl name in
       let owned = eq-eqb (getD (field (plain name party s) 1) 0 0) party (ap (λ (b : List ℕ). getD b 0 0) (field-plain 1)) in
       let code = ap (λ (b : List ℕ). isCode (getD b 0 0)) (field-plain 2) ∙ p .code-fits in
-      let long = ap lengthFits lengthIn-plain ∙ ap₂ _&&_ (le-leb 1 (s .n) (p .some)) (le-leb (s .n) 512 (p .most)) in
-      let count = eq-eqb (blockCount (lengthIn (plain name party s))) (blockCount (s .n)) (ap blockCount lengthIn-plain) in
+      let long = ap lengthFits lengthIn-plain ∙ ap₂ _&&_ (le-leb 1 (s .terms .n) (p .some)) (le-leb (s .terms .n) mostElements (p .most)) in
+      let count = eq-eqb (blockCount (lengthIn (plain name party s))) (blockCount (s .terms .n)) (ap blockCount lengthIn-plain) in
       let flags = ap flagsFit corrections ∙ flags-fit (s .key .corrections) (p .corrections-fit) in
-      let rest = ap (λ (n : ℕ). zeros (drop (size n) (plain name party s))) lengthIn-plain ∙ ap zeros drop-plain ∙ zeros-replicate (484 * blockCount (s .n) - size (s .n)) in
+      let rest = ap (λ (n : ℕ). zeros (drop (size n) (plain name party s))) lengthIn-plain ∙ ap zeros drop-plain ∙ zeros-replicate (textBytes * blockCount (s .terms .n) - size (s .terms .n)) in
       ap₂ _&&_ named (ap₂ _&&_ owned (ap₂ _&&_ code (ap₂ _&&_ long (ap₂ _&&_ count (ap₂ _&&_ flags rest)))))
 
 -- ---- what the code asks of its callers
 
 -- lay_out asks of a set what Proper says of it
-pub code-byte : (s : Set) → Proper s → s .code < 256
-unfolding isCode
-code-byte s p = omega (arith, ltb-true (s .code) 3 (p .code-fits))
+pub code-byte : (s : Set) → Proper s → s .terms .code < 256
+code-byte s p = omega (arith, code-lt (s .terms .code) (p .code-fits))
 
 pub flag-bytes : (s : Set) → Proper s → FlagBytes (s .key .corrections)
 unfolding FlagBytes Corrections
@@ -246,8 +246,8 @@ fits-length name party count b h =
     (range .0, eqb-true (blockCount (lengthIn b)) count (both (eqb (blockCount (lengthIn b)) count) _ (range .1) .0))
 
 -- read_set asks of content what contentFits says of it
-pub fits-reads : (name : List ℕ) (party count : ℕ) (b : List ℕ) → contentFits name party count b ≡ true → length b ≡ 484 * count
-    → (lengthIn b ≤ 512) × (size (lengthIn b) ≤ length b)
+pub fits-reads : (name : List ℕ) (party count : ℕ) (b : List ℕ) → contentFits name party count b ≡ true → length b ≡ textBytes * count
+    → (lengthIn b ≤ mostElements) × (size (lengthIn b) ≤ length b)
 fits-reads name party count b h l =
     let fits = fits-length name party count b h in
     (length-fits (lengthIn b) (fits .0) .1, omega (arith, fits .1, size-le (lengthIn b)))

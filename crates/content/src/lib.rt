@@ -3,19 +3,33 @@
 ghost use mathlib.Core.Path.{_≡_};
 ghost use Prim.Native.Nat.{_≤_};
 ghost use Rattle.content.specs.Content.{blockCount, noCorrection, noSet};
+use measure::MOST_ELEMENTS;
+use measure::Terms;
 use node::Correction;
 use node::Key;
 
+// The bytes of a block, and how many of them are sealed text. It stands past twelve bytes, the set's
+// number and the block's index, and before the tag.
+pub const BLOCK: usize = 512;
+
+pub const TEXT: usize = 484;
+
+pub const TAG_AT: usize = 12 + TEXT;
+
+// The most blocks of a half, and the bytes of text in as many.
+pub const MOST_BLOCKS: usize = 16;
+
+pub const ROOM: usize = MOST_BLOCKS * TEXT;
+
 // An opened set: the mask of the party's own vector, its shares of X's mask and of Y's, its c and r
-// words, its key seed, and the comparison key. Arrays are zero past the length n (01's L).
+// words, its key seed, and the comparison key. Arrays are zero past the terms' length.
 #[repr(C)]
 pub struct Set {
     pub number: u64,
-    pub code: u32,
-    pub n: usize,
-    pub mask: [u32; 512],
-    pub x: [u32; 512],
-    pub y: [u32; 512],
+    pub terms: Terms,
+    pub mask: [u32; MOST_ELEMENTS],
+    pub x: [u32; MOST_ELEMENTS],
+    pub y: [u32; MOST_ELEMENTS],
     pub c: u32,
     pub r: u32,
     pub seed: [u32; 8],
@@ -44,11 +58,10 @@ pub fn no_set() -> Set
     };
     Set {
         number: 0,
-        code: 0,
-        n: 0,
-        mask: [0; 512],
-        x: [0; 512],
-        y: [0; 512],
+        terms: Terms { code: 0, n: 0 },
+        mask: [0; MOST_ELEMENTS],
+        x: [0; MOST_ELEMENTS],
+        y: [0; MOST_ELEMENTS],
         c: 0,
         r: 0,
         seed: [0; 8],
@@ -56,10 +69,10 @@ pub fn no_set() -> Set
     }
 }
 
-// How many blocks of 484 bytes the content of a set of length n fills.
+// How many blocks the content of a set of length n fills.
 pub fn blocks_of(n: usize) -> usize
     requires { ⌜ n ≤ 65535 ⌝ }
     ensures { λ r. ⌜ r ≡ blockCount n ⌝ }
 {
-    (1248 + 12 * n + 483) / 484
+    (1248 + 12 * n + TEXT - 1) / TEXT
 }

@@ -13,11 +13,11 @@ use Rattle.measure.specs.Measure.{isCode, thresholdFits}
 use Rattle.messages.specs.Messages.{unless, nameFits, padded, isKey}
 use Rattle.messages.specs.Laws.{unless-false, unless-true, turned-down, goes-on, taken, refused}
 use Rattle.content.specs.declared.Set.{Set}
-use Rattle.content.specs.Content.{blockCount, lengthFits, Proper}
+use Rattle.content.specs.Content.{mostElements, blockBytes, blockCount, lengthFits, Proper}
 use Rattle.content.specs.Laws.{blocks-bounds, length-fits}
-use Rattle.dealing.specs.Dealing.{setFrom, dealtSet}
+use Rattle.dealing.specs.Dealing.{Deal, dealFrom, setFrom, dealtSet}
 use Rattle.half.specs.Half.{half}
-use Rattle.dealer.specs.Dealer.{noDealer, whyNotDealer, startDealer, Deal, halfSize, whyNotDeal, keyOf, halfFor, deal, dealOut}
+use Rattle.dealer.specs.Dealer.{noDealer, whyNotDealer, startDealer, halfSize, whyNotDeal, keyOf, halfFor, deal, dealOut}
 use Rattle.dealer.specs.Laws.{DealTells, dealt-proper}
 use Rattle.dealer.specs.declared.Dealer.{Dealer}
 use Rattle.dealer.specs.declared.DealerAnswer.{DealerAnswer}
@@ -70,46 +70,46 @@ module _ (name key0 key1 : List ℕ) where
 -- ---- why a deal is turned down
 
 -- a length that has been tested, and its blocks
-pub short : (long n : ℕ) → not (eqb long 32 && (leb 1 n && leb n 512)) ≡ false → (1 ≤ n) × (n ≤ 512)
+pub short : (long n : ℕ) → not (eqb long 32 && (leb 1 n && leb n mostElements)) ≡ false → (1 ≤ n) × (n ≤ mostElements)
 unfolding lengthFits
 short long n h = length-fits n (both (eqb long 32) (lengthFits n) (not-false _ h) .1)
 
-pub few : (long n : ℕ) → not (eqb long 32 && (leb 1 n && leb n 512)) ≡ false → (k : ℕ) → k ≡ blockCount n → k ≤ 16
+pub few : (long n : ℕ) → not (eqb long 32 && (leb 1 n && leb n mostElements)) ≡ false → (k : ℕ) → k ≡ blockCount n → k ≤ 16
 few long n h k e =
     let fits = short long n h in
     omega (arith, e, blocks-bounds n (fits .0) (fits .1) .1)
 
 -- for any dealer with this last number, and any seed of this length
-module _ {last long : ℕ} (s : Dealer) (d : Deal) (el : s .last ≡ last) (es : length (d .seed) ≡ long) (room0 room1 : ℕ) (known : Bool) (ek : known ≡ isCode (d .code)) where
+module _ {last long : ℕ} (s : Dealer) (d : Deal) (el : s .last ≡ last) (es : length (d .seed) ≡ long) (room0 room1 : ℕ) (known : Bool) (ek : known ≡ isCode (d .terms .code)) where
   pub unknown-code : not known ≡ true → 2 ≡ whyNotDeal s d room0 room1
   unfolding whyNotDeal
   unknown-code h = turned-down _ _ _ (ap not (sym ek) ∙ h)
 
   module _ (coded : not known ≡ false) where
     past-code : {r : ℕ}
-        → r ≡ unless (eqb (length (d .seed)) 32 && lengthFits (d .n)) 4
-        (unless (leb (halfSize (d .n)) room0 && leb (halfSize (d .n)) room1) 5 (unless (ltb (s .last) (d .number)) 7 (unless (thresholdFits (d .code) (d .t)) 8 0)))
+        → r ≡ unless (eqb (length (d .seed)) 32 && lengthFits (d .terms .n)) 4
+        (unless (leb (halfSize (d .terms .n)) room0 && leb (halfSize (d .terms .n)) room1) 5 (unless (ltb (s .last) (d .number)) 7 (unless (thresholdFits (d .terms .code) (d .t)) 8 0)))
         → r ≡ whyNotDeal s d room0 room1
     unfolding whyNotDeal
     past-code h = goes-on _ _ _ (ap not (sym ek) ∙ coded) h
 
-    lengths : {b : Bool} → not (eqb long 32 && (leb 1 (d .n) && leb (d .n) 512)) ≡ b → not (eqb (length (d .seed)) 32 && lengthFits (d .n)) ≡ b
+    lengths : {b : Bool} → not (eqb long 32 && (leb 1 (d .terms .n) && leb (d .terms .n) mostElements)) ≡ b → not (eqb (length (d .seed)) 32 && lengthFits (d .terms .n)) ≡ b
     unfolding lengthFits
-    lengths h = ap (λ (k : ℕ). not (eqb k 32 && lengthFits (d .n))) es ∙ h
+    lengths h = ap (λ (k : ℕ). not (eqb k 32 && lengthFits (d .terms .n))) es ∙ h
 
-    pub bad-length : not (eqb long 32 && (leb 1 (d .n) && leb (d .n) 512)) ≡ true → 4 ≡ whyNotDeal s d room0 room1
+    pub bad-length : not (eqb long 32 && (leb 1 (d .terms .n) && leb (d .terms .n) mostElements)) ≡ true → 4 ≡ whyNotDeal s d room0 room1
     bad-length h = past-code (turned-down _ _ _ (lengths h))
 
-    module _ (fit : not (eqb long 32 && (leb 1 (d .n) && leb (d .n) 512)) ≡ false) (k : ℕ) (eb : k ≡ blockCount (d .n)) where
-      rooms : {b : Bool} → not (leb (512 * k) room0 && leb (512 * k) room1) ≡ b → not (leb (halfSize (d .n)) room0 && leb (halfSize (d .n)) room1) ≡ b
+    module _ (fit : not (eqb long 32 && (leb 1 (d .terms .n) && leb (d .terms .n) mostElements)) ≡ false) (k : ℕ) (eb : k ≡ blockCount (d .terms .n)) where
+      rooms : {b : Bool} → not (leb (blockBytes * k) room0 && leb (blockBytes * k) room1) ≡ b → not (leb (halfSize (d .terms .n)) room0 && leb (halfSize (d .terms .n)) room1) ≡ b
       unfolding halfSize
-      rooms h = ap (λ (m : ℕ). not (leb (512 * m) room0 && leb (512 * m) room1)) (sym eb) ∙ h
+      rooms h = ap (λ (m : ℕ). not (leb (blockBytes * m) room0 && leb (blockBytes * m) room1)) (sym eb) ∙ h
 
-      pub no-room : not (leb (512 * k) room0 && leb (512 * k) room1) ≡ true → 5 ≡ whyNotDeal s d room0 room1
+      pub no-room : not (leb (blockBytes * k) room0 && leb (blockBytes * k) room1) ≡ true → 5 ≡ whyNotDeal s d room0 room1
       no-room h = past-code (goes-on _ _ _ (lengths fit) (turned-down _ _ _ (rooms h)))
 
-      module _ (roomy : not (leb (512 * k) room0 && leb (512 * k) room1) ≡ false) where
-        past-rooms : {r : ℕ} → r ≡ unless (ltb (s .last) (d .number)) 7 (unless (thresholdFits (d .code) (d .t)) 8 0) → r ≡ whyNotDeal s d room0 room1
+      module _ (roomy : not (leb (blockBytes * k) room0 && leb (blockBytes * k) room1) ≡ false) where
+        past-rooms : {r : ℕ} → r ≡ unless (ltb (s .last) (d .number)) 7 (unless (thresholdFits (d .terms .code) (d .t)) 8 0) → r ≡ whyNotDeal s d room0 room1
         past-rooms h = past-code (goes-on _ _ _ (lengths fit) (goes-on _ _ _ (rooms roomy) h))
 
         above : {b : Bool} → not (ltb last (d .number)) ≡ b → not (ltb (s .last) (d .number)) ≡ b
@@ -118,7 +118,7 @@ module _ {last long : ℕ} (s : Dealer) (d : Deal) (el : s .last ≡ last) (es :
         pub stale : not (ltb last (d .number)) ≡ true → 7 ≡ whyNotDeal s d room0 room1
         stale h = past-rooms (turned-down _ _ _ (above h))
 
-        module _ (fresh : not (ltb last (d .number)) ≡ false) (fits : Bool) (ef : fits ≡ thresholdFits (d .code) (d .t)) where
+        module _ (fresh : not (ltb last (d .number)) ≡ false) (fits : Bool) (ef : fits ≡ thresholdFits (d .terms .code) (d .t)) where
           pub out-of-range : not fits ≡ true → 8 ≡ whyNotDeal s d room0 room1
           out-of-range h = past-rooms (goes-on _ _ _ (above fresh) (turned-down _ _ _ (ap not (sym ef) ∙ h)))
 
@@ -128,15 +128,16 @@ module _ {last long : ℕ} (s : Dealer) (d : Deal) (el : s .last ≡ last) (es :
 -- ---- the two halves
 
 module _ (s : Dealer) (d : Deal) (room0 room1 : ℕ) (a : DealTells s d room0 room1)
-    (party : ℕ) (seed : List ℕ) (es : seed ≡ d .seed) (set : Set) (e : set ≡ dealtSet seed (d .number) (d .code) (d .n) (d .t) party) where
-  is-dealt : set ≡ dealtSet (d .seed) (d .number) (d .code) (d .n) (d .t) party
-  is-dealt = e ∙ ap (λ (l : List ℕ). dealtSet l (d .number) (d .code) (d .n) (d .t) party) es
+    (party : ℕ) (seed : List ℕ) (es : seed ≡ d .seed) (set : Set)
+    (e : set ≡ dealtSet (dealFrom (d .number) seed (d .terms) (d .t)) party) where
+  is-dealt : set ≡ dealtSet d party
+  is-dealt = e ∙ ap (λ (l : List ℕ). dealtSet (dealFrom (d .number) l (d .terms) (d .t)) party) es
 
   -- what writing a half asks
-  pub half-asks : (room : ℕ) → halfSize (d .n) ≤ room → d .number < 2 ^ 64 → party ≤ 1 → ((party < 256) × (512 * blockCount (set .n) ≤ room)) × Proper set
+  pub half-asks : (room : ℕ) → halfSize (d .terms .n) ≤ room → d .number < 2 ^ 64 → party ≤ 1 → ((party < 256) × (blockBytes * blockCount (set .terms .n) ≤ room)) × Proper set
   unfolding halfSize dealtSet setFrom
   half-asks room h number low =
-      ((omega arith, rw (ap (λ (t : Set). t .n) e) h), subst Proper (sym is-dealt) (dealt-proper s d room0 room1 party a number low))
+      ((omega arith, rw (ap (λ (t : Set). t .terms .n) e) h), subst Proper (sym is-dealt) (dealt-proper s d room0 room1 party a number low))
 
   pub is-half : (out out' : List ℕ) → out' ≡ over 0 (half (keyOf s party) (s .name) party set) out → out' ≡ over 0 (halfFor s d party) out
   unfolding halfFor

@@ -8,8 +8,8 @@ use lib.ListN.{length, replicate}
 use Rattle.words.specs.List.{over, same}
 use Rattle.measure.specs.Measure.{isCode, thresholdFits}
 use Rattle.messages.specs.Messages.{unless, ifTaken, nameFits, padded, isKey}
-use Rattle.content.specs.Content.{blockCount, lengthFits}
-use Rattle.dealing.specs.Dealing.{dealtSet}
+use Rattle.content.specs.Content.{blockBytes, blockCount, lengthFits}
+use Rattle.dealing.specs.Dealing.{Deal, dealtSet}
 use Rattle.half.specs.Half.{half}
 use Rattle.dealer.specs.declared.Dealer.{Dealer}
 use Rattle.dealer.specs.declared.DealerAnswer.{DealerAnswer}
@@ -25,35 +25,25 @@ startDealer name key0 key1 floor =
     let why : ℕ = whyNotDealer name key0 key1 in
     record { why = why; dealer = ifTaken why (record { name = padded name; key0 = key0; key1 = key1; last = floor }) noDealer }
 
--- what is handed to a deal, beside its two buffers
-pub record Deal : Type 0 where
-  pub number : ℕ
-  pub seed : List ℕ
-  pub code : ℕ
-  pub n : ℕ
-  pub t : ℕ
-
-abbrev pub dealFrom : ℕ → List ℕ → ℕ → ℕ → ℕ → Deal
-dealFrom number seed code n t = record { number = number; seed = seed; code = code; n = n; t = t }
-
 -- how many bytes a half has
 unfoldable pub halfSize : ℕ → ℕ
-halfSize n = 512 * blockCount n
+halfSize n = blockBytes * blockCount n
 
+-- why a deal is turned down, where its two buffers have this many bytes
 unfoldable pub whyNotDeal : Dealer → Deal → ℕ → ℕ → ℕ
 whyNotDeal s d room0 room1 =
-    unless (isCode (d .code)) 2
-    (unless (eqb (length (d .seed)) 32 && lengthFits (d .n)) 4
-    (unless (leb (halfSize (d .n)) room0 && leb (halfSize (d .n)) room1) 5
+    unless (isCode (d .terms .code)) 2
+    (unless (eqb (length (d .seed)) 32 && lengthFits (d .terms .n)) 4
+    (unless (leb (halfSize (d .terms .n)) room0 && leb (halfSize (d .terms .n)) room1) 5
     (unless (ltb (s .last) (d .number)) 7
-    (unless (thresholdFits (d .code) (d .t)) 8 0))))
+    (unless (thresholdFits (d .terms .code) (d .t)) 8 0))))
 
 unfoldable pub keyOf : Dealer → ℕ → List ℕ
 keyOf s party = cond (eqb party 0) (s .key0) (s .key1)
 
 -- the half that a deal writes for a party
 unfoldable pub halfFor : Dealer → Deal → ℕ → List ℕ
-halfFor s d party = half (keyOf s party) (s .name) party (dealtSet (d .seed) (d .number) (d .code) (d .n) (d .t) party)
+halfFor s d party = half (keyOf s party) (s .name) party (dealtSet d party)
 
 unfoldable pub deal : Dealer → Deal → ℕ → ℕ → DealerAnswer
 deal s d room0 room1 =

@@ -10,11 +10,11 @@ use lib.ListN.{length}
 use Rattle.measure.specs.Measure.{isCode, thresholdFits}
 use Rattle.messages.specs.Messages.{nameFits, isKey}
 use Rattle.messages.specs.Laws.{passed}
-use Rattle.content.specs.Content.{Proper}
+use Rattle.content.specs.Content.{mostElements, Proper}
 use Rattle.content.specs.Laws.{length-fits}
-use Rattle.dealing.specs.Dealing.{dealtSet}
+use Rattle.dealing.specs.Dealing.{Deal, dealtSet}
 use Rattle.dealing.specs.Laws.{proper}
-use Rattle.dealer.specs.Dealer.{whyNotDealer, Deal, halfSize, whyNotDeal}
+use Rattle.dealer.specs.Dealer.{whyNotDealer, halfSize, whyNotDeal}
 use Rattle.dealer.specs.declared.Dealer.{Dealer}
 
 -- ---- start
@@ -36,14 +36,14 @@ start-tells name key0 key1 h =
 -- ---- deal
 
 pub record DealTells (s : Dealer) (d : Deal) (room0 room1 : ℕ) : Type 0 where
-  pub code-fits : isCode (d .code) ≡ true
+  pub code-fits : isCode (d .terms .code) ≡ true
   pub seeded : length (d .seed) ≡ 32
-  pub some : 1 ≤ d .n
-  pub most : d .n ≤ 512
-  pub room-0 : halfSize (d .n) ≤ room0
-  pub room-1 : halfSize (d .n) ≤ room1
+  pub some : 1 ≤ d .terms .n
+  pub most : d .terms .n ≤ mostElements
+  pub room-0 : halfSize (d .terms .n) ≤ room0
+  pub room-1 : halfSize (d .terms .n) ≤ room1
   pub above : s .last < d .number
-  pub threshold-fits : thresholdFits (d .code) (d .t) ≡ true
+  pub threshold-fits : thresholdFits (d .terms .code) (d .t) ≡ true
 
 pub deal-tells : (s : Dealer) (d : Deal) (room0 room1 : ℕ) → whyNotDeal s d room0 room1 ≡ 0 → DealTells s d room0 room1
 unfolding whyNotDeal
@@ -68,5 +68,5 @@ deal-tells s d room0 room1 h =
 
 -- what an accepted deal gives each party
 pub dealt-proper : (s : Dealer) (d : Deal) (room0 room1 party : ℕ) → DealTells s d room0 room1 → d .number < 2 ^ 64 → party ≤ 1
-    → Proper (dealtSet (d .seed) (d .number) (d .code) (d .n) (d .t) party)
-dealt-proper s d room0 room1 party a number low = proper _ _ _ _ _ _ number (a .code-fits) (a .some) (a .most) low
+    → Proper (dealtSet d party)
+dealt-proper s d room0 room1 party a number low = proper d party number (a .code-fits) (a .some) (a .most) low

@@ -4,8 +4,12 @@ ghost use mathlib.Core.List.{List};
 ghost use Prim.Native.Nat.{ℕ};
 ghost use lib.ListN.{length};
 ghost use Rattle.words.specs.List.{over};
-ghost use Rattle.dealer.specs.Dealer.{whyNotDealer, startDealer, dealFrom, whyNotDeal, halfFor, deal as dealOf, dealOut};
+ghost use Rattle.dealing.specs.Dealing.{dealFrom};
+ghost use Rattle.dealer.specs.Dealer.{whyNotDealer, startDealer, whyNotDeal, halfFor, deal as dealOf, dealOut};
 ghost use Rattle.dealer.specs.declared.Dealer.{Dealer};
+use content::BLOCK;
+use measure::MOST_ELEMENTS;
+use measure::Terms;
 
 // What the dealer keeps: the door's padded name, the keys of the two boxes, and its last set number.
 #[repr(C)]
@@ -56,22 +60,20 @@ impl Dealer {
         self,
         number: u64,
         seed: &[u8],
-        code: u32,
-        n: usize,
+        terms: Terms,
         t: u32,
         out0: &mut [u8],
         out1: &mut [u8],
     ) -> DealerAnswer
-        ensures { λ r. ⌜ r ≡ dealOf self (dealFrom number (now (seed .entry)) code n t) (length (now (out0 .entry))) (length (now (out1 .entry))) ⌝ }
-        ensures { λ _. ⌜ now (out0 .exit) ≡ dealOut self (dealFrom number (now (seed .entry)) code n t) (now (out0 .entry)) (now (out1 .entry)) 0 ⌝ }
-        ensures { λ _. ⌜ now (out1 .exit) ≡ dealOut self (dealFrom number (now (seed .entry)) code n t) (now (out0 .entry)) (now (out1 .entry)) 1 ⌝ }
+        ensures { λ r. ⌜ r ≡ dealOf self (dealFrom number (now (seed .entry)) terms t) (length (now (out0 .entry))) (length (now (out1 .entry))) ⌝ }
+        ensures { λ _. ⌜ now (out0 .exit) ≡ dealOut self (dealFrom number (now (seed .entry)) terms t) (now (out0 .entry)) (now (out1 .entry)) 0 ⌝ }
+        ensures { λ _. ⌜ now (out1 .exit) ≡ dealOut self (dealFrom number (now (seed .entry)) terms t) (now (out0 .entry)) (now (out1 .entry)) 1 ⌝ }
     {
         let why = why_not_deal(
             self.last,
             number,
             seed.len(),
-            code,
-            n,
+            terms,
             t,
             out0.len(),
             out1.len(),
@@ -79,7 +81,7 @@ impl Dealer {
         if why != 0 {
             return DealerAnswer { why, dealer: self };
         }
-        write_halves(self, number, seed, code, n, t, out0, out1);
+        write_halves(self, number, seed, terms, t, out0, out1);
         let name = self.name;
         let key0 = self.key0;
         let key1 = self.key1;
@@ -110,33 +112,33 @@ fn why_not_start(name: &[u8], key0: &[u8], key1: &[u8]) -> u32
     0
 }
 
-// The length n is tested before blocks are counted: any can be handed in. `long` is the seed's.
+// The length is tested before blocks are counted: any can be handed in. `long` is the seed's.
 fn why_not_deal(
     last: u64,
     number: u64,
     long: usize,
-    code: u32,
-    n: usize,
+    terms: Terms,
     t: u32,
     room0: usize,
     room1: usize,
 ) -> u32
-    ensures { λ r. ⌜ ((s : Dealer) (seed : List ℕ) → s .last ≡ last → length seed ≡ long → r ≡ whyNotDeal s (dealFrom number seed code n t) room0 room1) ⌝ }
+    ensures { λ r. ⌜ ((s : Dealer) (seed : List ℕ) → s .last ≡ last → length seed ≡ long → r ≡ whyNotDeal s (dealFrom number seed terms t) room0 room1) ⌝ }
 {
-    if !measure::is_code(code) {
+    let n = terms.n;
+    if !measure::is_code(terms.code) {
         return 2;
     }
-    if !((long == 32) & ((1 <= n) & (n <= 512))) {
+    if !((long == 32) & ((1 <= n) & (n <= MOST_ELEMENTS))) {
         return 4;
     }
-    let size = 512 * content::blocks_of(n);
+    let size = BLOCK * content::blocks_of(n);
     if !((size <= room0) & (size <= room1)) {
         return 5;
     }
     if !(last < number) {
         return 7;
     }
-    if !measure::threshold_fits(code, t) {
+    if !measure::threshold_fits(terms.code, t) {
         return 8;
     }
     0
@@ -147,18 +149,17 @@ fn write_halves(
     dealer: Dealer,
     number: u64,
     seed: &[u8],
-    code: u32,
-    n: usize,
+    terms: Terms,
     t: u32,
     out0: &mut [u8],
     out1: &mut [u8],
 )
-    requires { ⌜ whyNotDeal dealer (dealFrom number (now seed) code n t) (length (now out0)) (length (now out1)) ≡ 0 ⌝ }
-    ensures { λ _. ⌜ now (out0 .exit) ≡ over 0 (halfFor dealer (dealFrom number (now (seed .entry)) code n t) 0) (now (out0 .entry)) ⌝ }
-    ensures { λ _. ⌜ now (out1 .exit) ≡ over 0 (halfFor dealer (dealFrom number (now (seed .entry)) code n t) 1) (now (out1 .entry)) ⌝ }
+    requires { ⌜ whyNotDeal dealer (dealFrom number (now seed) terms t) (length (now out0)) (length (now out1)) ≡ 0 ⌝ }
+    ensures { λ _. ⌜ now (out0 .exit) ≡ over 0 (halfFor dealer (dealFrom number (now (seed .entry)) terms t) 0) (now (out0 .entry)) ⌝ }
+    ensures { λ _. ⌜ now (out1 .exit) ≡ over 0 (halfFor dealer (dealFrom number (now (seed .entry)) terms t) 1) (now (out1 .entry)) ⌝ }
 {
     let seed = slices::bytes_32(seed);
-    let dealt = dealing::sets(&seed, number, code, n, t);
+    let dealt = dealing::sets(&seed, number, terms, t);
     let name = dealer.name;
     let key0 = dealer.key0;
     let key1 = dealer.key1;

@@ -13,12 +13,13 @@ use Rattle.words.specs.Bytes.{wordsAt}
 use Rattle.keystream.specs.Keystream.{stream}
 use Rattle.node.specs.declared.Key.{Key}
 use Rattle.node.specs.Node.{keyFor}
+use Rattle.measure.specs.declared.Terms.{Terms}
 use Rattle.share.specs.Share.{plus, otherC, otherR}
 use Rattle.content.specs.declared.Set.{Set}
-use Rattle.content.specs.Content.{part, fill}
+use Rattle.content.specs.Content.{mostElements, part, fill}
 use Rattle.content.specs.Laws.{fill-rest, fill-over}
 use Rattle.content.specs.Pieces.{length-part}
-use Rattle.dealing.specs.Dealing.{setWords, x, y, c0, r, r0, keySeed, maskX, maskY, ownMask, cOf, rOf, setFrom}
+use Rattle.dealing.specs.Dealing.{setWords, x, y, c0, r, r0, keySeed, maskX, maskY, ownMask, cOf, dealFrom, rOf, setFrom}
 use Rattle.dealing.specs.Laws.{other-c-fill}
 
 -- ---- copies
@@ -40,10 +41,10 @@ copy-done w out before at i size done e = sym (take-all i out (omega arith)) ∙
 abbrev pub zeros : ℕ → List ℕ
 zeros k = replicate k 0
 
-pub room : (w : List ℕ) (at n : ℕ) → n ≤ 512 → at + n ≤ length w → at + length (take n (zeros 512)) ≤ length w
-room w at n most fits = omega (arith, length-take-le n (zeros 512) most)
+pub room : (w : List ℕ) (at n : ℕ) → n ≤ mostElements → at + n ≤ length w → at + length (take n (zeros mostElements)) ≤ length w
+room w at n most fits = omega (arith, length-take-le n (zeros mostElements) most)
 
-pub words-law : (w a out : List ℕ) (at n : ℕ) → a ≡ zeros 512 → n ≤ 512 → at + n ≤ length w → out ≡ part at (length (take n a)) w
+pub words-law : (w a out : List ℕ) (at n : ℕ) → a ≡ zeros mostElements → n ≤ mostElements → at + n ≤ length w → out ≡ part at (length (take n a)) w
     → out ++ drop n a ≡ fill (part at n w)
 words-law w a out at n ea most fits e =
     let size : length (take n a) ≡ n = length-take-le n a (omega (arith, ap length ea)) in
@@ -51,7 +52,7 @@ words-law w a out at n ea most fits e =
     ap (λ (l : List ℕ). l ++ drop n a) is ∙ fill-rest (part at n w) a n (length-part w at n fits) most ea
 
 -- a sum of vectors asks for its own places only, however far the slices reach
-pub mask-law : (w a out : List ℕ) (at n : ℕ) → a ≡ zeros 512 → n ≤ 512 → at + 2 * n ≤ length w
+pub mask-law : (w a out : List ℕ) (at n : ℕ) → a ≡ zeros mostElements → n ≤ mostElements → at + 2 * n ≤ length w
     → out ≡ over 0 (plus n (take (length w - at) (drop at w)) (take (length w - (at + n)) (drop (at + n) w))) a → out ≡ fill (plus n (part at n w) (part (at + n) n w))
 unfolding part plus
 mask-law w a out at n ea most fits e =
@@ -77,39 +78,57 @@ pub at-most : (party n : ℕ) → party ≤ 1 → party * n ≤ 1 * n
 at-most party n h = mul-le-mul-right n h
 
 -- a party's set, from what is made for it and its own words
-abbrev pub setWith : ℕ → ℕ → ℕ → ℕ → List ℕ → List ℕ → ℕ → ℕ → Key → Set
-setWith party number code n w m c r′ key =
-    record { number = number; code = code; n = n; mask = m; x = fill (x n w party); y = fill (y n w party); c = c; r = r′; seed = keySeed n w party; key = key }
+abbrev pub setWith : ℕ → ℕ → Terms → List ℕ → List ℕ → ℕ → ℕ → Key → Set
+setWith party number terms w m c r′ key =
+    let n : ℕ = terms .n in
+    record {
+      number = number;
+      terms = terms;
+      mask = m;
+      x = fill (x n w party);
+      y = fill (y n w party);
+      c = c;
+      r = r′;
+      seed = keySeed n w party;
+      key = key;
+    }
 
 -- what is made for the two of them, X's shares standing from 0 on and Y's from 2 n on
-module _ (number code n t : ℕ) (w mx my k0 k1 : List ℕ) (key : Key)
-    (emx : mx ≡ fill (plus n (part 0 n w) (part (0 + n) n w)))
-    (emy : my ≡ fill (plus n (part (2 * n) n w) (part (2 * n + n) n w)))
-    (e0 : k0 ≡ keySeed n w 0) (e1 : k1 ≡ keySeed n w 1) (ek : key ≡ keyFor k0 k1 (getD w (4 * n + 1) 0)) where
-  is-x : mx ≡ fill (maskX n w)
-  unfolding maskX x
-  is-x =
-      let first : 0 ≡ 0 * n = omega arith in
-      let second : 0 + n ≡ 1 * n = omega arith in
-      emx ∙ ap₂ (λ (i j : ℕ). fill (plus n (part i n w) (part j n w))) first second
+module _ (terms : Terms) where
+  abbrev n : ℕ
+  n = terms .n
 
-  is-y : my ≡ fill (maskY n w)
-  unfolding maskY y
-  is-y =
-      let second : 2 * n + n ≡ 3 * n = omega arith in
-      emy ∙ ap (λ (j : ℕ). fill (plus n (part (2 * n) n w) (part j n w))) second
+  module _ (number t : ℕ) (w mx my k0 k1 : List ℕ) (key : Key)
+      (emx : mx ≡ fill (plus n (part 0 n w) (part (0 + n) n w)))
+      (emy : my ≡ fill (plus n (part (2 * n) n w) (part (2 * n + n) n w)))
+      (e0 : k0 ≡ keySeed n w 0) (e1 : k1 ≡ keySeed n w 1) (ek : key ≡ keyFor k0 k1 (getD w (4 * n + 1) 0)) where
+    is-x : mx ≡ fill (maskX n w)
+    unfolding maskX x
+    is-x =
+        let first : 0 ≡ 0 * n = omega arith in
+        let second : 0 + n ≡ 1 * n = omega arith in
+        emx ∙ ap₂ (λ (i j : ℕ). fill (plus n (part i n w) (part j n w))) first second
 
-  is-key : key ≡ keyFor (keySeed n w 0) (keySeed n w 1) (r n w)
-  unfolding r
-  is-key = ek ∙ ap₂ (λ (a b : List ℕ). keyFor a b (getD w (4 * n + 1) 0)) e0 e1
+    is-y : my ≡ fill (maskY n w)
+    unfolding maskY y
+    is-y =
+        let second : 2 * n + n ≡ 3 * n = omega arith in
+        emy ∙ ap (λ (j : ℕ). fill (plus n (part (2 * n) n w) (part j n w))) second
 
-  pub sets-law : (camera office : Set) (c1 r1 : ℕ) → camera ≡ setWith 0 number code n w mx (getD w (4 * n) 0) (getD w (4 * n + 2) 0) key
-      → c1 ≡ otherC n mx my (getD w (4 * n) 0) → r1 ≡ otherR (getD w (4 * n + 1) 0) t (getD w (4 * n + 2) 0) → office ≡ setWith 1 number code n w my c1 r1 key
-      → (camera ≡ setFrom n w number code t 0) × (office ≡ setFrom n w number code t 1)
-  unfolding setFrom ownMask cOf rOf c0 r r0
-  sets-law camera office c1 r1 e ec er f =
-      let is-c1 : c1 ≡ otherC n (maskX n w) (maskY n w) (getD w (4 * n) 0) =
-      ec ∙ ap₂ (λ (a b : List ℕ). otherC n a b (getD w (4 * n) 0)) is-x is-y ∙ other-c-fill n (maskX n w) (maskY n w) (getD w (4 * n) 0) in (
-        e ∙ (λ i. setWith 0 number code n w (is-x i) (getD w (4 * n) 0) (getD w (4 * n + 2) 0) (is-key i)),
-        f ∙ (λ i. setWith 1 number code n w (is-y i) (is-c1 i) (er i) (is-key i)),
-      )
+    is-key : key ≡ keyFor (keySeed n w 0) (keySeed n w 1) (r n w)
+    unfolding r
+    is-key = ek ∙ ap₂ (λ (a b : List ℕ). keyFor a b (getD w (4 * n + 1) 0)) e0 e1
+
+    pub sets-law : (camera office : Set) (c1 r1 : ℕ)
+        → camera ≡ setWith 0 number terms w mx (getD w (4 * n) 0) (getD w (4 * n + 2) 0) key
+        → c1 ≡ otherC n mx my (getD w (4 * n) 0) → r1 ≡ otherR (getD w (4 * n + 1) 0) t (getD w (4 * n + 2) 0)
+        → office ≡ setWith 1 number terms w my c1 r1 key
+        → (seed : List ℕ) → (camera ≡ setFrom (dealFrom number seed terms t) w 0) × (office ≡ setFrom (dealFrom number seed terms t) w 1)
+    unfolding setFrom ownMask cOf rOf c0 r r0
+    sets-law camera office c1 r1 e ec er f seed =
+        let first : ℕ = getD w (4 * n) 0 in
+        let is-c1 : c1 ≡ otherC n (maskX n w) (maskY n w) first =
+        ec ∙ ap₂ (λ (a b : List ℕ). otherC n a b first) is-x is-y ∙ other-c-fill n (maskX n w) (maskY n w) first in (
+          e ∙ (λ i. setWith 0 number terms w (is-x i) first (getD w (4 * n + 2) 0) (is-key i)),
+          f ∙ (λ i. setWith 1 number terms w (is-y i) (is-c1 i) (er i) (is-key i)),
+        )

@@ -7,6 +7,7 @@ use lib.ListN.{getD}
 use Rattle.words.specs.Bytes.{wordsAt}
 use Rattle.keystream.specs.Keystream.{stream}
 use Rattle.node.specs.Node.{keyFor}
+use Rattle.measure.specs.declared.Terms.{Terms}
 use Rattle.share.specs.Share.{plus, otherC, otherR}
 use Rattle.content.specs.declared.Set.{Set}
 use Rattle.content.specs.Content.{part, fill}
@@ -42,32 +43,45 @@ module _ (n : ℕ) (w : List ℕ) where
   unfoldable pub maskY : List ℕ
   maskY = plus n (y 0) (y 1)
 
-  -- a party's words: c0 and r0 at party 0, c1 and r1 at party 1
+  -- a party's own: X's mask and c0 at party 0, Y's mask and c1 at party 1
   unfoldable pub ownMask : ℕ → List ℕ
   ownMask party = cond (eqb party 0) maskX maskY
 
   unfoldable pub cOf : ℕ → ℕ
   cOf party = cond (eqb party 0) c0 (otherC n maskX maskY c0)
 
-  unfoldable pub rOf : ℕ → ℕ → ℕ
-  rOf t party = cond (eqb party 0) r0 (otherR r t r0)
+-- what is dealt: a set's number and seed, its terms, and the threshold T, which no box knows
+pub record Deal : Type 0 where
+  pub number : ℕ
+  pub seed : List ℕ
+  pub terms : Terms
+  pub t : ℕ
 
-  -- the set that a party gets, for a number, a code and a threshold
-  unfoldable pub setFrom : ℕ → ℕ → ℕ → ℕ → Set
-  setFrom number code t party =
-      record {
-        number = number;
-        code = code;
-        n = n;
-        mask = fill (ownMask party);
-        x = fill (x party);
-        y = fill (y party);
-        c = cOf party;
-        r = rOf t party;
-        seed = keySeed party;
-        key = keyFor (keySeed 0) (keySeed 1) r;
-      }
+abbrev pub dealFrom : ℕ → List ℕ → Terms → ℕ → Deal
+dealFrom number seed terms t = record { number = number; seed = seed; terms = terms; t = t }
+
+-- r0 at party 0, r1 at party 1, from the words that were drawn
+unfoldable pub rOf : Deal → List ℕ → ℕ → ℕ
+rOf d w party =
+    let n : ℕ = d .terms .n in
+    cond (eqb party 0) (r0 n w) (otherR (r n w) (d .t) (r0 n w))
+
+-- the set that a party gets from them
+unfoldable pub setFrom : Deal → List ℕ → ℕ → Set
+setFrom d w party =
+    let n : ℕ = d .terms .n in
+    record {
+      number = d .number;
+      terms = d .terms;
+      mask = fill (ownMask n w party);
+      x = fill (x n w party);
+      y = fill (y n w party);
+      c = cOf n w party;
+      r = rOf d w party;
+      seed = keySeed n w party;
+      key = keyFor (keySeed n w 0) (keySeed n w 1) (r n w);
+    }
 
 -- what a deal gives a party
-unfoldable pub dealtSet : List ℕ → ℕ → ℕ → ℕ → ℕ → ℕ → Set
-dealtSet seed number code n t party = setFrom n (setWords seed n) number code t party
+unfoldable pub dealtSet : Deal → ℕ → Set
+dealtSet d party = setFrom d (setWords (d .seed) (d .terms .n)) party

@@ -21,9 +21,9 @@ use Rattle.measure.specs.Measure.{isCode, measure, reached, allInRange, thresho
 use Rattle.share.specs.Share.{plus, inner, otherC, otherR, share, boxWord, answer}
 use Rattle.share.specs.Claims.{join-law}
 use Rattle.content.specs.declared.Set.{Set}
-use Rattle.content.specs.Content.{part, fill, noCorrection, Words, Filled, Corrections, Proper}
+use Rattle.content.specs.Content.{mostElements, part, fill, noCorrection, Words, Filled, Corrections, Proper}
 use Rattle.content.specs.Pieces.{length-part}
-use Rattle.dealing.specs.Dealing.{setWords, x, y, c0, r, r0, keySeed, maskX, maskY, ownMask, cOf, rOf, setFrom, dealtSet}
+use Rattle.dealing.specs.Dealing.{setWords, x, y, c0, r, r0, keySeed, maskX, maskY, ownMask, cOf, Deal, rOf, setFrom, dealtSet}
 
 -- ---- words
 
@@ -62,10 +62,14 @@ plus-words n a b = record { long = length-tab _ n; below = tab-below _ n (λ i. 
 
 -- ---- a dealt set is proper
 
-module _ (n : ℕ) (w : List ℕ) (long : length w ≡ 4 * n + 19) (below : Below w) where
-  proper-from : (number code t party : ℕ) → number < 2 ^ 64 → isCode code ≡ true → 1 ≤ n → n ≤ 512 → party ≤ 1 → Proper (setFrom n w number code t party)
+module _ (d : Deal) (w : List ℕ) (long : length w ≡ 4 * d .terms .n + 19) (below : Below w) where
+  abbrev n : ℕ
+  n = d .terms .n
+
+  proper-from : (party : ℕ) → d .number < 2 ^ 64 → isCode (d .terms .code) ≡ true → 1 ≤ n → n ≤ mostElements → party ≤ 1
+      → Proper (setFrom d w party)
   unfolding setFrom ownMask maskX maskY cOf rOf x y c0 r0 keySeed Filled Corrections otherC otherR
-  proper-from number code t party hnumber hcode hn most hparty =
+  proper-from party hnumber hcode hn most hparty =
       let before : party * n ≤ 1 * n = mul-le-mul-right n hparty in
       record {
         number-fits = hnumber;
@@ -94,10 +98,12 @@ module _ (n : ℕ) (w : List ℕ) (long : length w ≡ 4 * n + 19) (below : Belo
       fits : {c : Correction} → Fits c → Words 8 (c .seed) × (c .word < 2 ^ 32) × (c .flags < 4)
       fits f = (record { long = f .seed-long; below = f .seed-below }, f .word-below, f .flags-below)
 
-pub proper : (seed : List ℕ) (number code n t party : ℕ) → number < 2 ^ 64 → isCode code ≡ true → 1 ≤ n → n ≤ 512 → party ≤ 1
-    → Proper (dealtSet seed number code n t party)
+pub proper : (d : Deal) (party : ℕ) → d .number < 2 ^ 64 → isCode (d .terms .code) ≡ true
+    → 1 ≤ d .terms .n → d .terms .n ≤ mostElements → party ≤ 1 → Proper (dealtSet d party)
 unfolding dealtSet
-proper seed number code n t party = proper-from n (setWords seed n) (dealt-long seed n) (dealt-below seed n) number code t party
+proper d party =
+    let n = d .terms .n in
+    proper-from d (setWords (d .seed) n) (dealt-long (d .seed) n) (dealt-below (d .seed) n) party
 
 -- ---- an array's fill is not seen: a list and its array agree at every place
 
@@ -109,7 +115,7 @@ itself l = record { at = λ i. refl }
 
 pub getD-fill : (l : List ℕ) (i : ℕ) → getD (fill l) i 0 ≡ getD l i 0
 unfolding fill
-getD-fill l i = go (512 - length l) l i
+getD-fill l i = go (mostElements - length l) l i
   where
     zeros : (k i : ℕ) → _≡_ {A = ℕ} (getD (replicate k 0) i 0) 0
     zeros zero i = refl
@@ -161,22 +167,27 @@ point-below : (seed : List ℕ) (n : ℕ) → r n (setWords seed n) < 2 ^ 32
 unfolding r
 point-below seed n = dealt-below seed n (4 * n + 1)
 
-pub dealt-join : (seed : List ℕ) (number code n t : ℕ) (v0 v1 : List ℕ) → n ≤ 512 → allInRange code v0 ≡ true → allInRange code v1 ≡ true → thresholdFits code t ≡ true
-    → (let s0 : Set = dealtSet seed number code n t 0 in
-    let s1 : Set = dealtSet seed number code n t 1 in
+pub dealt-join : (d : Deal) (v0 v1 : List ℕ) → d .terms .n ≤ mostElements → allInRange (d .terms .code) v0 ≡ true
+    → allInRange (d .terms .code) v1 ≡ true → thresholdFits (d .terms .code) (d .t) ≡ true
+    → (let code : ℕ = d .terms .code in
+    let n : ℕ = d .terms .n in
+    let s0 : Set = dealtSet d 0 in
+    let s1 : Set = dealtSet d 1 in
     let m0 : List ℕ = plus n v0 (s0 .mask) in
     let m1 : List ℕ = plus n v1 (s1 .mask) in
     let w0 : ℕ = boxWord code (share 0 n (s0 .c) m0 m1 (s0 .x) (s0 .y)) (ownWord code n v0) (s0 .r) in
     let w1 : ℕ = boxWord code (share 1 n (s1 .c) m0 m1 (s1 .x) (s1 .y)) (ownWord code n v1) (s1 .r) in
     add (answer 0 (s0 .key) (s0 .seed) (add w0 w1)) (answer 1 (s1 .key) (s1 .seed) (add w0 w1)))
-    ≡ only (reached code (measure code n v0 v1) (signed t)) 1
+    ≡ only (reached (d .terms .code) (measure (d .terms .code) (d .terms .n) v0 v1) (signed (d .t))) 1
 unfolding dealtSet setFrom ownMask maskX maskY cOf rOf
-dealt-join seed number code n t v0 v1 most in0 in1 fits =
-    let w : List ℕ = setWords seed n in
+dealt-join d v0 v1 most in0 in1 fits =
+    let code : ℕ = d .terms .code in
+    let n : ℕ = d .terms .n in
+    let w : List ℕ = setWords (d .seed) n in
     let X : ℕ → List ℕ = x n w in
     let Y : ℕ → List ℕ = y n w in
     let s : (party c : ℕ) → share party n c (plus n v0 (fill (plus n (X 0) (X 1)))) (plus n v1 (fill (plus n (Y 0) (Y 1)))) (fill (X party)) (fill (Y party))
     ≡ share party n c (plus n v0 (plus n (X 0) (X 1))) (plus n v1 (plus n (Y 0) (Y 1))) (X party) (Y party) =
     λ party c. rw (plus-fill n v0 (plus n (X 0) (X 1)), plus-fill n v1 (plus n (Y 0) (Y 1))) (share-fills party n c _ _ (X party) (Y party)) in
     rw (s 0 (c0 n w), s 1 (otherC n (plus n (X 0) (X 1)) (plus n (Y 0) (Y 1)) (c0 n w)))
-    (join-law code n t v0 v1 (X 0) (X 1) (Y 0) (Y 1) (c0 n w) (r n w) (r0 n w) (keySeed n w 0) (keySeed n w 1) most in0 in1 fits (point-below seed n))
+    (join-law code n (d .t) v0 v1 (X 0) (X 1) (Y 0) (Y 1) (c0 n w) (r n w) (r0 n w) (keySeed n w 0) (keySeed n w 1) most in0 in1 fits (point-below (d .seed) n))

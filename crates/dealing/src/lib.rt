@@ -1,13 +1,19 @@
 // Deals a set (01, "Dealing a set"): from the set seed's key stream to what each party's half holds.
 // The words that are drawn stand in one array, in 01's order, and are read from there by their place.
 ghost use mathlib.Core.Path.{_≡_};
-ghost use Prim.Native.Nat.{_+_, _*_, _≤_};
+ghost use mathlib.Core.List.{List};
+ghost use Prim.Native.Nat.{ℕ, _+_, _*_, _≤_};
 ghost use lib.ListN.{length, take};
 ghost use Rattle.share.specs.Share.{plus};
-ghost use Rattle.content.specs.Content.{part, fill};
-ghost use Rattle.dealing.specs.Dealing.{setWords, x as shareX, y as shareY, keySeed, setFrom, dealtSet};
+ghost use Rattle.content.specs.Content.{mostElements, part, fill};
+ghost use Rattle.dealing.specs.Dealing.{setWords, x as shareX, y as shareY, keySeed, dealFrom, setFrom, dealtSet};
 use content::Set;
+use measure::MOST_ELEMENTS;
+use measure::Terms;
 use node::Key;
+
+// The words that are drawn for the longest vectors.
+const MOST_WORDS: usize = 4 * MOST_ELEMENTS + 19;
 
 pub struct Dealt {
     pub camera: Set,
@@ -16,11 +22,11 @@ pub struct Dealt {
 
 // The words of a set of length n: 4 n + 19 of them, from the start of an array with room for the
 // longest.
-fn draw(seed: &[u8; 32], n: usize) -> [u32; 2067]
-    requires { ⌜ n ≤ 512 ⌝ }
+fn draw(seed: &[u8; 32], n: usize) -> [u32; MOST_WORDS]
+    requires { ⌜ n ≤ mostElements ⌝ }
     ensures { λ r. ⌜ take (4 * n + 19) r ≡ setWords (now (seed .entry)) n ⌝ }
 {
-    let mut w = [0u32; 2067];
+    let mut w = [0u32; MOST_WORDS];
     let end = 4 * n + 19;
     keystream::stream(chacha20::key_words(seed), [1, 0, 0], &mut w[..end]);
     w
@@ -39,18 +45,18 @@ fn copy(w: &[u32], at: usize, out: &mut [u32])
 }
 
 // n words from `at` on, in an array.
-fn words_from(w: &[u32], at: usize, n: usize) -> [u32; 512]
-    requires { ⌜ (n ≤ 512) × (at + n ≤ length (now w)) ⌝ }
+fn words_from(w: &[u32], at: usize, n: usize) -> [u32; MOST_ELEMENTS]
+    requires { ⌜ (n ≤ mostElements) × (at + n ≤ length (now w)) ⌝ }
     ensures { λ r. ⌜ r ≡ fill (part at n (now (w .entry))) ⌝ }
 {
-    let mut a = [0u32; 512];
+    let mut a = [0u32; MOST_ELEMENTS];
     copy(w, at, &mut a[..n]);
     a
 }
 
 // A party's key seed.
 fn key_seed(w: &[u32], n: usize, party: usize) -> [u32; 8]
-    requires { ⌜ (party ≤ 1) × (n ≤ 512) × (4 * n + 19 ≤ length (now w)) ⌝ }
+    requires { ⌜ (party ≤ 1) × (n ≤ mostElements) × (4 * n + 19 ≤ length (now w)) ⌝ }
     ensures { λ r. ⌜ r ≡ keySeed n (now (w .entry)) party ⌝ }
 {
     let mut seed = [0u32; 8];
@@ -59,11 +65,11 @@ fn key_seed(w: &[u32], n: usize, party: usize) -> [u32; 8]
 }
 
 // The mask whose two shares stand from `at` on, one after the other.
-fn mask(w: &[u32], at: usize, n: usize) -> [u32; 512]
-    requires { ⌜ (n ≤ 512) × (at + 2 * n ≤ length (now w)) ⌝ }
+fn mask(w: &[u32], at: usize, n: usize) -> [u32; MOST_ELEMENTS]
+    requires { ⌜ (n ≤ mostElements) × (at + 2 * n ≤ length (now w)) ⌝ }
     ensures { λ r. ⌜ r ≡ fill (plus n (part at n (now (w .entry))) (part (at + n) n (now (w .entry)))) ⌝ }
 {
-    let mut m = [0u32; 512];
+    let mut m = [0u32; MOST_ELEMENTS];
     let next = at + n;
     share::add_vectors(n, &w[at..], &w[next..], &mut m);
     m
@@ -74,23 +80,32 @@ fn set_for(
     w: &[u32],
     party: usize,
     number: u64,
-    code: u32,
-    n: usize,
-    mask: [u32; 512],
+    terms: Terms,
+    mask: [u32; MOST_ELEMENTS],
     c: u32,
     r: u32,
     key: Key,
 ) -> Set
-    requires { ⌜ (party ≤ 1) × (n ≤ 512) × (4 * n + 19 ≤ length (now w)) ⌝ }
-    ensures { λ s. ⌜ s ≡ record { number = number; code = code; n = n; mask = mask; x = fill (shareX n (now (w .entry)) party); y = fill (shareY n (now (w .entry)) party); c = c; r = r; seed = keySeed n (now (w .entry)) party; key = key } ⌝ }
+    requires { ⌜ (party ≤ 1) × (terms .n ≤ mostElements) × (4 * terms .n + 19 ≤ length (now w)) ⌝ }
+    ensures { λ s. ⌜ s ≡ record {
+      number = number;
+      terms = terms;
+      mask = mask;
+      x = fill (shareX (terms .n) (now (w .entry)) party);
+      y = fill (shareY (terms .n) (now (w .entry)) party);
+      c = c;
+      r = r;
+      seed = keySeed (terms .n) (now (w .entry)) party;
+      key = key;
+    } ⌝ }
 {
+    let n = terms.n;
     let x = words_from(w, party * n, n);
     let y = words_from(w, (2 + party) * n, n);
     let seed = key_seed(w, n, party);
     Set {
         number,
-        code,
-        n,
+        terms,
         mask,
         x,
         y,
@@ -101,11 +116,13 @@ fn set_for(
     }
 }
 
-// Both parties' sets, from the words that were drawn. They hold one key.
-fn sets_from(w: &[u32], number: u64, code: u32, n: usize, t: u32) -> Dealt
-    requires { ⌜ (n ≤ 512) × (4 * n + 19 ≤ length (now w)) ⌝ }
-    ensures { λ s. ⌜ (s .camera ≡ setFrom n (now (w .entry)) number code t 0) × (s .office ≡ setFrom n (now (w .entry)) number code t 1) ⌝ }
+// Both parties' sets, from the words that were drawn from any seed. They hold one key.
+fn sets_from(w: &[u32], number: u64, terms: Terms, t: u32) -> Dealt
+    requires { ⌜ (terms .n ≤ mostElements) × (4 * terms .n + 19 ≤ length (now w)) ⌝ }
+    ensures { λ s. ⌜ ((seed : List ℕ) → (s .camera ≡ setFrom (dealFrom number seed terms t) (now (w .entry)) 0)
+        × (s .office ≡ setFrom (dealFrom number seed terms t) (now (w .entry)) 1)) ⌝ }
 {
+    let n = terms.n;
     let mask_x = mask(w, 0, n);
     let mask_y = mask(w, 2 * n, n);
     let c0 = w[4 * n];
@@ -116,17 +133,19 @@ fn sets_from(w: &[u32], number: u64, code: u32, n: usize, t: u32) -> Dealt
     let key = keys::make(seed0, seed1, r);
     let c1 = share::other_c(n, &mask_x, &mask_y, c0);
     let r1 = share::other_r(r, t, r0);
-    let camera = set_for(w, 0, number, code, n, mask_x, c0, r0, key);
-    let office = set_for(w, 1, number, code, n, mask_y, c1, r1, key);
+    let camera = set_for(w, 0, number, terms, mask_x, c0, r0, key);
+    let office = set_for(w, 1, number, terms, mask_y, c1, r1, key);
     Dealt { camera, office }
 }
 
 // Both parties' sets of a deal.
-pub fn sets(seed: &[u8; 32], number: u64, code: u32, n: usize, t: u32) -> Dealt
-    requires { ⌜ n ≤ 512 ⌝ }
-    ensures { λ s. ⌜ (s .camera ≡ dealtSet (now (seed .entry)) number code n t 0) × (s .office ≡ dealtSet (now (seed .entry)) number code n t 1) ⌝ }
+pub fn sets(seed: &[u8; 32], number: u64, terms: Terms, t: u32) -> Dealt
+    requires { ⌜ terms .n ≤ mostElements ⌝ }
+    ensures { λ s. ⌜ (s .camera ≡ dealtSet (dealFrom number (now (seed .entry)) terms t) 0)
+        × (s .office ≡ dealtSet (dealFrom number (now (seed .entry)) terms t) 1) ⌝ }
 {
+    let n = terms.n;
     let w = draw(seed, n);
     let end = 4 * n + 19;
-    sets_from(&w[..end], number, code, n, t)
+    sets_from(&w[..end], number, terms, t)
 }

@@ -33,7 +33,7 @@ module _ (key name : List ℕ) (party : ℕ) (named : length name ≡ 16) where
     text = plain name party s
 
     abbrev count : ℕ
-    count = blockCount (s .n)
+    count = blockCount (s .terms .n)
 
     long : length text ≡ 484 * count
     long = length-plain name party s named p
@@ -47,7 +47,7 @@ module _ (key name : List ℕ) (party : ℕ) (named : length name ≡ 16) where
     are i l = block-at key (s .number) text count i (omega (arith, long)) l
 
     some-blocks : (3 ≤ count) × (count ≤ 16)
-    some-blocks = blocks-bounds (s .n) (p .some) (p .most)
+    some-blocks = blocks-bounds (s .terms .n) (p .some) (p .most)
 
     pub half-number : setNumber (half key name party s) ≡ s .number
     half-number =
@@ -132,7 +132,7 @@ module _ (key name : List ℕ) (party : ℕ) (named : length name ≡ 16) where
       pub set : Set
       pub dealt : D set
       pub place : ℕ
-      pub among : place < blockCount (set .n)
+      pub among : place < blockCount (set .terms .n)
       pub is : b ≡ blockAt (half key name party set) place
 
     module _ (h : List ℕ) (wrote : (i : ℕ) → i < length h / 512 → Wrote (blockAt h i)) (t : Taken h) where
@@ -151,7 +151,7 @@ module _ (key name : List ℕ) (party : ℕ) (named : length name ≡ 16) where
           let whole : 484 * k + 484 ≤ length text = omega (arith, length-plain name party s named p, w .among) in
           let at : blockAt h i ≡ block key (s .number) k (part (484 * k) 484 text) = w .is ∙ are s p k (w .among) in
           let size = length-part text (484 * k) 484 whole in
-          let small : k < 2 ^ 32 = omega (arith, w .among, blocks-bounds (s .n) (p .some) (p .most) .1) in (
+          let small : k < 2 ^ 32 = omega (arith, w .among, blocks-bounds (s .terms .n) (p .some) (p .most) .1) in (
             sym (index-of-block key (s .number) k (part (484 * k) 484 text) size small) ∙ ap (λ (b : List ℕ). number (part 8 4 b)) (sym at) ∙ eqb-true _ i (a .0),
             sym (set-of-block key (s .number) k (part (484 * k) 484 text) size (p .number-fits)) ∙ ap (λ (b : List ℕ). number (part 0 8 b)) (sym at) ∙ eqb-true _ (setNumber h) (b .0),
           )
@@ -166,23 +166,23 @@ module _ (key name : List ℕ) (party : ℕ) (named : length name ≡ 16) where
       proper : Proper deal
       proper = sound deal (wrote 0 none .dealt)
 
-      all-its : (i : ℕ) (l : i < length h / 512) → (i < blockCount (deal .n)) × (blockAt h i ≡ block key (deal .number) i (part (484 * i) 484 (plain name party deal)))
+      all-its : (i : ℕ) (l : i < length h / 512) → (i < blockCount (deal .terms .n)) × (blockAt h i ≡ block key (deal .number) i (part (484 * i) 484 (plain name party deal)))
       all-its i l =
           let w = wrote i l in
           let same : w .set ≡ deal = one (w .set) deal (w .dealt) (wrote 0 none .dealt) (placed i l .1 ∙ sym (placed 0 none .1)) in
-          let among : i < blockCount (deal .n) = subst (λ (s : Set). i < blockCount (s .n)) same (subst (λ (k : ℕ). k < blockCount (w .set .n)) (placed i l .0) (w .among)) in
+          let among : i < blockCount (deal .terms .n) = subst (λ (s : Set). i < blockCount (s .terms .n)) same (subst (λ (k : ℕ). k < blockCount (w .set .terms .n)) (placed i l .0) (w .among)) in
           (among, w .is ∙ ap₂ (λ (s : Set) (k : ℕ). blockAt (half key name party s) k) same (placed i l .0) ∙ are deal proper i among)
 
       -- as many blocks as it has
-      counts : length h / 512 ≡ blockCount (deal .n)
+      counts : length h / 512 ≡ blockCount (deal .terms .n)
       counts =
           let k = length h / 512 in
           let text = plain name party deal in
           let last : k - 1 < k = omega (arith, t .three) in
-          let fewer : k ≤ blockCount (deal .n) = omega (arith, all-its (k - 1) last .0) in
+          let fewer : k ≤ blockCount (deal .terms .n) = omega (arith, all-its (k - 1) last .0) in
           let enough : 484 * k ≤ length text = omega (arith, length-plain name party deal named proper) in
           let opened : openedBlocks key h k ≡ take (484 * k) text = are-opened key (deal .number) text h k enough (λ i l. all-its i l .1) in
-          let n : lengthIn (openedBlocks key h k) ≡ deal .n = ap lengthIn opened ∙ lengthIn-take (484 * k) text (omega (arith, t .three)) ∙ lengthIn-plain name party deal named proper in
+          let n : lengthIn (openedBlocks key h k) ≡ deal .terms .n = ap lengthIn opened ∙ lengthIn-take (484 * k) text (omega (arith, t .three)) ∙ lengthIn-plain name party deal named proper in
           let e = fits-length name party k (openedBlocks key h k) (t .content) .1 in
           sym (sym (ap blockCount n) ∙ e)
 

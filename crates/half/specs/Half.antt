@@ -1,14 +1,14 @@
 -- A half as blocks (01, "The sealed half"), and why one is turned down (01, "When a call is turned down", 4, 7, 10 and 11). Assumes nothing.
 use mathlib.Core.Bool.{Bool, true, _&&_}
 use mathlib.Core.List.{List, [], _++_}
-use Prim.Native.Nat.{ℕ, zero, suc, _*_, _/_, _%_}
+use Prim.Native.Nat.{ℕ, zero, suc, _+_, _*_, _/_, _%_}
 use lib.Dec.{eqb, leb, ltb}
 use lib.ListN.{length}
 use Rattle.words.specs.Numbers.{bytes, number}
 use Rattle.aead.specs.Aead.{cipher, tagFor, opens}
 use Rattle.messages.specs.Messages.{unless}
 use Rattle.content.specs.declared.Set.{Set}
-use Rattle.content.specs.Content.{part, blockCount, plain, setIn, contentFits}
+use Rattle.content.specs.Content.{blockBytes, textBytes, mostBlocks, part, blockCount, plain, setIn, contentFits}
 
 -- "A block is 512 bytes: set number (8, little-endian), block index from 0 (4, little-endian), 484 sealed bytes, tag (16). Sealing is RFC 8439's ChaCha20-Poly1305 under
 -- the box's key, with the first twelve bytes as nonce and as additional data"
@@ -24,16 +24,16 @@ block key set i text =
 -- the first i blocks of plain content p
 unfoldable pub firstBlocks : List ℕ → ℕ → List ℕ → ℕ → List ℕ
 firstBlocks key set p zero = []
-firstBlocks key set p (suc i) = firstBlocks key set p i ++ block key set i (part (484 * i) 484 p)
+firstBlocks key set p (suc i) = firstBlocks key set p i ++ block key set i (part (textBytes * i) textBytes p)
 
 -- a party's half of a set, under the box's key and the padded name
 unfoldable pub half : List ℕ → List ℕ → ℕ → Set → List ℕ
-half key name party s = firstBlocks key (s .number) (plain name party s) (blockCount (s .n))
+half key name party s = firstBlocks key (s .number) (plain name party s) (blockCount (s .terms .n))
 
 -- ---- what a half handed in holds
 
 unfoldable pub blockAt : List ℕ → ℕ → List ℕ
-blockAt h i = part (512 * i) 512 h
+blockAt h i = part (blockBytes * i) blockBytes h
 
 -- "load by block 0's number"
 unfoldable pub setNumber : List ℕ → ℕ
@@ -42,7 +42,7 @@ setNumber h = number (part 0 8 h)
 -- "A block's index is not its place, its number differs from block 0's, or its tag doesn't fit"
 unfoldable pub blockFits : List ℕ → ℕ → ℕ → List ℕ → Bool
 blockFits key set i b =
-    eqb (number (part 8 4 b)) i && (eqb (number (part 0 8 b)) set && opens key (part 0 12 b) (part 0 12 b) (part 12 484 b) (part 496 16 b))
+    eqb (number (part 8 4 b)) i && (eqb (number (part 0 8 b)) set && opens key (part 0 12 b) (part 0 12 b) (part 12 textBytes b) (part (12 + textBytes) 16 b))
 
 unfoldable pub firstFit : List ℕ → List ℕ → ℕ → Bool
 firstFit key h zero = true
@@ -51,16 +51,16 @@ firstFit key h (suc i) = firstFit key h i && blockFits key (setNumber h) i (bloc
 -- what its first i blocks open to
 unfoldable pub openedBlocks : List ℕ → List ℕ → ℕ → List ℕ
 openedBlocks key h zero = []
-openedBlocks key h (suc i) = openedBlocks key h i ++ cipher key (part 0 12 (blockAt h i)) (part 12 484 (blockAt h i))
+openedBlocks key h (suc i) = openedBlocks key h i ++ cipher key (part 0 12 (blockAt h i)) (part 12 textBytes (blockAt h i))
 
 -- "a half 3 to 16 whole blocks"
 unfoldable pub wholeBlocks : List ℕ → Bool
-wholeBlocks h = eqb (length h % 512) 0 && (leb 3 (length h / 512) && leb (length h / 512) 16)
+wholeBlocks h = eqb (length h % blockBytes) 0 && (leb 3 (length h / blockBytes) && leb (length h / blockBytes) mostBlocks)
 
 -- why whole blocks are turned down, at a box of this key, padded name and party: 10 and 11; 0 if they are not
 unfoldable pub whyNotOpened : List ℕ → List ℕ → ℕ → List ℕ → ℕ
 whyNotOpened key name party h =
-    let count : ℕ = length h / 512 in
+    let count : ℕ = length h / blockBytes in
     unless (firstFit key h count) 10 (unless (contentFits name party count (openedBlocks key h count)) 11 0)
 
 -- why a half is turned down where the box's last number is `last`
@@ -69,4 +69,4 @@ whyNot key name party last h = unless (wholeBlocks h) 4 (unless (ltb last (setNu
 
 -- the set that it opens to
 unfoldable pub openedSet : List ℕ → List ℕ → Set
-openedSet key h = setIn (setNumber h) (openedBlocks key h (length h / 512))
+openedSet key h = setIn (setNumber h) (openedBlocks key h (length h / blockBytes))

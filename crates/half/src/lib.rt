@@ -4,10 +4,14 @@ ghost use Prim.Native.Nat.{_*_, _/_, _%_, _^_, _≤_, _<_};
 ghost use lib.ListN.{length};
 ghost use Rattle.words.specs.List.{over};
 ghost use Rattle.aead.specs.Aead.{polyKey};
-ghost use Rattle.content.specs.Content.{blockCount, Proper};
+ghost use Rattle.content.specs.Content.{blockBytes, textBytes, mostBlocks, blockCount, Proper};
 ghost use Rattle.half.specs.Half.{header as headerOf, block, firstBlocks, half};
 ghost use Rattle.half.specs.OneTime.{KeysFor};
+use content::BLOCK;
+use content::MOST_BLOCKS;
 use content::Set;
+use content::TAG_AT;
+use content::TEXT;
 
 fn low(number: u64) -> u32
     ensures { λ r. ⌜ r ≡ number % 2 ^ 32 ⌝ }
@@ -32,16 +36,16 @@ fn header(number: u64, i: u32) -> [u8; 12]
 }
 
 // The one-time keys of a set's first `count` blocks, for sealing and for opening them.
-pub fn one_time_keys(key: &[u8; 32], number: u64, count: usize) -> [u8; 512]
-    requires { ⌜ count ≤ 16 ⌝ }
+pub fn one_time_keys(key: &[u8; 32], number: u64, count: usize) -> [u8; 32 * MOST_BLOCKS]
+    requires { ⌜ count ≤ mostBlocks ⌝ }
     ensures { λ r. ⌜ KeysFor (now (key .entry)) number count r ⌝ }
 {
     one_time::keys_to(key, low(number), high(number), count)
 }
 
-// Block i: 484 bytes of text, sealed. Its one-time key is at hand.
+// Block i: its text, sealed. Its one-time key is at hand.
 fn write_block(key: &[u8; 32], once: &[u8; 32], number: u64, i: u32, text: &[u8], out: &mut [u8])
-    requires { ⌜ (length (now text) ≡ 484) × (length (now out) ≡ 512) ⌝ }
+    requires { ⌜ (length (now text) ≡ textBytes) × (length (now out) ≡ blockBytes) ⌝ }
     requires { ⌜ now once ≡ polyKey (now key) (headerOf number i) ⌝ }
     ensures { λ _. ⌜ now (out .exit) ≡ block (now (key .entry)) number i (now (text .entry)) ⌝ }
 {
@@ -49,14 +53,14 @@ fn write_block(key: &[u8; 32], once: &[u8; 32], number: u64, i: u32, text: &[u8]
     slices::copy(out, 0, &h);
     slices::copy(out, 12, text);
     let aad = h;
-    let sealed = aead::seal_by(key, once, &h, &aad, &mut out[12..496]);
+    let sealed = aead::seal_by(key, once, &h, &aad, &mut out[12..TAG_AT]);
     let tag = sealed.tag;
-    slices::copy(out, 496, &tag);
+    slices::copy(out, TAG_AT, &tag);
 }
 
 // The first `count` blocks of plain content p, from the start of out.
 pub fn write_blocks(key: &[u8; 32], number: u64, count: usize, p: &[u8], out: &mut [u8])
-    requires { ⌜ (count ≤ 16) × (484 * count ≤ length (now p)) × (512 * count ≤ length (now out)) ⌝ }
+    requires { ⌜ (count ≤ mostBlocks) × (textBytes * count ≤ length (now p)) × (blockBytes * count ≤ length (now out)) ⌝ }
     ensures { λ _. ⌜ now (out .exit) ≡ over 0 (firstBlocks (now (key .entry)) number (now (p .entry)) count) (now (out .entry)) ⌝ }
 {
     let keys = one_time_keys(key, number, count);
@@ -68,8 +72,8 @@ pub fn write_blocks(key: &[u8; 32], number: u64, count: usize, p: &[u8], out: &m
             &once,
             number,
             i as u32,
-            &p[484 * i..484 * i + 484],
-            &mut out[512 * i..512 * i + 512],
+            &p[TEXT * i..TEXT * i + TEXT],
+            &mut out[BLOCK * i..BLOCK * i + BLOCK],
         );
         i += 1;
     }
@@ -77,12 +81,12 @@ pub fn write_blocks(key: &[u8; 32], number: u64, count: usize, p: &[u8], out: &m
 
 // A party's half of a set, from the start of out.
 pub fn write_half(key: &[u8; 32], name: [u8; 16], party: u32, s: Set, out: &mut [u8])
-    requires { ⌜ (party < 256) × (512 * blockCount (s .n) ≤ length (now out)) ⌝ }
+    requires { ⌜ (party < 256) × (blockBytes * blockCount (s .terms .n) ≤ length (now out)) ⌝ }
     requires { ⌜ Proper s ⌝ }
     ensures { λ _. ⌜ now (out .exit) ≡ over 0 (half (now (key .entry)) name party s) (now (out .entry)) ⌝ }
 {
     let number = s.number;
-    let count = content::blocks_of(s.n);
+    let count = content::blocks_of(s.terms.n);
     let p = layout::lay_out(name, party, s);
     write_blocks(key, number, count, &p, out);
 }

@@ -6,29 +6,30 @@ use lib.Dec.{eqb, leb, ltb}
 use lib.ListN.{getD, drop}
 use Prim.Native.Nat.{ℕ, zero, suc, _^_, _<_, _≤_}
 use native.Mathlib.Omega.{arith}
-use borrow.Author.Tests.{lt-ltb, ltb-true, leb-true}
+use borrow.Author.Tests.{ltb-true, leb-true}
 use Rattle.algebra.specs.Bit.{both}
 use Rattle.words.specs.List.{same}
 use Rattle.node.specs.declared.Correction.{Correction}
 use Rattle.measure.specs.Measure.{isCode}
+use Rattle.measure.specs.Laws.{code-lt}
 use Rattle.messages.specs.Laws.{passed, taken}
 use Rattle.content.specs.declared.Set.{Set}
-use Rattle.content.specs.Content.{size, blockCount, field, setIn, noSet, lengthFits, flagsFit, zeros, contentFits, FlagBytes, Proper}
-use Rattle.dealing.specs.Dealing.{dealtSet}
+use Rattle.content.specs.Content.{mostElements, size, blockCount, field, setIn, noSet, lengthFits, flagsFit, zeros, contentFits, FlagBytes, Proper}
+use Rattle.dealing.specs.Dealing.{Deal, dealtSet}
 use Rattle.dealing.specs.Laws.{proper}
 use Rattle.opening.specs.declared.Examined.{Examined}
 use Rattle.half.specs.Half.{whyNot, whyNotOpened, openedSet}
 use Rattle.opening.specs.Examined.{answerFor, examined}
 
-pub dealt-proper : (seed : List ℕ) (number code n t party : ℕ) (s : Set) → s ≡ dealtSet seed number code n t party → number < 2 ^ 64 → code < 3 → 1 ≤ n → n ≤ 512 → party ≤ 1 → Proper s
-unfolding isCode
-dealt-proper seed number code n t party s e hnumber hcode some most hparty =
-    subst Proper (sym e) (proper seed number code n t party hnumber (lt-ltb code 3 hcode) some most hparty)
+pub dealt-proper : (d : Deal) (party : ℕ) (s : Set) → s ≡ dealtSet d party → d .number < 2 ^ 64 → isCode (d .terms .code) ≡ true
+    → 1 ≤ d .terms .n → d .terms .n ≤ mostElements → party ≤ 1 → Proper s
+dealt-proper d party s e hnumber hcode some most hparty =
+    subst Proper (sym e) (proper d party hnumber hcode some most hparty)
 
 -- ---- what laying a set out asks of it
 
 abbrev pub Laid : Set → Type 0
-Laid s = (s .code < 256) × (s .n ≤ 512) × FlagBytes (s .key .corrections)
+Laid s = (s .terms .code < 256) × (s .terms .n ≤ mostElements) × FlagBytes (s .key .corrections)
 
 flag-bytes : (cs : List Correction) → flagsFit cs ≡ true → FlagBytes cs
 unfolding flagsFit FlagBytes
@@ -37,11 +38,15 @@ flag-bytes (c ∷ cs) h zero l = omega (arith, ltb-true (c .flags) 4 (both (ltb 
 flag-bytes (c ∷ cs) h (suc i) l = flag-bytes cs (both (ltb (c .flags) 4) (flagsFit cs) h .1) i (omega arith)
 
 fits-laid : (name : List ℕ) (party count number : ℕ) (b : List ℕ) → contentFits name party count b ≡ true → Laid (setIn number b)
-unfolding contentFits setIn isCode lengthFits
+unfolding contentFits setIn lengthFits
 fits-laid name party count number b h =
     let s : Set = setIn number b in
-    let t = tests (same (field b 0) name) (eqb (getD (field b 1) 0 0) party) (isCode (s .code)) (lengthFits (s .n)) (eqb (blockCount (s .n)) count) (flagsFit (s .key .corrections)) (zeros (drop (size (s .n)) b)) h in
-    (omega (arith, ltb-true (s .code) 3 (t .0)), leb-true (s .n) 512 (both (leb 1 (s .n)) (leb (s .n) 512) (t .1) .1), flag-bytes (s .key .corrections) (t .2))
+    let n = s .terms .n in
+    let flags = flagsFit (s .key .corrections) in
+    let t = tests (same (field b 0) name) (eqb (getD (field b 1) 0 0) party) (isCode (s .terms .code)) (lengthFits n)
+    (eqb (blockCount n) count) flags (zeros (drop (size n) b)) h in
+    let long = both (leb 1 n) (leb n mostElements) (t .1) .1 in
+    (omega (arith, code-lt (s .terms .code) (t .0)), leb-true n mostElements long, flag-bytes (s .key .corrections) (t .2))
   where
     tests : (a b c d e f g : Bool) → a && (b && (c && (d && (e && (f && g))))) ≡ true → (c ≡ true) × (d ≡ true) × (f ≡ true)
     tests a b c d e f g h =

@@ -1,11 +1,13 @@
 // Halves that are changed or mixed, and the refusals of these.
-ghost use Prim.Native.Nat.{_<_, _≤_};
+ghost use Prim.Native.Nat.{_+_, _*_, _<_, _≤_};
+ghost use Rattle.content.specs.Content.{blockBytes, mostBlocks};
 use crate::dealt;
 use crate::dealt::Dealt;
 use crate::dealt::HALF;
-use crate::dealt::PLAIN;
 use crate::fields;
 use crate::fields::Command;
+use content::BLOCK;
+use content::ROOM;
 
 // What is answered to a line that asks for something else: no refusal has this number.
 const BAD_LINE: u32 = 99;
@@ -16,7 +18,7 @@ fn bit(i: usize) -> u8 {
 
 // 1 is xored into a byte where its place is even, else 128.
 fn flipped(half: [u8; HALF], i: usize) -> [u8; HALF]
-    requires { ⌜ i < 8704 ⌝ }
+    requires { ⌜ i < (mostBlocks + 1) * blockBytes ⌝ }
 {
     let mut h = half;
     h[i] = h[i] ^ bit(i);
@@ -24,9 +26,9 @@ fn flipped(half: [u8; HALF], i: usize) -> [u8; HALF]
 }
 
 // All bytes from one place to before another set.
-fn spread(plain: [u8; PLAIN], from: usize, to: usize, byte: u8) -> [u8; PLAIN] {
+fn spread(plain: [u8; ROOM], from: usize, to: usize, byte: u8) -> [u8; ROOM] {
     let mut p = plain;
-    let end = slices::least(to, PLAIN);
+    let end = slices::least(to, ROOM);
     let mut i = from;
     while i < end {
         p[i] = byte;
@@ -35,28 +37,28 @@ fn spread(plain: [u8; PLAIN], from: usize, to: usize, byte: u8) -> [u8; PLAIN] {
     p
 }
 
-fn of_content(d: Dealt, plain: [u8; PLAIN]) -> u32
-    requires { ⌜ d .blocks ≤ 16 ⌝ }
+fn of_content(d: Dealt, plain: [u8; ROOM]) -> u32
+    requires { ⌜ d .blocks ≤ mostBlocks ⌝ }
 {
     let b = d.holder;
     let key = b.key;
     dealt::refusal(
         b,
         dealt::sealed(key, d.number, d.blocks, plain),
-        512 * d.blocks,
+        BLOCK * d.blocks,
     )
 }
 
 fn flip(d: Dealt, i: usize) -> u32
-    requires { ⌜ (d .blocks ≤ 16) × (i < 8704) ⌝ }
+    requires { ⌜ (d .blocks ≤ mostBlocks) × (i < (mostBlocks + 1) * blockBytes) ⌝ }
 {
     let b = d.holder;
     let half = d.half;
-    dealt::refusal(b, flipped(half, i), 512 * d.blocks)
+    dealt::refusal(b, flipped(half, i), BLOCK * d.blocks)
 }
 
 fn set(d: Dealt, from: usize, to: usize, byte: u8) -> u32
-    requires { ⌜ d .blocks ≤ 16 ⌝ }
+    requires { ⌜ d .blocks ≤ mostBlocks ⌝ }
 {
     let plain = d.plain;
     of_content(d, spread(plain, from, to, byte))
@@ -64,7 +66,7 @@ fn set(d: Dealt, from: usize, to: usize, byte: u8) -> u32
 
 // The refusal of the half with one byte flipped, or of its content with one byte set.
 pub fn at(d: Dealt, c: Command, byte: u8, i: usize) -> u32
-    requires { ⌜ (d .blocks ≤ 16) × (i < 8704) ⌝ }
+    requires { ⌜ (d .blocks ≤ mostBlocks) × (i < (mostBlocks + 1) * blockBytes) ⌝ }
 {
     match c {
         Command::Flip => flip(d, i),
@@ -74,18 +76,18 @@ pub fn at(d: Dealt, c: Command, byte: u8, i: usize) -> u32
 
 // A half whose block i is block j of another.
 fn with_block(half: [u8; HALF], i: usize, other: [u8; HALF], j: usize) -> [u8; HALF]
-    requires { ⌜ (i ≤ 16) × (j ≤ 16) ⌝ }
+    requires { ⌜ (i ≤ mostBlocks) × (j ≤ mostBlocks) ⌝ }
 {
     let mut h = half;
-    let from = 512 * j;
-    let end = from + 512;
-    slices::copy(&mut h, 512 * i, &other[from..end]);
+    let from = BLOCK * j;
+    let end = from + BLOCK;
+    slices::copy(&mut h, BLOCK * i, &other[from..end]);
     h
 }
 
 // Behind the half its first block stands again.
 fn cut(d: Dealt, size: usize) -> u32
-    requires { ⌜ d .blocks ≤ 16 ⌝ }
+    requires { ⌜ d .blocks ≤ mostBlocks ⌝ }
 {
     let b = d.holder;
     let half = d.half;
@@ -94,19 +96,19 @@ fn cut(d: Dealt, size: usize) -> u32
 
 // The half is longer if it has no block i.
 fn mix(d: Dealt, i: usize, other: [u8; HALF], j: usize) -> u32
-    requires { ⌜ (d .blocks ≤ 16) × (i ≤ d .blocks) × (j ≤ 16) ⌝ }
+    requires { ⌜ (d .blocks ≤ mostBlocks) × (i ≤ d .blocks) × (j ≤ mostBlocks) ⌝ }
 {
     let b = d.holder;
     let half = d.half;
     let h = with_block(half, i, other, j);
     if i == d.blocks {
-        return dealt::refusal(b, h, 512 * d.blocks + 512);
+        return dealt::refusal(b, h, BLOCK * d.blocks + BLOCK);
     }
-    dealt::refusal(b, h, 512 * d.blocks)
+    dealt::refusal(b, h, BLOCK * d.blocks)
 }
 
 fn mixed(d: Dealt, i: usize, other: Dealt, j: usize) -> u32
-    requires { ⌜ (d .blocks ≤ 16) × (other .blocks ≤ 16) ⌝ }
+    requires { ⌜ (d .blocks ≤ mostBlocks) × (other .blocks ≤ mostBlocks) ⌝ }
 {
     let half = other.half;
     if i <= d.blocks {
@@ -118,16 +120,16 @@ fn mixed(d: Dealt, i: usize, other: Dealt, j: usize) -> u32
 }
 
 fn examine(d: Dealt, line: &[u8]) -> u32
-    requires { ⌜ d .blocks ≤ 16 ⌝ }
+    requires { ⌜ d .blocks ≤ mostBlocks ⌝ }
 {
     let half = d.half;
     let b = fields::read_holder(line, 10, 11, 12, 9);
-    dealt::refusal(b, half, 512 * d.blocks)
+    dealt::refusal(b, half, BLOCK * d.blocks)
 }
 
 // The commands that one refusal answers.
 pub fn refusal(d: Dealt, c: Command, line: &[u8]) -> u32
-    requires { ⌜ d .blocks ≤ 16 ⌝ }
+    requires { ⌜ d .blocks ≤ mostBlocks ⌝ }
 {
     if d.blocks == 0 {
         return BAD_LINE;

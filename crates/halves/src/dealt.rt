@@ -1,15 +1,21 @@
 // Makes halves, and hands them to a box.
-ghost use Prim.Native.Nat.{_≤_, _<_};
-ghost use Rattle.content.specs.Content.{Proper};
+ghost use mathlib.Core.Path.{_≡_};
+ghost use mathlib.Core.Bool.{true};
+ghost use Prim.Native.Nat.{_≤_};
+ghost use Rattle.measure.specs.Measure.{isCode};
+ghost use Rattle.content.specs.Content.{mostElements, mostBlocks, Proper};
 use crate::fields;
 use crate::fields::Half;
 use crate::fields::Holder;
+use content::BLOCK;
+use content::MOST_BLOCKS;
+use content::ROOM;
 use content::Set;
+use measure::MOST_ELEMENTS;
+use measure::Terms;
 
-// Room for the plain content of 16 blocks, and for one block more than a half may have.
-pub const PLAIN: usize = 7744;
-
-pub const HALF: usize = 8704;
+// Room for one block more than a half may have.
+pub const HALF: usize = (MOST_BLOCKS + 1) * BLOCK;
 
 // A set's half for a party: its plain content with fill and the same sealed, each from the start of
 // an array. No blocks: it could not be made.
@@ -17,7 +23,7 @@ pub struct Dealt {
     pub holder: Holder,
     pub number: u64,
     pub blocks: usize,
-    pub plain: [u8; PLAIN],
+    pub plain: [u8; ROOM],
     pub half: [u8; HALF],
 }
 
@@ -26,13 +32,13 @@ fn no_half() -> [u8; HALF] {
 }
 
 fn not_dealt(b: Holder) -> Dealt
-    ensures { λ r. ⌜ r .blocks ≤ 16 ⌝ }
+    ensures { λ r. ⌜ r .blocks ≤ mostBlocks ⌝ }
 {
     Dealt {
         holder: b,
         number: 0,
         blocks: 0,
-        plain: [0; PLAIN],
+        plain: [0; ROOM],
         half: no_half(),
     }
 }
@@ -40,7 +46,7 @@ fn not_dealt(b: Holder) -> Dealt
 fn deal_to(b: Holder, set: Set) -> Dealt
     requires { ⌜ b .party ≤ 1 ⌝ }
     requires { ⌜ Proper set ⌝ }
-    ensures { λ r. ⌜ r .blocks ≤ 16 ⌝ }
+    ensures { λ r. ⌜ r .blocks ≤ mostBlocks ⌝ }
 {
     let key = b.key;
     let name = b.name;
@@ -50,17 +56,17 @@ fn deal_to(b: Holder, set: Set) -> Dealt
     Dealt {
         holder: b,
         number: set.number,
-        blocks: content::blocks_of(set.n),
+        blocks: content::blocks_of(set.terms.n),
         plain,
         half,
     }
 }
 
-fn deal_in_range(b: Holder, seed: [u8; 32], number: u64, code: u32, n: usize, t: u32) -> Dealt
-    requires { ⌜ (b .party ≤ 1) × (code < 3) × (1 ≤ n) × (n ≤ 512) ⌝ }
-    ensures { λ r. ⌜ r .blocks ≤ 16 ⌝ }
+fn deal_in_range(b: Holder, seed: [u8; 32], number: u64, terms: Terms, t: u32) -> Dealt
+    requires { ⌜ (b .party ≤ 1) × (isCode (terms .code) ≡ true) × (1 ≤ terms .n) × (terms .n ≤ mostElements) ⌝ }
+    ensures { λ r. ⌜ r .blocks ≤ mostBlocks ⌝ }
 {
-    let sets = dealing::sets(&seed, number, code, n, t);
+    let sets = dealing::sets(&seed, number, terms, t);
     if b.party == 0 {
         return deal_to(b, sets.camera);
     }
@@ -68,18 +74,19 @@ fn deal_in_range(b: Holder, seed: [u8; 32], number: u64, code: u32, n: usize, t:
 }
 
 fn deal(h: Half) -> Dealt
-    ensures { λ r. ⌜ r .blocks ≤ 16 ⌝ }
+    ensures { λ r. ⌜ r .blocks ≤ mostBlocks ⌝ }
 {
     let b = h.holder;
     let seed = h.seed;
-    if !measure::threshold_fits(h.code, h.t) {
+    let terms = h.terms;
+    if !measure::threshold_fits(terms.code, h.t) {
         return not_dealt(b);
     }
     if b.party <= 1 {
-        if h.code < 3 {
-            if 1 <= h.n {
-                if h.n <= 512 {
-                    return deal_in_range(b, seed, h.number, h.code, h.n, h.t);
+        if measure::is_code(terms.code) {
+            if 1 <= terms.n {
+                if terms.n <= MOST_ELEMENTS {
+                    return deal_in_range(b, seed, h.number, terms, h.t);
                 }
             }
         }
@@ -90,14 +97,14 @@ fn deal(h: Half) -> Dealt
 // The half of a line, whose PARTY is field `at`.
 pub fn made(line: &[u8], at: usize) -> Dealt
     requires { ⌜ at ≤ 10 ⌝ }
-    ensures { λ r. ⌜ r .blocks ≤ 16 ⌝ }
+    ensures { λ r. ⌜ r .blocks ≤ mostBlocks ⌝ }
 {
     deal(fields::read_half(line, at))
 }
 
 // Other plain content, sealed.
-pub fn sealed(key: [u8; 32], number: u64, blocks: usize, plain: [u8; PLAIN]) -> [u8; HALF]
-    requires { ⌜ blocks ≤ 16 ⌝ }
+pub fn sealed(key: [u8; 32], number: u64, blocks: usize, plain: [u8; ROOM]) -> [u8; HALF]
+    requires { ⌜ blocks ≤ mostBlocks ⌝ }
 {
     let mut half = no_half();
     half::write_blocks(&key, number, blocks, &plain, &mut half);
@@ -119,7 +126,7 @@ pub struct Resealed {
 }
 
 pub fn reseal(d: Dealt) -> Resealed
-    requires { ⌜ d .blocks ≤ 16 ⌝ }
+    requires { ⌜ d .blocks ≤ mostBlocks ⌝ }
 {
     let b = d.holder;
     let key = b.key;
@@ -130,7 +137,7 @@ pub fn reseal(d: Dealt) -> Resealed
         name,
         b.party,
         b.last,
-        script::first(&half, 512 * d.blocks),
+        script::first(&half, BLOCK * d.blocks),
     );
     if e.why != 0 {
         return Resealed { why: e.why, half };

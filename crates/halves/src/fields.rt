@@ -1,6 +1,7 @@
 // What the fields of a line say. One that can't be read stands for some number or bytes all the same,
 // so that a mistake shows as a difference in the output.
 ghost use Prim.Native.Nat.{_≤_};
+use measure::Terms;
 
 // half HALF
 // tag HALF
@@ -100,8 +101,7 @@ pub fn read_holder(line: &[u8], party: usize, key: usize, name: usize, last: usi
 
 // What a half is made from, and the box that it is for.
 pub struct Half {
-    pub code: u32,
-    pub n: usize,
+    pub terms: Terms,
     pub t: u32,
     pub number: u64,
     pub seed: [u8; 32],
@@ -112,9 +112,12 @@ pub struct Half {
 pub fn read_half(line: &[u8], at: usize) -> Half
     requires { ⌜ at ≤ 10 ⌝ }
 {
-    Half {
+    let terms = Terms {
         code: word(line, at + 1),
         n: number(line, at + 2),
+    };
+    Half {
+        terms,
         t: word(line, at + 3),
         number: set_number(line, at + 4),
         seed: bytes_32(line, at + 5),

@@ -2,38 +2,40 @@
 // turned down that is handed to a box whole, changed or mixed. A second implementation made the
 // script, and the output is compared with that implementation's.
 ghost use Prim.Native.Nat.{_≤_};
+ghost use Rattle.content.specs.Content.{mostBlocks};
 
 mod changed;
 mod dealt;
 mod fields;
 
+use content::BLOCK;
 use dealt::Dealt;
 use dealt::HALF;
 use fields::Command;
 use script::ROOM;
 
 fn put_half(half: [u8; HALF], blocks: usize, out: &mut [u8; ROOM], at: usize) -> usize
-    requires { ⌜ blocks ≤ 16 ⌝ }
+    requires { ⌜ blocks ≤ mostBlocks ⌝ }
 {
-    script::put_hex(out, at, script::first(&half, 512 * blocks))
+    script::put_hex(out, at, script::first(&half, BLOCK * blocks))
 }
 
 // The tag that stands for a half: Poly1305's under the key of bytes 0 to 31.
 fn put_tag(half: [u8; HALF], blocks: usize, out: &mut [u8; ROOM], at: usize) -> usize
-    requires { ⌜ blocks ≤ 16 ⌝ }
+    requires { ⌜ blocks ≤ mostBlocks ⌝ }
 {
     let mut key = [0u8; 32];
     script::fill(
         b"000102030405060708090a0b0c0d0e0f101112131415161718191a1b1c1d1e1f",
         &mut key,
     );
-    let tag = poly1305::mac(&key, script::first(&half, 512 * blocks));
+    let tag = poly1305::mac(&key, script::first(&half, BLOCK * blocks));
     script::put_hex(out, at, &tag)
 }
 
 // What is sealed again has as many blocks.
 fn put_again(d: Dealt, out: &mut [u8; ROOM], at: usize) -> usize
-    requires { ⌜ d .blocks ≤ 16 ⌝ }
+    requires { ⌜ d .blocks ≤ mostBlocks ⌝ }
 {
     let again = dealt::reseal(d);
     if again.why != 0 {
@@ -53,7 +55,7 @@ fn put_each(
     out: &mut [u8; ROOM],
     at: usize,
 ) -> usize
-    requires { ⌜ d .blocks ≤ 16 ⌝ }
+    requires { ⌜ d .blocks ≤ mostBlocks ⌝ }
 {
     let end = slices::least(to, HALF);
     let mut next = at;
@@ -69,7 +71,7 @@ fn put_each(
 }
 
 fn put_places(d: Dealt, c: Command, line: &[u8], out: &mut [u8; ROOM], at: usize) -> usize
-    requires { ⌜ d .blocks ≤ 16 ⌝ }
+    requires { ⌜ d .blocks ≤ mostBlocks ⌝ }
 {
     let byte = fields::byte(line, 12);
     let from = fields::number(line, 10);
@@ -78,7 +80,7 @@ fn put_places(d: Dealt, c: Command, line: &[u8], out: &mut [u8; ROOM], at: usize
 }
 
 fn put_answer(d: Dealt, c: Command, line: &[u8], out: &mut [u8; ROOM], at: usize) -> usize
-    requires { ⌜ d .blocks ≤ 16 ⌝ }
+    requires { ⌜ d .blocks ≤ mostBlocks ⌝ }
 {
     let half = d.half;
     match c {

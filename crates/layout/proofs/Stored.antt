@@ -13,7 +13,7 @@ use Rattle.words.specs.Bytes.{le32, bytesOf, length-bytesOf}
 use Rattle.node.specs.declared.Correction.{Correction}
 use Rattle.node.specs.Node.{none}
 use Rattle.content.specs.declared.Set.{Set}
-use Rattle.content.specs.Content.{correctionBytes, fields, size, noCorrection, FlagBytes}
+use Rattle.content.specs.Content.{mostElements, roomBytes, correctionBytes, fields, size, noCorrection, FlagBytes}
 use Rattle.content.specs.Pieces.{getD-any, flat-append}
 
 -- one piece more
@@ -91,9 +91,9 @@ tail-law c r last seed cs z t₁ t₂ t₃ t₄ u ls lc lz e₁ e₂ e₃ e₄ e
     whole (le32 c ++ (le32 r ++ (bytesOf seed ++ (cs ++ le32 last)))) z u 1228 (omega arith) lz
     (five (le32 c) (le32 r) (bytesOf seed) cs (le32 last) z t₁ t₂ t₃ t₄ u 4 8 40 1224 refl refl (omega arith) (omega arith) e₁ e₂ e₃ e₄ e₅)
 
-pub joined-law : (n : ℕ) (h mask x y t z t₁ t₂ t₃ t₄ u : List ℕ) → n ≤ 512 → length h ≡ 20 → length mask ≡ 512 → length x ≡ 512 → length y ≡ 512 → length t ≡ 1228 → z ≡ replicate 7744 0
+pub joined-law : (n : ℕ) (h mask x y t z t₁ t₂ t₃ t₄ u : List ℕ) → n ≤ mostElements → length h ≡ 20 → length mask ≡ mostElements → length x ≡ mostElements → length y ≡ mostElements → length t ≡ 1228 → z ≡ replicate roomBytes 0
     → t₁ ≡ over 0 h z → t₂ ≡ over 20 (bytesOf (take n mask)) t₁ → t₃ ≡ over (20 + 4 * n) (bytesOf (take n x)) t₂ → t₄ ≡ over (20 + 8 * n) (bytesOf (take n y)) t₃ → u ≡ over (20 + 12 * n) t t₄
-    → u ≡ h ++ (bytesOf (take n mask) ++ (bytesOf (take n x) ++ (bytesOf (take n y) ++ t))) ++ replicate (7744 - size n) 0
+    → u ≡ h ++ (bytesOf (take n mask) ++ (bytesOf (take n x) ++ (bytesOf (take n y) ++ t))) ++ replicate (roomBytes - size n) 0
 unfolding size
 joined-law n h mask x y t z t₁ t₂ t₃ t₄ u le lh lm lx ly lt ez e₁ e₂ e₃ e₄ e₅ =
     let m = bytesOf (take n mask) in
@@ -104,20 +104,20 @@ joined-law n h mask x y t z t₁ t₂ t₃ t₄ u le lh lm lx ly lt ez e₁ e₂
     let ky : length w ≡ 4 * n = vector y ly in
     let all = length-append h (m ++ (v ++ (w ++ t))) ∙ ap (λ (k : ℕ). length h + k) (length-append m (v ++ (w ++ t)) ∙ ap (λ (k : ℕ). length m + k) (length-append v (w ++ t) ∙ ap (λ (k : ℕ). length v + k) (length-append w t))) in
     five h m v w t z t₁ t₂ t₃ t₄ u 20 (20 + 4 * n) (20 + 8 * n) (20 + 12 * n) lh (omega arith) (omega arith) (omega arith) e₁ e₂ e₃ e₄ e₅
-    ∙ over-zeros (h ++ (m ++ (v ++ (w ++ t)))) z (1248 + 12 * n) 7744 (omega arith) (omega arith) ez
+    ∙ over-zeros (h ++ (m ++ (v ++ (w ++ t)))) z (1248 + 12 * n) roomBytes (omega arith) (omega arith) ez
   where
-    vector : (a : List ℕ) → length a ≡ 512 → length (bytesOf (take n a)) ≡ 4 * n
+    vector : (a : List ℕ) → length a ≡ mostElements → length (bytesOf (take n a)) ≡ 4 * n
     vector a l = length-bytesOf (take n a) ∙ ap (λ (k : ℕ). 4 * k) (length-take-le n a (omega arith))
 
 -- all fields of a set
-pub fields-law : (name : List ℕ) (party : ℕ) (s : Set) (h t u rest : List ℕ) → h ≡ name ++ (party ∷ s .code ∷ bytes 2 (s .n))
+pub fields-law : (name : List ℕ) (party : ℕ) (s : Set) (h t u rest : List ℕ) → h ≡ name ++ (party ∷ s .terms .code ∷ bytes 2 (s .terms .n))
     → t ≡ le32 (s .c) ++ (le32 (s .r) ++ (bytesOf (s .seed) ++ (flat (map correctionBytes (s .key .corrections)) ++ le32 (s .key .last))))
-    → u ≡ h ++ (bytesOf (take (s .n) (s .mask)) ++ (bytesOf (take (s .n) (s .x)) ++ (bytesOf (take (s .n) (s .y)) ++ t))) ++ rest
+    → u ≡ h ++ (bytesOf (take (s .terms .n) (s .mask)) ++ (bytesOf (take (s .terms .n) (s .x)) ++ (bytesOf (take (s .terms .n) (s .y)) ++ t))) ++ rest
     → u ≡ flat (fields name party s) ++ rest
 unfolding fields flat
 fields-law name party s h t u rest eh et eu =
-    let front : List ℕ = party ∷ s .code ∷ bytes 2 (s .n) in
-    let from : List ℕ → List ℕ = λ t. bytesOf (take (s .n) (s .mask)) ++ (bytesOf (take (s .n) (s .x)) ++ (bytesOf (take (s .n) (s .y)) ++ t)) in
+    let front : List ℕ = party ∷ s .terms .code ∷ bytes 2 (s .terms .n) in
+    let from : List ℕ → List ℕ = λ t. bytesOf (take (s .terms .n) (s .mask)) ++ (bytesOf (take (s .terms .n) (s .x)) ++ (bytesOf (take (s .terms .n) (s .y)) ++ t)) in
     let to : List ℕ → List ℕ = λ l. le32 (s .c) ++ (le32 (s .r) ++ (bytesOf (s .seed) ++ (flat (map correctionBytes (s .key .corrections)) ++ l))) in
     let last = le32 (s .key .last) in
     eu ∙ ap₂ (λ (a b : List ℕ). a ++ from b ++ rest) eh et ∙ ap (λ (l : List ℕ). l ++ rest) (append-assoc name front (from (to last)) ∙ ap (λ (l : List ℕ). name ++ (front ++ from (to l))) (sym (append-nil last)))

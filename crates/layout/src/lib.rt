@@ -6,21 +6,24 @@ ghost use lib.ListN.{length, take, replicate};
 ghost use Rattle.words.specs.Numbers.{bytes};
 ghost use Rattle.words.specs.List.{over, flat};
 ghost use Rattle.words.specs.Bytes.{le32, bytesOf};
-ghost use Rattle.content.specs.Content.{correctionBytes, fields, size, FlagBytes};
+ghost use Rattle.content.specs.Content.{mostElements, roomBytes, correctionBytes, fields, size, FlagBytes};
+use content::ROOM;
 use content::Set;
+use measure::MOST_ELEMENTS;
+use measure::Terms;
 use node::Correction;
 
 // Name, party, measure code and L.
-fn head(name: [u8; 16], party: u32, code: u32, n: usize) -> [u8; 20]
-    requires { ⌜ (party < 256) × (code < 256) ⌝ }
-    ensures { λ r. ⌜ r ≡ name ++ (party ∷ code ∷ bytes 2 n) ⌝ }
+fn head(name: [u8; 16], party: u32, terms: Terms) -> [u8; 20]
+    requires { ⌜ (party < 256) × (terms .code < 256) ⌝ }
+    ensures { λ r. ⌜ r ≡ name ++ (party ∷ terms .code ∷ bytes 2 (terms .n)) ⌝ }
 {
     let mut h = [0u8; 20];
     slices::copy(&mut h, 0, &name);
     h[16] = party as u8;
-    h[17] = code as u8;
-    h[18] = (n % 256) as u8;
-    h[19] = (n / 256 % 256) as u8;
+    h[17] = terms.code as u8;
+    h[18] = (terms.n % 256) as u8;
+    h[19] = (terms.n / 256 % 256) as u8;
     h
 }
 
@@ -68,26 +71,26 @@ fn tail(c: u32, r: u32, seed: [u32; 8], cs: [Correction; 32], last: u32) -> [u8;
 }
 
 // The first n words of w over the bytes from `at` on.
-fn store_first(out: &mut [u8], at: usize, n: usize, w: [u32; 512])
-    requires { ⌜ (n ≤ 512) × (at + 4 * n ≤ length (now out)) ⌝ }
+fn store_first(out: &mut [u8], at: usize, n: usize, w: [u32; MOST_ELEMENTS])
+    requires { ⌜ (n ≤ mostElements) × (at + 4 * n ≤ length (now out)) ⌝ }
     ensures { λ _. ⌜ now (out .exit) ≡ over at (bytesOf (take n w)) (now (out .entry)) ⌝ }
 {
     slices::store_all(out, at, &w[..n]);
 }
 
-// A head, the first n words of three vectors and a tail, and zeros up to 16 blocks.
+// A head, the first n words of three vectors and a tail, and zeros up to the most blocks.
 fn joined(
     h: [u8; 20],
     n: usize,
-    mask: [u32; 512],
-    x: [u32; 512],
-    y: [u32; 512],
+    mask: [u32; MOST_ELEMENTS],
+    x: [u32; MOST_ELEMENTS],
+    y: [u32; MOST_ELEMENTS],
     t: [u8; 1228],
-) -> [u8; 7744]
-    requires { ⌜ n ≤ 512 ⌝ }
-    ensures { λ r. ⌜ r ≡ h ++ (bytesOf (take n mask) ++ (bytesOf (take n x) ++ (bytesOf (take n y) ++ t))) ++ replicate (7744 - size n) 0 ⌝ }
+) -> [u8; ROOM]
+    requires { ⌜ n ≤ mostElements ⌝ }
+    ensures { λ r. ⌜ r ≡ h ++ (bytesOf (take n mask) ++ (bytesOf (take n x) ++ (bytesOf (take n y) ++ t))) ++ replicate (roomBytes - size n) 0 ⌝ }
 {
-    let mut out = [0u8; 7744];
+    let mut out = [0u8; ROOM];
     slices::copy(&mut out, 0, &h);
     store_first(&mut out, 20, n, mask);
     store_first(&mut out, 20 + 4 * n, n, x);
@@ -96,11 +99,11 @@ fn joined(
     out
 }
 
-// The plain content of a set for a party, and zeros up to 16 blocks.
-pub fn lay_out(name: [u8; 16], party: u32, s: Set) -> [u8; 7744]
-    requires { ⌜ (party < 256) × (s .code < 256) × (s .n ≤ 512) ⌝ }
+// The plain content of a set for a party, and zeros up to the most blocks.
+pub fn lay_out(name: [u8; 16], party: u32, s: Set) -> [u8; ROOM]
+    requires { ⌜ (party < 256) × (s .terms .code < 256) × (s .terms .n ≤ mostElements) ⌝ }
     requires { ⌜ FlagBytes (s .key .corrections) ⌝ }
-    ensures { λ r. ⌜ r ≡ flat (fields name party s) ++ replicate (7744 - size (s .n)) 0 ⌝ }
+    ensures { λ r. ⌜ r ≡ flat (fields name party s) ++ replicate (roomBytes - size (s .terms .n)) 0 ⌝ }
 {
     let mask = s.mask;
     let x = s.x;
@@ -108,7 +111,8 @@ pub fn lay_out(name: [u8; 16], party: u32, s: Set) -> [u8; 7744]
     let seed = s.seed;
     let key = s.key;
     let corrections = key.corrections;
-    let h = head(name, party, s.code, s.n);
+    let terms = s.terms;
+    let h = head(name, party, terms);
     let t = tail(s.c, s.r, seed, corrections, key.last);
-    joined(h, s.n, mask, x, y, t)
+    joined(h, terms.n, mask, x, y, t)
 }

@@ -7,10 +7,15 @@ ghost use lib.Dec.{eqb, leb};
 ghost use lib.ListN.{length};
 ghost use Rattle.words.specs.Bytes.{wordAt, wordsAt};
 ghost use Rattle.aead.specs.Aead.{polyKey, cipher, opens};
-ghost use Rattle.content.specs.Content.{part};
+ghost use Rattle.content.specs.Content.{blockBytes, textBytes, mostBlocks, part};
 ghost use Rattle.half.specs.Half.{header, blockFits, firstFit, openedBlocks, setNumber, whyNotOpened};
 ghost use Rattle.opening.specs.Examined.{refused as refusedFor, answerFor, examined};
+use content::BLOCK;
+use content::MOST_BLOCKS;
+use content::ROOM;
 use content::Set;
+use content::TAG_AT;
+use content::TEXT;
 
 fn joined(low: u32, high: u32) -> u64
     ensures { λ r. ⌜ r ≡ low + high * 2 ^ 32 ⌝ }
@@ -42,17 +47,17 @@ fn is_headed(b: &[u8], number: u64, i: u32) -> bool
 // Whether the tag of block b fits; where it does, its text is opened into out. Its one-time key is at
 // hand.
 fn open_text(key: &[u8; 32], once: &[u8; 32], b: &[u8], out: &mut [u8]) -> bool
-    requires { ⌜ (length (now b) ≡ 512) × (length (now out) ≡ 484) ⌝ }
+    requires { ⌜ (length (now b) ≡ blockBytes) × (length (now out) ≡ textBytes) ⌝ }
     requires { ⌜ now once ≡ polyKey (now key) (part 0 12 (now b)) ⌝ }
-    ensures { λ r. ⌜ r ≡ opens (now (key .entry)) (part 0 12 (now (b .entry))) (part 0 12 (now (b .entry))) (part 12 484 (now (b .entry))) (part 496 16 (now (b .entry))) ⌝ }
-    ensures { λ r. ⌜ (r ≡ true → now (out .exit) ≡ cipher (now (key .entry)) (part 0 12 (now (b .entry))) (part 12 484 (now (b .entry)))) ⌝ }
+    ensures { λ r. ⌜ r ≡ opens (now (key .entry)) (part 0 12 (now (b .entry))) (part 0 12 (now (b .entry))) (part 12 textBytes (now (b .entry))) (part (12 + textBytes) 16 (now (b .entry))) ⌝ }
+    ensures { λ r. ⌜ (r ≡ true → now (out .exit) ≡ cipher (now (key .entry)) (part 0 12 (now (b .entry))) (part 12 textBytes (now (b .entry)))) ⌝ }
 {
     let mut nonce = [0u8; 12];
     slices::copy(&mut nonce, 0, &b[0..12]);
     let aad = nonce;
     let mut tag = [0u8; 16];
-    slices::copy(&mut tag, 0, &b[496..512]);
-    slices::copy(out, 0, &b[12..496]);
+    slices::copy(&mut tag, 0, &b[TAG_AT..BLOCK]);
+    slices::copy(out, 0, &b[12..TAG_AT]);
     aead::open_by(key, once, &nonce, &aad, out, &tag)
 }
 
@@ -66,10 +71,10 @@ fn open_block(
     b: &[u8],
     out: &mut [u8],
 ) -> bool
-    requires { ⌜ (length (now b) ≡ 512) × (length (now out) ≡ 484) ⌝ }
+    requires { ⌜ (length (now b) ≡ blockBytes) × (length (now out) ≡ textBytes) ⌝ }
     requires { ⌜ now once ≡ polyKey (now key) (header number i) ⌝ }
     ensures { λ r. ⌜ r ≡ blockFits (now (key .entry)) number i (now (b .entry)) ⌝ }
-    ensures { λ r. ⌜ (r ≡ true → now (out .exit) ≡ cipher (now (key .entry)) (part 0 12 (now (b .entry))) (part 12 484 (now (b .entry)))) ⌝ }
+    ensures { λ r. ⌜ (r ≡ true → now (out .exit) ≡ cipher (now (key .entry)) (part 0 12 (now (b .entry))) (part 12 textBytes (now (b .entry)))) ⌝ }
 {
     if !is_headed(b, number, i) {
         return false;
@@ -80,7 +85,7 @@ fn open_block(
 // Whether the first `count` blocks of h are those of the set; where they are, their text is opened
 // into out.
 fn open_blocks(key: &[u8; 32], number: u64, count: usize, h: &[u8], out: &mut [u8]) -> bool
-    requires { ⌜ (count ≤ 16) × (512 * count ≤ length (now h)) × (length (now out) ≡ 484 * count) × (number ≡ setNumber (now h)) ⌝ }
+    requires { ⌜ (count ≤ mostBlocks) × (blockBytes * count ≤ length (now h)) × (length (now out) ≡ textBytes * count) × (number ≡ setNumber (now h)) ⌝ }
     ensures { λ r. ⌜ r ≡ firstFit (now (key .entry)) (now (h .entry)) count ⌝ }
     ensures { λ r. ⌜ (r ≡ true → now (out .exit) ≡ openedBlocks (now (key .entry)) (now (h .entry)) count) ⌝ }
 {
@@ -94,8 +99,8 @@ fn open_blocks(key: &[u8; 32], number: u64, count: usize, h: &[u8], out: &mut [u
             &once,
             number,
             i as u32,
-            &h[512 * i..512 * i + 512],
-            &mut out[484 * i..484 * i + 484],
+            &h[BLOCK * i..BLOCK * i + BLOCK],
+            &mut out[TEXT * i..TEXT * i + TEXT],
         );
         fit = fit & this;
         i += 1;
@@ -104,9 +109,9 @@ fn open_blocks(key: &[u8; 32], number: u64, count: usize, h: &[u8], out: &mut [u
 }
 
 fn is_whole(bytes: usize) -> bool
-    ensures { λ r. ⌜ r ≡ eqb (bytes % 512) 0 && (leb 3 (bytes / 512) && leb (bytes / 512) 16) ⌝ }
+    ensures { λ r. ⌜ r ≡ eqb (bytes % blockBytes) 0 && (leb 3 (bytes / blockBytes) && leb (bytes / blockBytes) mostBlocks) ⌝ }
 {
-    (bytes % 512 == 0) & ((3 <= bytes / 512) & (bytes / 512 <= 16))
+    (bytes % BLOCK == 0) & ((3 <= bytes / BLOCK) & (bytes / BLOCK <= MOST_BLOCKS))
 }
 
 // What examining a half finds: why it is turned down (0 if it is not), and the set, or no set.
@@ -133,10 +138,10 @@ fn open_whole(
     h: &[u8],
     text: &mut [u8],
 ) -> Examined
-    requires { ⌜ (3 ≤ length (now h) / 512) × (length (now h) / 512 ≤ 16) × (number ≡ setNumber (now h)) × (length (now text) ≡ 484 * (length (now h) / 512)) ⌝ }
+    requires { ⌜ (3 ≤ length (now h) / blockBytes) × (length (now h) / blockBytes ≤ mostBlocks) × (number ≡ setNumber (now h)) × (length (now text) ≡ textBytes * (length (now h) / blockBytes)) ⌝ }
     ensures { λ r. ⌜ r ≡ answerFor (whyNotOpened (now (key .entry)) name party (now (h .entry))) (now (key .entry)) (now (h .entry)) ⌝ }
 {
-    let count = h.len() / 512;
+    let count = h.len() / BLOCK;
     if !open_blocks(key, number, count, h, text) {
         return refused(10);
     }
@@ -156,13 +161,13 @@ fn open_within(
     party: u32,
     number: u64,
     h: &[u8],
-    room: [u8; 7744],
+    room: [u8; ROOM],
 ) -> Examined
-    requires { ⌜ (3 ≤ length (now h) / 512) × (length (now h) / 512 ≤ 16) × (number ≡ setNumber (now h)) ⌝ }
+    requires { ⌜ (3 ≤ length (now h) / blockBytes) × (length (now h) / blockBytes ≤ mostBlocks) × (number ≡ setNumber (now h)) ⌝ }
     ensures { λ r. ⌜ r ≡ answerFor (whyNotOpened (now (key .entry)) name party (now (h .entry))) (now (key .entry)) (now (h .entry)) ⌝ }
 {
     let mut text = room;
-    let size = 484 * (h.len() / 512);
+    let size = TEXT * (h.len() / BLOCK);
     open_whole(key, name, party, number, h, &mut text[..size])
 }
 
@@ -178,5 +183,5 @@ pub fn examine(key: &[u8; 32], name: [u8; 16], party: u32, last: u64, h: &[u8]) 
     if !(last < number) {
         return refused(7);
     }
-    open_within(key, name, party, number, h, [0; 7744])
+    open_within(key, name, party, number, h, [0; ROOM])
 }

@@ -12,7 +12,7 @@ use lib.Seq.{take-suc, take-all}
 use Rattle.words.specs.List.{same}
 use Rattle.node.specs.declared.Correction.{Correction}
 use Rattle.measure.specs.Measure.{isCode}
-use Rattle.content.specs.Content.{widths, size, blockCount, lengthIn, field, correctionIn, correctionsIn, setIn, lengthFits, flagsFit, zeros, contentFits}
+use Rattle.content.specs.Content.{mostElements, widths, size, blockCount, lengthIn, field, correctionIn, correctionsIn, setIn, lengthFits, flagsFit, zeros, contentFits}
 use Rattle.content.specs.Pieces.{offset, getD-part}
 use Rattle.reading.proofs.Read.{between, byte-at}
 
@@ -55,11 +55,11 @@ module _ (name : List ℕ) (party count : ℕ) (b : List ℕ) (n : ℕ) (is : n 
 
   pub too-short : n < 1 → false ≡ contentFits name party count b
   unfolding lengthFits
-  too-short h = out-of-range (ap (λ (l : Bool). l && leb n 512) (lt-leb 1 n h))
+  too-short h = out-of-range (ap (λ (l : Bool). l && leb n mostElements) (lt-leb 1 n h))
 
-  pub too-long : 512 < n → false ≡ contentFits name party count b
+  pub too-long : mostElements < n → false ≡ contentFits name party count b
   unfolding lengthFits
-  too-long h = out-of-range (ap (λ (l : Bool). leb 1 n && l) (lt-leb n 512 h) ∙ and-false (leb 1 n))
+  too-long h = out-of-range (ap (λ (l : Bool). leb 1 n && l) (lt-leb n mostElements h) ∙ and-false (leb 1 n))
 
   -- L asks for another number of blocks
   pub other-count : (k : ℕ) → k ≡ blockCount n → (k ≡ count → ⊥) → false ≡ contentFits name party count b
@@ -70,13 +70,13 @@ module _ (name : List ℕ) (party count : ℕ) (b : List ℕ) (n : ℕ) (is : n 
       (ap (λ (m : ℕ). eqb m count) (ap blockCount (sym is) ∙ sym e) ∙ ne-eqb k count h)
       ∙ and-false (lengthFits (lengthIn b)))
 
-  pub fits-law : (k owner code : ℕ) (named coded flags filled : Bool) → 1 ≤ n → n ≤ 512 → k ≡ blockCount n → k ≡ count
+  pub fits-law : (k owner code : ℕ) (named coded flags filled : Bool) → 1 ≤ n → n ≤ mostElements → k ≡ blockCount n → k ≡ count
       → named ≡ same (take 16 b) name → owner ≡ getD b 16 0 → code ≡ getD b 17 0 → coded ≡ isCode code
       → flags ≡ flagsFit (correctionsIn (take (1244 + 12 * n - (60 + 12 * n)) (drop (60 + 12 * n) b)) 32) → filled ≡ zeros (take (length b - (1248 + 12 * n)) (drop (1248 + 12 * n) b))
       → (((named && eqb owner party) && coded) && flags) && filled ≡ contentFits name party count b
   unfolding contentFits setIn lengthFits size widths offset
   fits-law k owner code named coded flags filled h l ek e e₀ e₁ e₂ e₃ e₄ e₅ =
-      let long : leb 1 (lengthIn b) && leb (lengthIn b) 512 ≡ true = ap₂ _&&_ (le-leb 1 (lengthIn b) (omega arith)) (le-leb (lengthIn b) 512 (omega arith)) in
+      let long : leb 1 (lengthIn b) && leb (lengthIn b) mostElements ≡ true = ap₂ _&&_ (le-leb 1 (lengthIn b) (omega arith)) (le-leb (lengthIn b) mostElements (omega arith)) in
       let many : eqb (blockCount (lengthIn b)) count ≡ true = eq-eqb (blockCount (lengthIn b)) count (ap blockCount (sym is) ∙ sym ek ∙ e) in
       let p₀ = e₀ ∙ ap (λ (f : List ℕ). same f name) (between b 0 0 16 refl refl) in
       let p₁ = ap (λ (x : ℕ). eqb x party) (e₁ ∙ byte-at b 1 16 refl refl) in

@@ -11,11 +11,11 @@ use Rattle.words.specs.Bytes.{wordAt, wordsAt}
 use Rattle.node.specs.declared.Correction.{Correction}
 use Rattle.node.specs.Node.{none}
 use Rattle.content.specs.declared.Set.{Set}
-use Rattle.content.specs.Content.{part, fill, widths, lengthIn, field, correctionIn, correctionsIn, setIn}
+use Rattle.content.specs.Content.{mostElements, part, fill, widths, lengthIn, field, correctionIn, correctionsIn, setIn}
 use Rattle.content.specs.Laws.{fill-rest}
 use Rattle.content.specs.Pieces.{offset, cut-at, getD-part, wordAt-part, wordsAt-part}
 
-pub vector-law : (f w z : List ℕ) (n : ℕ) → n ≤ 512 → z ≡ replicate 512 0 → w ≡ tab (λ i. wordAt f (4 * i)) n ++ drop n z → w ≡ fill (wordsAt n f)
+pub vector-law : (f w z : List ℕ) (n : ℕ) → n ≤ mostElements → z ≡ replicate mostElements 0 → w ≡ tab (λ i. wordAt f (4 * i)) n ++ drop n z → w ≡ fill (wordsAt n f)
 unfolding wordsAt
 vector-law f w z n h ez e = e ∙ fill-rest _ z n (length-tab (λ i. wordAt f (4 * i)) n) h ez
 
@@ -83,7 +83,7 @@ pub set-law : (set : ℕ) (b : List ℕ) (n code c r last : ℕ) (mask x y seed 
     → c ≡ wordAt b (20 + 12 * n) → r ≡ wordAt b (20 + 12 * n + 4)
     → seed ≡ wordsAt 8 (take (20 + 12 * n + 40 - (20 + 12 * n + 8)) (drop (20 + 12 * n + 8) b))
     → cs ≡ correctionsIn (take (20 + 12 * n + 1224 - (20 + 12 * n + 40)) (drop (20 + 12 * n + 40) b)) 32 → last ≡ wordAt b (20 + 12 * n + 1224)
-    → _≡_ {A = Set} (record { number = set; code = code; n = n; mask = mask; x = x; y = y; c = c; r = r; seed = seed; key = record { corrections = cs; last = last } }) (setIn set b)
+    → _≡_ {A = Set} (record { number = set; terms = record { code = code; n = n }; mask = mask; x = x; y = y; c = c; r = r; seed = seed; key = record { corrections = cs; last = last } }) (setIn set b)
 unfolding setIn widths offset
 set-law set b n code c r last mask x y seed cs en ecode em ex ey ec er es ek el =
     let o : ℕ → ℕ = offset (widths (lengthIn b)) in
@@ -96,7 +96,7 @@ set-law set b n code c r last mask x y seed cs en ecode em ex ey ec er es ek el 
     let ps = es ∙ ap (wordsAt 8) (between b 9 (20 + 12 * n + 8) (20 + 12 * n + 40) (omega arith) (omega arith)) in
     let pk = ek ∙ ap (λ (f : List ℕ). correctionsIn f 32) (between b 10 (20 + 12 * n + 40) (20 + 12 * n + 1224) (omega arith) (omega arith)) in
     let pl = el ∙ word-at b 11 (20 + 12 * n + 1224) (omega arith) refl in
-    λ k. record { number = set; code = pcode k; n = en k; mask = pm k; x = px k; y = py k; c = pc k; r = pr k; seed = ps k; key = record { corrections = pk k; last = pl k } }
+    λ k. record { number = set; terms = record { code = pcode k; n = en k }; mask = pm k; x = px k; y = py k; c = pc k; r = pr k; seed = ps k; key = record { corrections = pk k; last = pl k } }
   where
     vector : (k at end : ℕ) → offset (widths (lengthIn b)) k ≡ at → end - at ≡ getD (widths (lengthIn b)) k 0 → fill (wordsAt n (take (end - at) (drop at b))) ≡ fill (wordsAt (lengthIn b) (field b k))
     vector k at end e w = ap₂ (λ (m : ℕ) (f : List ℕ). fill (wordsAt m f)) en (between b k at end e w)

@@ -3,8 +3,10 @@ ghost use mathlib.Core.Path.{_≡_};
 ghost use Prim.Native.Nat.{_*_, _<_, _≤_};
 ghost use lib.ListN.{length, getD};
 ghost use Rattle.words.specs.Bytes.{wordsAt};
-ghost use Rattle.content.specs.Content.{size, fill, lengthIn, correctionIn, correctionsIn, setIn, flagsFit, zeros, contentFits};
+ghost use Rattle.content.specs.Content.{mostElements, textBytes, mostBlocks, size, fill, lengthIn, correctionIn, correctionsIn, setIn, flagsFit, zeros, contentFits};
 use content::Set;
+use measure::MOST_ELEMENTS;
+use measure::Terms;
 use node::Correction;
 use node::Key;
 
@@ -24,11 +26,11 @@ fn length_in(b: &[u8]) -> usize
 }
 
 // The first n words of f, and zeros past them.
-fn vector(f: &[u8], n: usize) -> [u32; 512]
-    requires { ⌜ (n ≤ 512) × (4 * n ≤ length (now f)) ⌝ }
+fn vector(f: &[u8], n: usize) -> [u32; MOST_ELEMENTS]
+    requires { ⌜ (n ≤ mostElements) × (4 * n ≤ length (now f)) ⌝ }
     ensures { λ r. ⌜ r ≡ fill (wordsAt n (now (f .entry))) ⌝ }
 {
-    let mut w = [0u32; 512];
+    let mut w = [0u32; MOST_ELEMENTS];
     let mut i: usize = 0;
     while i < n {
         w[i] = slices::load(f, 4 * i);
@@ -76,7 +78,7 @@ fn corrections_in(f: &[u8]) -> [Correction; 32]
 
 // The set of this number that plain content holds.
 pub fn read_set(number: u64, b: &[u8]) -> Set
-    requires { ⌜ (lengthIn (now b) ≤ 512) × (size (lengthIn (now b)) ≤ length (now b)) ⌝ }
+    requires { ⌜ (lengthIn (now b) ≤ mostElements) × (size (lengthIn (now b)) ≤ length (now b)) ⌝ }
     ensures { λ r. ⌜ r ≡ setIn number (now (b .entry)) ⌝ }
 {
     let n = length_in(b);
@@ -90,10 +92,13 @@ pub fn read_set(number: u64, b: &[u8]) -> Set
         corrections: corrections_in(&b[key_at..last_at]),
         last: slices::load(b, last_at),
     };
-    Set {
-        number,
+    let terms = Terms {
         code: byte(b, 17),
         n,
+    };
+    Set {
+        number,
+        terms,
         mask: vector(&b[20..x_at], n),
         x: vector(&b[x_at..y_at], n),
         y: vector(&b[y_at..c_at], n),
@@ -133,14 +138,14 @@ fn all_zero(b: &[u8]) -> bool
 // Whether a half of `count` blocks was opened to content of this name and party, all of it in
 // range. Only where L is in range and asks for as many blocks is anything past it looked at.
 pub fn content_fits(name: [u8; 16], party: u32, count: usize, b: &[u8]) -> bool
-    requires { ⌜ (length (now b) ≡ 484 * count) × (3 ≤ count) × (count ≤ 16) ⌝ }
+    requires { ⌜ (length (now b) ≡ textBytes * count) × (3 ≤ count) × (count ≤ mostBlocks) ⌝ }
     ensures { λ r. ⌜ r ≡ contentFits name party count (now (b .entry)) ⌝ }
 {
     let n = length_in(b);
     if n < 1 {
         return false;
     }
-    if 512 < n {
+    if MOST_ELEMENTS < n {
         return false;
     }
     if content::blocks_of(n) != count {

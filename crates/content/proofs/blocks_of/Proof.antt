@@ -13,9 +13,12 @@ add-result c = search needs
 add-result-2 : tie.Need-add-result-2
 add-result-2 c = search needs
 
+sub-result : tie.Need-sub-result
+sub-result c = search needs
+
 returns : tie.Need-returns
 unfolding blockCount size
 returns c = refl
 
 pub blocks-of-spec : {M : Type 1} → statement M
-blocks-of-spec = tie.close (tie.spec mul-result add-result add-result-2 returns)
+blocks-of-spec = tie.close (tie.spec mul-result add-result add-result-2 sub-result returns)

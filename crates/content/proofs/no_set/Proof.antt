@@ -1,8 +1,10 @@
 use mathlib.Core.Path.{ap}
+use mathlib.Core.List.{List}
+use Prim.Native.Nat.{ℕ}
 use lib.ListN.{replicate}
 use Rattle.node.specs.declared.Correction.{Correction}
 use Rattle.content.specs.declared.Set.{Set}
-use Rattle.content.specs.Content.{noSet}
+use Rattle.content.specs.Content.{mostElements, noSet}
 use borrow.Author.Needs.{needs}
 use Rattle.content.proofs.no_set.Statement.{statement}
 use Rattle.content.proofs.no_set.Tie as tie
@@ -14,8 +16,11 @@ returns : tie.Need-returns
 unfolding noSet
 returns c = ap none-at (c .no-correction .ensures)
   where
+    zeros : List ℕ
+    zeros = replicate mostElements 0
+
     none-at : Correction → Set
-    none-at d = record { number = 0; code = 0; n = 0; mask = replicate 512 0; x = replicate 512 0; y = replicate 512 0; c = 0; r = 0; seed = replicate 8 0; key = record { corrections = replicate 32 d; last = 0 } }
+    none-at d = record { number = 0; terms = record { code = 0; n = 0 }; mask = zeros; x = zeros; y = zeros; c = 0; r = 0; seed = replicate 8 0; key = record { corrections = replicate 32 d; last = 0 } }
 
 pub no-set-spec : {M : Type 1} → statement M
 no-set-spec = tie.close (tie.spec no-correction-requires returns)

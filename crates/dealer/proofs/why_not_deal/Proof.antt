@@ -14,10 +14,14 @@ returns-2 : tie.Need-returns-2
 returns-2 c = λ s seed el es. bad-length s _ el es _ _ _ (c .before .before .is-code .ensures) (c .before .if1 .left) (c .if2 .taken)
 
 blocks-of-requires : tie.Need-blocks-of-requires
-blocks-of-requires c κs = omega (arith, short (c .before .before .before .args .long) (c .before .before .before .args .n) (c .if2 .left) .1)
+blocks-of-requires c κs =
+    let start = c .before .before .before in
+    omega (arith, short (start .args .long) (start .args .terms .n) (c .if2 .left) .1)
 
 mul-size : tie.Need-mul-size
-mul-size c = omega (arith, few (c .before .before .before .before .args .long) (c .before .before .before .before .args .n) (c .before .if2 .left) _ (c .blocks-of .ensures))
+mul-size c =
+    let start = c .before .before .before .before in
+    omega (arith, few (start .args .long) (start .args .terms .n) (c .before .if2 .left) _ (c .blocks-of .ensures))
 
 returns-3 : tie.Need-returns-3
 returns-3 c =

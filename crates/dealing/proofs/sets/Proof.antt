@@ -23,11 +23,13 @@ slice-aggregate-sets-from : tie.Need-slice-aggregate-sets-from
 slice-aggregate-sets-from c = sym (length-take-le _ _ (search needs))
 
 sets-from-requires : tie.Need-sets-from-requires
-sets-from-requires c κs = (search needs, omega (arith, length-take-le (4 * c .before .before .args .n + 19) (c .before .draw .result) (search needs)))
+sets-from-requires c κs = (search needs, omega (arith, length-take-le (4 * c .before .before .args .terms .n + 19) (c .before .draw .result) (search needs)))
 
 returns : tie.Need-returns
 unfolding dealtSet
-returns c = rw (c .before .before .draw .ensures) at (c .sets-from .ensures)
+returns c =
+    let at-draw = c .before .before in
+    rw (at-draw .draw .ensures) at (c .sets-from .ensures (at-draw .before .args .seed .now))
 
 pub sets-spec : {M : Type 1} → statement M
 sets-spec =

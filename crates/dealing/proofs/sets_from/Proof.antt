@@ -72,21 +72,32 @@ set-for-requires c κs = search needs
 
 set-for-requires-2 : tie.Need-set-for-requires-2
 set-for-requires-2 c κs =
-    (omega arith, c .before .before .before .before .before .before .before .before .before .before .before .before .before .before .pre .0, c .before .before .before .before .before .before .before .before .before .before .before .before .before .before .pre .1)
+    let at-key = c .before .before .before .before in
+    let at-seed = at-key .before .before .before in
+    let at-mask2 = at-seed .before .before .before in
+    let start = at-mask2 .before .before .before .before in
+    (omega arith, start .pre .0, start .pre .1)
 
 returns : tie.Need-returns
 returns c =
-    let a = c .before .before .before .before .before .before .before .before .before .before .before .before .before .before .before .args in
-    sets-law (a .number) (a .code) (a .n) (a .t) (a .w .now) _ _ _ _ _
-    (c .before .before .before .before .before .before .before .before .before .before .before .before .before .mask .ensures)
-    (c .before .before .before .before .before .before .before .before .before .before .before .before .mask2 .ensures)
-    (c .before .before .before .before .before .before .before .before .key-seed .ensures)
-    (c .before .before .before .before .before .before .before .key-seed2 .ensures)
-    (c .before .before .before .before .before .before .make .ensures)
+    let at-r = c .before .before in
+    let at-c = at-r .before in
+    let at-key = at-c .before .before .before in
+    let at-seed1 = at-key .before in
+    let at-seed0 = at-seed1 .before in
+    let at-mask-y = at-seed0 .before .before .before .before in
+    let at-mask-x = at-mask-y .before in
+    let a = at-mask-x .before .before .args in
+    sets-law (a .terms) (a .number) (a .t) (a .w .now) _ _ _ _ _
+    (at-mask-x .mask .ensures)
+    (at-mask-y .mask2 .ensures)
+    (at-seed0 .key-seed .ensures)
+    (at-seed1 .key-seed2 .ensures)
+    (at-key .make .ensures)
     _ _ _ _
     (c .before .set-for .ensures)
-    (c .before .before .before .other-c .ensures)
-    (c .before .before .other-r .ensures)
+    (at-c .other-c .ensures)
+    (at-r .other-r .ensures)
     (c .set-for2 .ensures)
 
 pub sets-from-spec : {M : Type 1} → statement M

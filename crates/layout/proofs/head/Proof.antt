@@ -41,7 +41,10 @@ array-write-h-4 c = search needs
 
 returns : tie.Need-returns
 unfolding over bytes
-returns c = head-law (c .before .before .before .before .args .t1) _ _ _ _ _ _ (search needs) (search needs) (c .before .copy .ensures) refl
+returns c =
+    let at-copy = c .before .before .before .before in
+    let start = at-copy .before .before .before in
+    head-law (start .args .t1) _ _ _ _ _ _ (search needs) (search needs) (at-copy .copy .ensures) refl
 
 pub head-spec : {M : Type 1} → statement M
 head-spec =

@@ -1,5 +1,5 @@
 use mathlib.Core.Path.{refl}
-use Rattle.dealer.specs.Dealer.{dealFrom}
+use Rattle.dealing.specs.Dealing.{dealFrom}
 use Rattle.dealer.proofs.Laws.{none, deal-refused, dealt}
 use borrow.Author.Needs.{needs}
 use Rattle.dealer.proofs.Dealer.deal.Statement.{statement}
@@ -11,7 +11,7 @@ why-not-deal-requires c κs = search needs
 returns : tie.Need-returns
 returns c =
     let a = c .before .before .before .before .before .args in
-    deal-refused (a .self) (dealFrom (a .number) (a .seed .now) (a .code) (a .n) (a .t)) (a .out0 .now) (a .out1 .now) _ (c .before .why-not-deal .ensures (a .self) (a .seed .now) refl refl) (c .if1 .taken)
+    deal-refused (a .self) (dealFrom (a .number) (a .seed .now) (a .terms) (a .t)) (a .out0 .now) (a .out1 .now) _ (c .before .why-not-deal .ensures (a .self) (a .seed .now) refl refl) (c .if1 .taken)
 
 write-halves-requires : tie.Need-write-halves-requires
 write-halves-requires c κs =
@@ -29,7 +29,7 @@ same-length-2 c = search needs
 returns-2 : tie.Need-returns-2
 returns-2 c =
     let a = c .before .before .before .before .before .before .before .before .before .before .before .before .before .before .before .args in
-    dealt (a .self) (dealFrom (a .number) (a .seed .now) (a .code) (a .n) (a .t)) (a .out0 .now) (a .out1 .now) _ (c .before .before .before .before .before .before .before .before .before .before .before .why-not-deal .ensures (a .self) (a .seed .now) refl refl) _ _ (c .before .before .before .before .before .before .before .before .before .before .if1 .left) (c .before .before .before .before .before .before .before .write-halves .ensures .0) (c .before .before .before .before .before .before .before .write-halves .ensures .1)
+    dealt (a .self) (dealFrom (a .number) (a .seed .now) (a .terms) (a .t)) (a .out0 .now) (a .out1 .now) _ (c .before .before .before .before .before .before .before .before .before .before .before .why-not-deal .ensures (a .self) (a .seed .now) refl refl) _ _ (c .before .before .before .before .before .before .before .before .before .before .if1 .left) (c .before .before .before .before .before .before .before .write-halves .ensures .0) (c .before .before .before .before .before .before .before .write-halves .ensures .1)
 
 pub deal-spec : {M : Type 1} → statement M
 deal-spec =

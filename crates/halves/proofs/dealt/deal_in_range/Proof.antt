@@ -8,13 +8,19 @@ sets-requires : tie.Need-sets-requires
 sets-requires c κs = search needs
 
 deal-to-requires : tie.Need-deal-to-requires
-deal-to-requires c κs = let pre = c .before .before .before .before .pre in (pre .0, dealt-proper _ _ _ _ _ 0 _ (c .before .before .sets .ensures .0) (search needs) (pre .1) (pre .2) (pre .3) (omega arith))
+deal-to-requires c κs =
+    let at-sets = c .before .before in
+    let pre = at-sets .before .before .pre in
+    (pre .0, dealt-proper _ 0 _ (at-sets .sets .ensures .0) (search needs) (pre .1) (pre .2) (pre .3) (omega arith))
 
 returns : tie.Need-returns
 returns c = search needs
 
 deal-to-requires-2 : tie.Need-deal-to-requires-2
-deal-to-requires-2 c κs = let pre = c .before .before .before .before .pre in (pre .0, dealt-proper _ _ _ _ _ 1 _ (c .before .before .sets .ensures .1) (search needs) (pre .1) (pre .2) (pre .3) (omega arith))
+deal-to-requires-2 c κs =
+    let at-sets = c .before .before in
+    let pre = at-sets .before .before .pre in
+    (pre .0, dealt-proper _ 1 _ (at-sets .sets .ensures .1) (search needs) (pre .1) (pre .2) (pre .3) (omega arith))
 
 returns-2 : tie.Need-returns-2
 returns-2 c = search needs

@@ -1,0 +1,44 @@
+use mathlib.Core.Path.{sym, _∙_}
+use borrow.Author.Needs.{needs}
+use Rattle.halves.proofs.dealt.deal.Statement.{statement}
+use Rattle.halves.proofs.dealt.deal.Tie as tie
+
+threshold-fits-requires : tie.Need-threshold-fits-requires
+threshold-fits-requires c κs = search needs
+
+not-dealt-requires : tie.Need-not-dealt-requires
+not-dealt-requires c κs = search needs
+
+returns : tie.Need-returns
+returns c = search needs
+
+is-code-requires : tie.Need-is-code-requires
+is-code-requires c κs = search needs
+
+deal-in-range-requires : tie.Need-deal-in-range-requires
+deal-in-range-requires c κs =
+    let at-if3 = c .before .before .before .before in
+    let coded = sym (at-if3 .before .is-code .ensures) ∙ at-if3 .if3 .taken in
+    (search needs, coded, search needs, search needs)
+
+returns-2 : tie.Need-returns-2
+returns-2 c = search needs
+
+not-dealt-requires-2 : tie.Need-not-dealt-requires-2
+not-dealt-requires-2 c κs = search needs
+
+returns-3 : tie.Need-returns-3
+returns-3 c = search needs
+
+pub deal-spec : {M : Type 1} → statement M
+deal-spec =
+    tie.close
+    (tie.spec
+    threshold-fits-requires
+    not-dealt-requires
+    returns
+    is-code-requires
+    deal-in-range-requires
+    returns-2
+    not-dealt-requires-2
+    returns-3)
