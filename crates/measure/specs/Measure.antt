@@ -29,44 +29,28 @@ pub record Row : Type 0 where
   pub longest : ℕ
   pub sign : ℤ
 
-unfoldable pub scalarProduct : Row
-scalarProduct =
+-- the columns in the order of 01's table, then the length's and the sign's
+abbrev columns : Bool → ℤ → ℤ → ℤ → ℤ → ℤ → ℕ → ℤ → Row
+columns squares k low high least most longest sign =
     record {
-      squares = false;
-      k = pos 1;
-      low = negℤ (pos 1024);
-      high = pos 1023;
-      least = negℤ (pos (2 ^ 30));
-      most = pos (2 ^ 30);
-      longest = mostElements;
-      sign = pos 1;
+      squares = squares;
+      k = k;
+      low = low;
+      high = high;
+      least = least;
+      most = most;
+      longest = longest;
+      sign = sign;
     }
+
+unfoldable pub scalarProduct : Row
+scalarProduct = columns false (pos 1) (negℤ (pos 1024)) (pos 1023) (negℤ (pos (2 ^ 30))) (pos (2 ^ 30)) 512 (pos 1)
 
 unfoldable pub squaredEuclid : Row
-squaredEuclid =
-    record {
-      squares = true;
-      k = negℤ (pos 2);
-      low = negℤ (pos 1024);
-      high = pos 1023;
-      least = pos 0;
-      most = pos (2 ^ 31 - 1);
-      longest = mostElements;
-      sign = pos 1;
-    }
+squaredEuclid = columns true (negℤ (pos 2)) (negℤ (pos 1024)) (pos 1023) (pos 0) (pos (2 ^ 31 - 1)) 512 (pos 1)
 
 unfoldable pub hamming : Row
-hamming =
-    record {
-      squares = true;
-      k = negℤ (pos 2);
-      low = pos 0;
-      high = pos 1;
-      least = pos 0;
-      most = pos 513;
-      longest = mostElements;
-      sign = pos 1;
-    }
+hamming = columns true (negℤ (pos 2)) (pos 0) (pos 1) (pos 0) (pos 513) 512 (pos 1)
 
 -- 01's table, column "code". A code above 2 reads as 2: such a code is refused before anything is read here (01, "When
 -- a call is turned down", 2).

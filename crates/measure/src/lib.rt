@@ -78,29 +78,11 @@ pub fn row_of(code: u32) -> Row
         × (r .longest ≡ row code .longest) × (r .sign ≡ word (row code .sign)) ⌝ }
 {
     if code == 0 {
-        Row::new(
-            false,
-            1,
-            MINUS_1024,
-            1023,
-            MINUS_2_30,
-            1073741824,
-            MOST_ELEMENTS,
-            1,
-        )
+        Row::new(false, 1, MINUS_1024, 1023, MINUS_2_30, 1073741824, 512, 1)
     } else if code == 1 {
-        Row::new(
-            true,
-            MINUS_2,
-            MINUS_1024,
-            1023,
-            0,
-            2147483647,
-            MOST_ELEMENTS,
-            1,
-        )
+        Row::new(true, MINUS_2, MINUS_1024, 1023, 0, 2147483647, 512, 1)
     } else {
-        Row::new(true, MINUS_2, 0, 1, 0, 513, MOST_ELEMENTS, 1)
+        Row::new(true, MINUS_2, 0, 1, 0, 513, 512, 1)
     }
 }
 

@@ -57,10 +57,7 @@ pub fn own(terms: Terms, v: &[u32]) -> u32
     requires { ⌜ terms .n ≤ length (now v) ⌝ }
     ensures { λ r. ⌜ r ≡ ownWord terms (now (v .entry)) ⌝ }
 {
+    let n = terms.n;
     let row = measure::row_of(terms.code);
-    if row.squares {
-        sum_of_squares(terms.n, v)
-    } else {
-        0
-    }
+    if row.squares { sum_of_squares(n, v) } else { 0 }
 }
