@@ -9,8 +9,8 @@ use node::Key;
 pub fn word(terms: Terms, share: u32, own: u32, r: u32) -> u32
     ensures { λ w. ⌜ w ≡ wordOf terms share own r ⌝ }
 {
-    let opened = words::add(words::mul(measure::k(terms), share), own);
-    words::add(words::mul(measure::sign(terms), opened), r)
+    let part = words::add(words::mul(measure::k(terms), share), own);
+    words::add(words::mul(measure::sign(terms), part), r)
 }
 
 // A box's answer, from the sum of both words: whether it lies from 0 to the width above the point, as

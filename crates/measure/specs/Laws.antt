@@ -1,6 +1,6 @@
--- What a caller uses of the measures: how long a vector may be, their words are the residues of the whole numbers, what
--- two boxes open fits a signed word (01, "Measures"), and the word's sign says whether the threshold is reached. Assumes
--- nothing.
+-- What a caller uses of the measures: how long a vector may be; their words are the residues of the whole numbers; what
+-- two boxes open fits a signed word (01, "Measures"), and the word's sign says whether the threshold is reached; and
+-- that by the table's signs all this is 01's, word for word. Assumes nothing.
 use mathlib.Core.Path.{_≡_, refl, sym, ap, ap₂, _∙_, subst}
 use mathlib.Core.Bool.{Bool, true, false, cond, _&&_}
 use mathlib.Core.List.{List, [], _∷_}
@@ -54,7 +54,7 @@ module _ (terms : Terms) where
       let parts = length-longest h in
       (parts .0, omega (arith, parts .1, longest-most (terms .code)))
 
--- today every code has that length
+-- and it is 512 under every code
 pub longest-is : (code : ℕ) → row code .longest ≡ mostElements
 unfolding row scalarProduct squaredEuclid hamming
 longest-is zero = refl
@@ -414,7 +414,7 @@ reached-sign terms t w x y hn hx hy ht lw h =
     let from : Le (negℤ (pos (2 ^ 31))) d = le-trans lower (of-test _ _ (b .0)) in
     word-sign w d lw (to-test from) (b .1) h
 
--- ---- 01's own words: every sign is 1
+-- ---- 01's own words: every sign of the table is 1, and a vector is carried as it is
 
 pub sign-plain : (terms : Terms) → sign terms ≡ pos 1
 unfolding sign row scalarProduct squaredEuclid hamming
@@ -440,3 +440,8 @@ difference-plain terms m t = ap (λ (s : ℤ). s *ℤ (m -ℤ t)) (sign-plain te
 pub reached-plain : (terms : Terms) (m t : ℤ) → reached terms m t ≡ leZ t m
 unfolding reached
 reached-plain terms m t = ap (leZ (pos 0)) (difference-plain terms m t) ∙ above-zero m t
+
+-- call 2: "Mask its own vector"
+pub carried-plain : (terms : Terms) (party : ℕ) (v : List ℕ) → carried terms party v ≡ v
+unfolding carried
+carried-plain terms party v = refl

@@ -1,6 +1,6 @@
--- The three measures (01, "Measures"): the table, the whole number that a set's terms and two vectors have, and the words
--- that a box computes. Elements and thresholds are words: a negative number stands for itself plus 2^32. The terms are
--- what both boxes know of a set: its measure's code, and L as `n`. Assumes nothing.
+-- The three measures (01, "Measures"): the table, the whole number that a set's terms and two vectors have, and the
+-- words that a box computes. Elements and thresholds are words: a negative number stands for itself plus 2^32. The
+-- terms are what both boxes know of a set: its measure's code, and L as `n`. Assumes nothing.
 use mathlib.Core.Bool.{Bool, true, false, cond, _&&_}
 use mathlib.Core.List.{List, [], _∷_}
 use Prim.Native.Nat.{ℕ, zero, suc, _*_, _-_, _%_, _^_}
@@ -128,8 +128,8 @@ signWord terms = word (sign terms)
 unfoldable pub ownWord : Terms → List ℕ → ℕ
 ownWord terms v = cond (row (terms .code) .squares) (sum (λ i. mul (getD v i 0) (getD v i 0)) (terms .n)) 0
 
--- what a party carries into the product, and puts under its mask: its vector as it is, at both parties. The sum of the
--- products of what the two carry is that of X_i × Y_i (Laws.`cross≈`). Terms, party, vector
+-- what a party carries into the product and puts under its mask: its vector as it is, at both parties. The sum of the
+-- products of what the two carry is `cross` (Laws.`cross≈`). Terms, party, vector
 unfoldable pub carried : Terms → ℕ → List ℕ → List ℕ
 carried terms party v = v
 

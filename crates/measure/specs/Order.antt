@@ -47,7 +47,10 @@ of-test a b h = go (b -ℤ a) refl (above-zero b a ∙ h)
     go (negsuc d) e t = neither t
 
 pub to-test : {a b : ℤ} → Le a b → leZ a b ≡ true
-to-test {a} {b} l = sym (above-zero b a) ∙ ap (leZ (pos 0)) (ap (λ (z : ℤ). z -ℤ a) (l .is) ∙ left a (pos (l .gap))) ∙ leb·zero (l .gap)
+to-test {a} {b} l =
+    sym (above-zero b a)
+    ∙ ap (leZ (pos 0)) (ap (λ (z : ℤ). z -ℤ a) (l .is) ∙ left a (pos (l .gap)))
+    ∙ leb·zero (l .gap)
   where
     left : (a g : ℤ) → a +ℤ g -ℤ a ≡ g
     left a g = ringℤ (a ∷ g ∷ []) (search reifyℤ depth 20 fits 5000) refl
@@ -112,11 +115,13 @@ module _ (h x y : ℤ) (below : Le (negℤ h) x) (above : Le x h) (below′ : Le
   at-least h x y = ringℤ (h ∷ x ∷ y ∷ []) (search reifyℤ depth 20 fits 5000) refl
 
   pub product-most : Le (x *ℤ y) (h *ℤ h)
-  product-most = of-test (x *ℤ y) (h *ℤ h) (sym (above-zero (h *ℤ h) (x *ℤ y)) ∙ two (h *ℤ h -ℤ x *ℤ y) (above .gap) (below′ .gap) (below .gap) (above′ .gap)
+  product-most = of-test (x *ℤ y) (h *ℤ h) (sym (above-zero (h *ℤ h) (x *ℤ y))
+      ∙ two (h *ℤ h -ℤ x *ℤ y) (above .gap) (below′ .gap) (below .gap) (above′ .gap)
       (at-most h x y ∙ sym (ap₂ _+ℤ_ (ap₂ _*ℤ_ (up h x _ (above .is)) (up y (negℤ h) _ (below′ .is))) (ap₂ _*ℤ_ (up x (negℤ h) _ (below .is)) (up h y _ (above′ .is))))))
 
   pub product-least : Le (negℤ (h *ℤ h)) (x *ℤ y)
-  product-least = of-test (negℤ (h *ℤ h)) (x *ℤ y) (sym (above-zero (x *ℤ y) (negℤ (h *ℤ h))) ∙ two (x *ℤ y -ℤ negℤ (h *ℤ h)) (above .gap) (above′ .gap) (below .gap) (below′ .gap)
+  product-least = of-test (negℤ (h *ℤ h)) (x *ℤ y) (sym (above-zero (x *ℤ y) (negℤ (h *ℤ h)))
+      ∙ two (x *ℤ y -ℤ negℤ (h *ℤ h)) (above .gap) (above′ .gap) (below .gap) (below′ .gap)
       (at-least h x y ∙ sym (ap₂ _+ℤ_ (ap₂ _*ℤ_ (up h x _ (above .is)) (up h y _ (above′ .is))) (ap₂ _*ℤ_ (up x (negℤ h) _ (below .is)) (up y (negℤ h) _ (below′ .is))))))
 
 -- ---- sums

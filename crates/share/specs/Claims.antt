@@ -1,6 +1,7 @@
 -- Claim opened-sum: whatever the masks, the two boxes' words sum to measure - T, by the sign, + r. Claim join law:
--- whatever the key seeds, their answers sum to 1 if the threshold is reached, else to 0. Both over free words: where they
--- come from is another layer's matter. And that the formulas are 01's. Assumes nothing.
+-- whatever the key seeds, their answers sum to 1 if the threshold is reached, else to 0. Both over free words: where
+-- they come from is another layer's matter; and over either sign. And that by the table's signs the formulas are 01's,
+-- word for word. Assumes nothing.
 use mathlib.Core.Path.{_≡_, refl, ap, ap₂, _∙_}
 use mathlib.Core.Bool.{true}
 use mathlib.Core.List.{List, [], _∷_}
@@ -54,7 +55,9 @@ half z = omega arith
 -- "its answer is value at Z + 2^31 minus value at Z, and party 1 adds 1 if Z < 2^31"
 pub answer-ordinary : (party : ℕ) (key : Key) (seed : List ℕ) (z : ℕ)
     → answer ordinaryWidth party key seed z
-    ≡ add (sub (valueAt party key seed (add z (2 ^ 31))) (valueAt party key seed z)) (only (odd party) (less z (2 ^ 31)))
+    ≡ add
+    (sub (valueAt party key seed (add z (2 ^ 31))) (valueAt party key seed z))
+    (only (odd party) (less z (2 ^ 31)))
 unfolding answer add
 answer-ordinary party key seed z = rw (half z) refl
 
@@ -165,11 +168,21 @@ module _ (terms : Terms) (t : ℕ) (x y x0 x1 y0 y1 : List ℕ) (c0 r r0 : ℕ) 
       n)
 
   -- the words open to the products and the own terms, less T, by the sign, and under r
-  words-open : add word0 word1
-      ≈ add (mul (signWord terms) (sub (add (add (ownWord terms x) (ownWord terms y)) (mul (kWord terms) (inner n cx cy))) t)) r
+  words-open :
+      (let m : ℕ = add (add (ownWord terms x) (ownWord terms y)) (mul (kWord terms) (inner n cx cy)) in
+      add word0 word1 ≈ add (mul (signWord terms) (sub m t)) r)
   unfolding boxWord share otherC otherR only odd
   words-open =
-      open-sum (inner n cx cy) _ _ _ _ _ _ (signWord terms) (kWord terms) (ownWord terms x) (ownWord terms y) c0 r t r0 inners
+      open-sum (inner n cx cy) _ _ _ _ _ _
+      (signWord terms)
+      (kWord terms)
+      (ownWord terms x)
+      (ownWord terms y)
+      c0
+      r
+      t
+      r0
+      inners
     where
       open-sum : (s A B C D E F g k o p c r t r0 : ℕ) → s ≈ sub (sub (add A B) (add C D)) (add E F)
           → add
@@ -186,7 +199,11 @@ module _ (terms : Terms) (t : ℕ) (x y x0 x1 y0 y1 : List ℕ) (c0 r r0 : ℕ) 
   pub opened-sum : add word0 word1 ≈ residue (2 ^ 32) (difference terms (measure terms x y) (signed t)) + r
   unfolding inner difference
   opened-sum =
-      last (sign terms) (measure terms x y) (signed t) _ _ _ r t words-open (signWord≈ terms) (measure≈ terms x y) (signed≈ t)
+      last (sign terms) (measure terms x y) (signed t) _ _ _ r t
+      words-open
+      (signWord≈ terms)
+      (measure≈ terms x y)
+      (signed≈ t)
     where
       last : (G M S : ℤ) (z g m r t : ℕ) → z ≈ add (mul g (sub m t)) r → g ≈ residue (2 ^ 32) G
           → m ≈ residue (2 ^ 32) M → residue (2 ^ 32) S ≈ t → z ≈ residue (2 ^ 32) (G *ℤ (M -ℤ S)) + r

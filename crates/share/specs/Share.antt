@@ -1,6 +1,7 @@
 -- What a box computes in one check, and what the dealer computes for it, over free words (01, "Dealing a set" and "One
 -- check at a box"). A party is its number: 0 the camera box, 1 the office box. Every sign is 1, and an ordinary set's
--- width 2^31 - 1: Claims says that with these the formulas are 01's, word for word. Assumes nothing.
+-- width is 2^31 - 1: by these the formulas are 01's, word for word (Claims.`word-plain`, `other-r-plain` and
+-- `answer-ordinary`). Assumes nothing.
 use mathlib.Core.List.{List}
 use Prim.Native.Nat.{ℕ}
 use lib.ListN.{getD}
@@ -13,8 +14,8 @@ use Rattle.node.specs.Node.{valueAt}
 use Rattle.measure.specs.declared.Terms.{Terms}
 use Rattle.measure.specs.Measure.{kWord, signWord}
 
--- two vectors of n words added element by element: "X's mask is x0 + x1, element by element", and call 2's "element plus
--- mask, as words"
+-- two vectors of n words added element by element: "X's mask is x0 + x1, element by element", and call 2's "element
+-- plus mask, as words"
 unfoldable pub plus : ℕ → List ℕ → List ℕ → List ℕ
 plus n a b = tab (λ i. add (getD a i 0) (getD b i 0)) n
 
@@ -39,8 +40,8 @@ share party n c maskedX maskedY shareX shareY =
 unfoldable pub boxWord : Terms → ℕ → ℕ → ℕ → ℕ
 boxWord terms s own r = add (mul (signWord terms) (add (mul (kWord terms) s) own)) r
 
--- call 4, for an interval from 0 to the width w: value at Z - (w + 1) less value at Z, "and party 1 adds 1 if Z <" w + 1.
--- For an ordinary set's w it is "value at Z + 2^31 minus value at Z, and party 1 adds 1 if Z < 2^31"
+-- call 4, for what lies from 0 to the width w: value at Z - (w + 1) minus value at Z, and party 1 adds 1 if Z < w + 1.
+-- At an ordinary set's w that is "value at Z + 2^31 minus value at Z, and party 1 adds 1 if Z < 2^31"
 unfoldable pub answer : ℕ → ℕ → Key → List ℕ → ℕ → ℕ
 answer w party key seed z =
     let end : ℕ = add w 1 in

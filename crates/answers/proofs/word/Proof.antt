@@ -33,9 +33,9 @@ returns c =
     let at-k = at-mul .before in
     let args = at-k .before .args in
     let product = at-mul .mul .ensures ∙ ap (λ k. mul k (args .share)) (at-k .k .ensures) in
-    let opened = at-add .add .ensures ∙ ap (λ p. add p (args .own)) product in
+    let part = at-add .add .ensures ∙ ap (λ p. add p (args .own)) product in
     c .add2 .ensures
-    ∙ ap (λ w. add w (args .r)) (at-mul-2 .mul2 .ensures ∙ ap₂ mul (at-sign .sign .ensures) opened)
+    ∙ ap (λ w. add w (args .r)) (at-mul-2 .mul2 .ensures ∙ ap₂ mul (at-sign .sign .ensures) part)
 
 pub word-spec : {M : Type 1} → statement M
 word-spec =

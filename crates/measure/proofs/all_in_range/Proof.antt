@@ -38,7 +38,8 @@ loop-again : tie.Need-loop-again Inv-loop μ-loop
 loop-again c =
     let at-loop = c .before .before .before in
     let args = at-loop .before .before .args in
-    (ap₂ _&&_ (at-loop .loop .inv .0) (c .in-range .ensures) ∙ sym (all-more (args .terms) (args .v .now) (at-loop .loop .at) (omega arith)), search needs)
+    let more = all-more (args .terms) (args .v .now) (at-loop .loop .at) (omega arith) in
+    (ap₂ _&&_ (at-loop .loop .inv .0) (c .in-range .ensures) ∙ sym more, search needs)
 
 returns : tie.Need-returns Inv-loop μ-loop
 returns c =
