@@ -59,10 +59,6 @@ row zero = scalarProduct
 row (suc zero) = squaredEuclid
 row (suc (suc code)) = hamming
 
--- the most elements that a vector has under any measure: the places of every array of a vector's words
-abbrev pub mostElements : ℕ
-mostElements = 512
-
 -- the codes that there are (01, "When a call is turned down", 2)
 unfoldable pub isCode : ℕ → Bool
 isCode code = ltb code 3
