@@ -6,9 +6,9 @@ use Prim.Native.Nat.{ℕ, _*_}
 use lib.Dec.{eqb, leb, ltb}
 use lib.ListN.{length, replicate}
 use Rattle.words.specs.List.{over, same}
-use Rattle.measure.specs.Measure.{isCode, thresholdFits}
-use Rattle.messages.specs.Messages.{unless, ifTaken, nameFits, padded, isKey}
-use Rattle.content.specs.Content.{blockBytes, blockCount, lengthFits}
+use Rattle.measure.specs.Measure.{isCode, lengthFits, thresholdFits}
+use Rattle.messages.specs.Messages.{badName, badPartyOrCode, wrongLength, shortBuffer, wrongNumber, outOfRange, equalKeys, unless, ifTaken, nameFits, padded, isKey}
+use Rattle.content.specs.Content.{blockBytes, blockCount}
 use Rattle.dealing.specs.Dealing.{Deal, dealtSet}
 use Rattle.half.specs.Half.{half}
 use Rattle.dealer.specs.declared.Dealer.{Dealer}
@@ -17,13 +17,20 @@ use Rattle.dealer.specs.declared.DealerAnswer.{DealerAnswer}
 unfoldable pub noDealer : Dealer
 noDealer = record { name = replicate 16 0; key0 = replicate 32 0; key1 = replicate 32 0; last = 0 }
 
+-- what a call answers: why not, and the state that follows. A refused one leaves the state as it was.
+abbrev pub answered : ℕ → Dealer → Dealer → DealerAnswer
+answered why next s = record { why = why; dealer = ifTaken why next s }
+
 unfoldable pub whyNotDealer : List ℕ → List ℕ → List ℕ → ℕ
-whyNotDealer name key0 key1 = unless (nameFits name) 1 (unless (isKey key0 && isKey key1) 4 (unless (not (same key0 key1)) 9 0))
+whyNotDealer name key0 key1 =
+    unless (nameFits name) badName
+    (unless (isKey key0 && isKey key1) wrongLength (unless (not (same key0 key1)) equalKeys 0))
 
 unfoldable pub startDealer : List ℕ → List ℕ → List ℕ → ℕ → DealerAnswer
 startDealer name key0 key1 floor =
-    let why : ℕ = whyNotDealer name key0 key1 in
-    record { why = why; dealer = ifTaken why (record { name = padded name; key0 = key0; key1 = key1; last = floor }) noDealer }
+    answered (whyNotDealer name key0 key1)
+    (record { name = padded name; key0 = key0; key1 = key1; last = floor })
+    noDealer
 
 -- how many bytes a half has
 unfoldable pub halfSize : ℕ → ℕ
@@ -32,11 +39,11 @@ halfSize n = blockBytes * blockCount n
 -- why a deal is turned down, where its two buffers have this many bytes
 unfoldable pub whyNotDeal : Dealer → Deal → ℕ → ℕ → ℕ
 whyNotDeal s d room0 room1 =
-    unless (isCode (d .terms .code)) 2
-    (unless (eqb (length (d .seed)) 32 && lengthFits (d .terms .n)) 4
-    (unless (leb (halfSize (d .terms .n)) room0 && leb (halfSize (d .terms .n)) room1) 5
-    (unless (ltb (s .last) (d .number)) 7
-    (unless (thresholdFits (d .terms .code) (d .t)) 8 0))))
+    unless (isCode (d .terms .code)) badPartyOrCode
+    (unless (isKey (d .seed) && lengthFits (d .terms)) wrongLength
+    (unless (leb (halfSize (d .terms .n)) room0 && leb (halfSize (d .terms .n)) room1) shortBuffer
+    (unless (ltb (s .last) (d .number)) wrongNumber
+    (unless (thresholdFits (d .terms) (d .t)) outOfRange 0))))
 
 unfoldable pub keyOf : Dealer → ℕ → List ℕ
 keyOf s party = cond (eqb party 0) (s .key0) (s .key1)
@@ -47,8 +54,9 @@ halfFor s d party = half (keyOf s party) (s .name) party (dealtSet d party)
 
 unfoldable pub deal : Dealer → Deal → ℕ → ℕ → DealerAnswer
 deal s d room0 room1 =
-    let why : ℕ = whyNotDeal s d room0 room1 in
-    record { why = why; dealer = ifTaken why (record { name = s .name; key0 = s .key0; key1 = s .key1; last = d .number }) s }
+    answered (whyNotDeal s d room0 room1)
+    (record { name = s .name; key0 = s .key0; key1 = s .key1; last = d .number })
+    s
 
 -- what it leaves in the two buffers
 unfoldable pub dealOut : Dealer → Deal → List ℕ → List ℕ → ℕ → List ℕ

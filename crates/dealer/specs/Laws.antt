@@ -7,11 +7,11 @@ use borrow.Author.Tests.{eqb-true, leb-true, ltb-true}
 use Rattle.algebra.specs.Bit.{both}
 use Rattle.words.specs.List.{same}
 use lib.ListN.{length}
-use Rattle.measure.specs.Measure.{isCode, thresholdFits}
+use Rattle.measure.specs.Measure.{mostElements, isCode, lengthFits, thresholdFits}
 use Rattle.messages.specs.Messages.{nameFits, isKey}
 use Rattle.messages.specs.Laws.{passed}
-use Rattle.content.specs.Content.{mostElements, Proper}
-use Rattle.content.specs.Laws.{length-fits}
+use Rattle.content.specs.Content.{Proper}
+use Rattle.measure.specs.Laws as Measures
 use Rattle.dealing.specs.Dealing.{Deal, dealtSet}
 use Rattle.dealing.specs.Laws.{proper}
 use Rattle.dealer.specs.Dealer.{whyNotDealer, halfSize, whyNotDeal}
@@ -38,26 +38,28 @@ start-tells name key0 key1 h =
 pub record DealTells (s : Dealer) (d : Deal) (room0 room1 : ℕ) : Type 0 where
   pub code-fits : isCode (d .terms .code) ≡ true
   pub seeded : length (d .seed) ≡ 32
+  pub length-fits : lengthFits (d .terms) ≡ true
   pub some : 1 ≤ d .terms .n
   pub most : d .terms .n ≤ mostElements
   pub room-0 : halfSize (d .terms .n) ≤ room0
   pub room-1 : halfSize (d .terms .n) ≤ room1
   pub above : s .last < d .number
-  pub threshold-fits : thresholdFits (d .terms .code) (d .t) ≡ true
+  pub threshold-fits : thresholdFits (d .terms) (d .t) ≡ true
 
 pub deal-tells : (s : Dealer) (d : Deal) (room0 room1 : ℕ) → whyNotDeal s d room0 room1 ≡ 0 → DealTells s d room0 room1
-unfolding whyNotDeal
+unfolding whyNotDeal isKey
 deal-tells s d room0 room1 h =
     let a = passed _ h in
     let b = passed _ (a .1) in
     let c = passed _ (b .1) in
     let e = passed _ (c .1) in
     let lengths = both _ _ (b .0) in
-    let long = length-fits _ (lengths .1) in
+    let long = Measures.length-fits (d .terms) (lengths .1) in
     let rooms = both _ _ (c .0) in
     record {
       code-fits = a .0;
       seeded = eqb-true _ _ (lengths .0);
+      length-fits = lengths .1;
       some = long .0;
       most = long .1;
       room-0 = leb-true _ _ (rooms .0);

@@ -8,15 +8,16 @@ ghost use Rattle.dealing.specs.Dealing.{dealFrom};
 ghost use Rattle.dealer.specs.Dealer.{whyNotDealer, startDealer, whyNotDeal, halfFor, deal as dealOf, dealOut};
 ghost use Rattle.dealer.specs.declared.Dealer.{Dealer};
 use content::BLOCK;
-use measure::MOST_ELEMENTS;
 use measure::Terms;
+use messages::KEY;
+use messages::NAME;
 
 // What the dealer keeps: the door's padded name, the keys of the two boxes, and its last set number.
 #[repr(C)]
 pub struct Dealer {
-    pub name: [u8; 16],
-    pub key0: [u8; 32],
-    pub key1: [u8; 32],
+    pub name: [u8; NAME],
+    pub key0: [u8; KEY],
+    pub key1: [u8; KEY],
     pub last: u64,
 }
 
@@ -37,9 +38,9 @@ impl Dealer {
             return DealerAnswer {
                 why,
                 dealer: Dealer {
-                    name: [0; 16],
-                    key0: [0; 32],
-                    key1: [0; 32],
+                    name: [0; NAME],
+                    key0: [0; KEY],
+                    key1: [0; KEY],
                     last: 0,
                 },
             };
@@ -101,13 +102,13 @@ fn why_not_start(name: &[u8], key0: &[u8], key1: &[u8]) -> u32
     ensures { λ r. ⌜ r ≡ whyNotDealer (now (name .entry)) (now (key0 .entry)) (now (key1 .entry)) ⌝ }
 {
     if !messages::name_fits(name) {
-        return 1;
+        return messages::BAD_NAME;
     }
-    if !((key0.len() == 32) & (key1.len() == 32)) {
-        return 4;
+    if !((key0.len() == KEY) & (key1.len() == KEY)) {
+        return messages::WRONG_LENGTH;
     }
     if slices::equal(key0, key1) {
-        return 9;
+        return messages::EQUAL_KEYS;
     }
     0
 }
@@ -124,22 +125,21 @@ fn why_not_deal(
 ) -> u32
     ensures { λ r. ⌜ ((s : Dealer) (seed : List ℕ) → s .last ≡ last → length seed ≡ long → r ≡ whyNotDeal s (dealFrom number seed terms t) room0 room1) ⌝ }
 {
-    let n = terms.n;
     if !measure::is_code(terms.code) {
-        return 2;
+        return messages::BAD_PARTY_OR_CODE;
     }
-    if !((long == 32) & ((1 <= n) & (n <= MOST_ELEMENTS))) {
-        return 4;
+    if !((long == KEY) & measure::length_fits(terms)) {
+        return messages::WRONG_LENGTH;
     }
-    let size = BLOCK * content::blocks_of(n);
+    let size = BLOCK * content::blocks_of(terms.n);
     if !((size <= room0) & (size <= room1)) {
-        return 5;
+        return messages::SHORT_BUFFER;
     }
     if !(last < number) {
-        return 7;
+        return messages::WRONG_NUMBER;
     }
-    if !measure::threshold_fits(terms.code, t) {
-        return 8;
+    if !measure::threshold_fits(terms, t) {
+        return messages::OUT_OF_RANGE;
     }
     0
 }

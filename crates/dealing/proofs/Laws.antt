@@ -121,7 +121,7 @@ module _ (terms : Terms) where
 
     pub sets-law : (camera office : Set) (c1 r1 : ℕ)
         → camera ≡ setWith 0 number terms w mx (getD w (4 * n) 0) (getD w (4 * n + 2) 0) key
-        → c1 ≡ otherC n mx my (getD w (4 * n) 0) → r1 ≡ otherR (getD w (4 * n + 1) 0) t (getD w (4 * n + 2) 0)
+        → c1 ≡ otherC n mx my (getD w (4 * n) 0) → r1 ≡ otherR terms (getD w (4 * n + 1) 0) t (getD w (4 * n + 2) 0)
         → office ≡ setWith 1 number terms w my c1 r1 key
         → (seed : List ℕ) → (camera ≡ setFrom (dealFrom number seed terms t) w 0) × (office ≡ setFrom (dealFrom number seed terms t) w 1)
     unfolding setFrom ownMask cOf rOf c0 r r0

@@ -132,7 +132,7 @@ fn sets_from(w: &[u32], number: u64, terms: Terms, t: u32) -> Dealt
     let seed1 = key_seed(w, n, 1);
     let key = keys::make(seed0, seed1, r);
     let c1 = share::other_c(n, &mask_x, &mask_y, c0);
-    let r1 = share::other_r(r, t, r0);
+    let r1 = share::other_r(terms, r, t, r0);
     let camera = set_for(w, 0, number, terms, mask_x, c0, r0, key);
     let office = set_for(w, 1, number, terms, mask_y, c1, r1, key);
     Dealt { camera, office }
