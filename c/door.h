@@ -68,8 +68,8 @@ enum door_refusal {
     DOOR_BAD_NAME = 1,
     /* A box is started with a party that is not 0 or 1, or a deal's code is not 0 to 2. */
     DOOR_BAD_PARTY_OR_CODE = 2,
-    /* A box call is out of its turn, or the state handed in has a phase, a party, a code or an L that
-       no call leaves. Nothing else of a state is tested. */
+    /* A box call is out of its turn, or the state handed in has a who.party or a check.phase, or at
+       its phase check.set.terms, that no call leaves. Nothing else of a state is tested. */
     DOOR_OUT_OF_TURN = 3,
     /* Key or seed is not 32 bytes, a message's name not 16, L not 1 to 512, a vector not the set's
        L, or a half not 3 to 16 whole blocks. */
@@ -87,8 +87,8 @@ enum door_refusal {
     DOOR_EQUAL_KEYS = 9,
     /* A block is not in its place, is of another set number, or its tag doesn't fit. */
     DOOR_BAD_BLOCK = 10,
-    /* A half of another door or party, with a code, an L or a flag byte out of range, or with a fill
-       that is not zero. */
+    /* A half of another door or party, with a code, an L or a flag byte out of range, with a block
+       count that doesn't fit L, or with a fill that is not zero. */
     DOOR_BAD_CONTENT = 11,
     /* The joined sum is not 0 or 1. */
     DOOR_BAD_SUM = 12
@@ -101,6 +101,14 @@ enum door_code {
     DOOR_HAMMING = 2 /* Hamming: 0 or 1, T from 0 to 513 */
 };
 
+/* How far a box's check is. In every phase but the first, door_drop is in turn as well. */
+enum door_phase {
+    DOOR_IDLE = 0,   /* no set is open; door_load is in turn */
+    DOOR_LOADED = 1, /* after door_load; door_mask is in turn */
+    DOOR_MASKED = 2, /* after door_mask; door_take is in turn */
+    DOOR_TAKEN = 3   /* after door_take; door_finish is in turn */
+};
+
 /* What a message is, and which call takes it. */
 enum door_kind {
     DOOR_MASKED_VECTOR = 0, /* sent by door_mask, taken by the other box's door_take */
@@ -108,7 +116,21 @@ enum door_kind {
     DOOR_ANSWER = 2         /* sent by door_finish, taken by the lock */
 };
 
-/* The structs of the crates node, content, dealer, party and lock, all #[repr(C)]. */
+/* The structs of the crates messages, measure, node, content, dealer, party and lock, all
+   #[repr(C)]. */
+
+/* Who a box is. */
+struct door_identity {
+    uint8_t name[DOOR_NAME]; /* padded */
+    uint32_t party;          /* 0 is the camera box, 1 the office box */
+    uint8_t key[DOOR_KEY];
+};
+
+/* What both boxes know of a set. */
+struct door_terms {
+    uint32_t code; /* enum door_code */
+    size_t n;      /* L */
+};
 
 struct door_correction {
     uint32_t seed[8];
@@ -121,11 +143,10 @@ struct door_key {
     uint32_t last;
 };
 
-/* An opened set; all zero with none. Places of the arrays past n are zero. */
+/* An opened set; all zero with none. Places of the arrays past terms.n are zero. */
 struct door_set {
     uint64_t number;
-    uint32_t code;
-    size_t n; /* L */
+    struct door_terms terms;
     uint32_t mask[DOOR_LENGTH_MOST];
     uint32_t x[DOOR_LENGTH_MOST];
     uint32_t y[DOOR_LENGTH_MOST];
@@ -147,17 +168,20 @@ struct door_dealer_answer {
     struct door_dealer dealer;
 };
 
+/* The check that a box has open; all zero with none. */
+struct door_check {
+    uint32_t phase; /* enum door_phase */
+    struct door_set set;
+    uint32_t masked[DOOR_LENGTH_MOST]; /* the box's masked vector, from DOOR_MASKED on */
+    uint32_t own;                      /* its vector's own term, from DOOR_MASKED on */
+    uint32_t word;                     /* its word, at DOOR_TAKEN */
+};
+
 /* A box. */
 struct door_party {
-    uint8_t name[DOOR_NAME]; /* padded */
-    uint32_t party;          /* 0 is the camera box, 1 the office box */
-    uint8_t key[DOOR_KEY];
-    uint64_t last;  /* the last set number, first the floor */
-    uint32_t phase; /* 0 with no set open, 1 loaded, 2 masked, 3 taken */
-    struct door_set set;
-    uint32_t masked[DOOR_LENGTH_MOST];
-    uint32_t own;
-    uint32_t word;
+    struct door_identity who;
+    uint64_t last; /* the last set number, first the floor */
+    struct door_check check;
 };
 
 struct door_party_answer {
@@ -188,16 +212,15 @@ struct door_dealer_answer door_start_dealer(
     uint64_t floor);
 
 /*
- * Deals set `number`, above the last one, for vectors of length n: DOOR_HALF(n) bytes to out0, for
- * the camera box, and as many to out1, for the office box. The seed is 32 random bytes that are
- * used for this set alone. Refusals: 2, 4, 5, 7, 8.
+ * Deals set `number`, above the last one, for vectors of length terms.n: DOOR_HALF(terms.n) bytes to
+ * out0, for the camera box, and as many to out1, for the office box. The seed is 32 random bytes
+ * that are used for this set alone, and t is the threshold. Refusals: 2, 4, 5, 7, 8.
  */
 struct door_dealer_answer door_deal(
     struct door_dealer dealer,
     uint64_t number,
     const uint8_t *seed, size_t seed_len,
-    uint32_t code,
-    size_t n,
+    struct door_terms terms,
     uint32_t t,
     uint8_t *out0, size_t out0_len,
     uint8_t *out1, size_t out1_len);
@@ -320,14 +343,18 @@ const char *door_level(void);
 #define DOOR_AT(type, field, at) \
     static_assert(offsetof(struct type, field) == (at), #type "." #field)
 #define DOOR_SIZE(type, size) static_assert(sizeof(struct type) == (size), #type)
+DOOR_SIZE(door_identity, 52);
+DOOR_AT(door_identity, party, 16);
+DOOR_AT(door_identity, key, 20);
+DOOR_SIZE(door_terms, 16);
+DOOR_AT(door_terms, n, 8);
 DOOR_SIZE(door_correction, 40);
 DOOR_AT(door_correction, word, 32);
 DOOR_AT(door_correction, flags, 36);
 DOOR_SIZE(door_key, 1284);
 DOOR_AT(door_key, last, 1280);
 DOOR_SIZE(door_set, 7496);
-DOOR_AT(door_set, code, 8);
-DOOR_AT(door_set, n, 16);
+DOOR_AT(door_set, terms, 8);
 DOOR_AT(door_set, mask, 24);
 DOOR_AT(door_set, x, 2072);
 DOOR_AT(door_set, y, 4120);
@@ -346,15 +373,14 @@ DOOR_AT(door_lock, last, 16);
 DOOR_SIZE(door_lock_answer, 40);
 DOOR_AT(door_lock_answer, lock, 8);
 DOOR_AT(door_lock_answer, bit, 32);
+DOOR_SIZE(door_check, 9560);
+DOOR_AT(door_check, set, 8);
+DOOR_AT(door_check, masked, 7504);
+DOOR_AT(door_check, own, 9552);
+DOOR_AT(door_check, word, 9556);
 DOOR_SIZE(door_party, 9624);
-DOOR_AT(door_party, party, 16);
-DOOR_AT(door_party, key, 20);
 DOOR_AT(door_party, last, 56);
-DOOR_AT(door_party, phase, 64);
-DOOR_AT(door_party, set, 72);
-DOOR_AT(door_party, masked, 7568);
-DOOR_AT(door_party, own, 9616);
-DOOR_AT(door_party, word, 9620);
+DOOR_AT(door_party, check, 64);
 DOOR_SIZE(door_party_answer, 9640);
 DOOR_AT(door_party_answer, party, 8);
 DOOR_AT(door_party_answer, word, 9632);

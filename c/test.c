@@ -64,18 +64,33 @@ static bool same_dealer(const struct door_dealer *a, const struct door_dealer *b
     return SAME(a, b, name) && SAME(a, b, key0) && SAME(a, b, key1) && a->last == b->last;
 }
 
+static bool same_identity(const struct door_identity *a, const struct door_identity *b)
+{
+    return SAME(a, b, name) && a->party == b->party && SAME(a, b, key);
+}
+
+static bool same_terms(const struct door_terms *a, const struct door_terms *b)
+{
+    return a->code == b->code && a->n == b->n;
+}
+
 static bool same_set(const struct door_set *a, const struct door_set *b)
 {
-    return a->number == b->number && a->code == b->code && a->n == b->n && SAME(a, b, mask)
+    return a->number == b->number && same_terms(&a->terms, &b->terms) && SAME(a, b, mask)
         && SAME(a, b, x) && SAME(a, b, y) && a->c == b->c && a->r == b->r && SAME(a, b, seed)
         && SAME(a, b, key);
 }
 
+static bool same_check(const struct door_check *a, const struct door_check *b)
+{
+    return a->phase == b->phase && same_set(&a->set, &b->set) && SAME(a, b, masked)
+        && a->own == b->own && a->word == b->word;
+}
+
 static bool same_party(const struct door_party *a, const struct door_party *b)
 {
-    return SAME(a, b, name) && a->party == b->party && SAME(a, b, key) && a->last == b->last
-        && a->phase == b->phase && same_set(&a->set, &b->set) && SAME(a, b, masked)
-        && a->own == b->own && a->word == b->word;
+    return same_identity(&a->who, &b->who) && a->last == b->last
+        && same_check(&a->check, &b->check);
 }
 
 /* A door: name and keys, what its parts keep, and what its host has. */
@@ -122,8 +137,7 @@ static struct door open_door(uint64_t floor)
 /* One check: what is dealt, and the two vectors. */
 
 struct check {
-    uint32_t code;
-    size_t n;
+    struct door_terms terms;
     long t;
     long v[2][MOST];
 };
@@ -131,10 +145,10 @@ struct check {
 static long measure(const struct check *k)
 {
     long sum = 0;
-    for (size_t i = 0; i < k->n; i++) {
+    for (size_t i = 0; i < k->terms.n; i++) {
         long x = k->v[0][i], y = k->v[1][i];
         long by_code[] = {x * y, (x - y) * (x - y), x != y};
-        sum += by_code[k->code];
+        sum += by_code[k->terms.code];
     }
     return sum;
 }
@@ -142,20 +156,20 @@ static long measure(const struct check *k)
 static long own(const struct check *k, int party)
 {
     long sum = 0;
-    for (size_t i = 0; i < k->n && k->code != DOOR_SCALAR; i++)
+    for (size_t i = 0; i < k->terms.n && k->terms.code != DOOR_SCALAR; i++)
         sum += k->v[party][i] * k->v[party][i];
     return sum;
 }
 
 static void words_of(const struct check *k, int party, uint32_t *words)
 {
-    for (size_t i = 0; i < k->n; i++)
+    for (size_t i = 0; i < k->terms.n; i++)
         words[i] = word(k->v[party][i]);
 }
 
 static struct check drawn_check(uint32_t code, size_t n)
 {
-    struct check k = {.code = code, .n = n};
+    struct check k = {.terms = {code, n}};
     for (int party = 0; party < 2; party++)
         for (size_t i = 0; i < n; i++)
             k.v[party][i] = code == DOOR_HAMMING ? draw() % 2 : (long)(draw() % 2048) - 1024;
@@ -179,7 +193,7 @@ static struct door_dealer_answer deal(
     struct door_dealer dealer, uint64_t number, const struct check *k, struct halves *h)
 {
     size_t room = sizeof h->half[0];
-    return door_deal(dealer, number, seed, DOOR_KEY, k->code, k->n, word(k->t), h->half[0], room,
+    return door_deal(dealer, number, seed, DOOR_KEY, k->terms, word(k->t), h->half[0], room,
         h->half[1], room);
 }
 
@@ -196,8 +210,8 @@ static void deals(struct door *d, uint64_t number, const struct check *k, struct
     EXPECT(a.why == DOOR_ACCEPTED);
     EXPECT(same_dealer(&a.dealer, &next));
     d->dealer = a.dealer;
-    size_t size = half_size(k->n);
-    EXPECT(size == DOOR_HALF(k->n));
+    size_t size = half_size(k->terms.n);
+    EXPECT(size == DOOR_HALF(k->terms.n));
     for (int party = 0; party < 2; party++) {
         uint8_t *half = h->half[party];
         EXPECT(memcmp(half + size, before.half[party] + size, sizeof h->half[party] - size) == 0);
@@ -214,19 +228,19 @@ static void deals(struct door *d, uint64_t number, const struct check *k, struct
 /* The loaded state, as far as it can be told from outside. */
 static void loads(struct door *d, uint64_t number, const struct check *k, const struct halves *h)
 {
+    const size_t n = k->terms.n, rest = sizeof(uint32_t) * (MOST - n);
     for (uint32_t party = 0; party < 2; party++) {
         struct door_party old = d->box[party];
-        struct door_party_answer a = door_load(old, h->half[party], half_size(k->n));
+        struct door_party_answer a = door_load(old, h->half[party], half_size(n));
         EXPECT(a.why == DOOR_ACCEPTED && a.word == 0);
-        struct door_party *new = &a.party;
-        EXPECT(SAME(new, &old, name) && new->party == party && SAME(new, &old, key));
-        EXPECT(new->last == number && new->phase == 1);
-        EXPECT(new->set.number == number && new->set.code == k->code && new->set.n == k->n);
-        size_t rest = sizeof(uint32_t) * (MOST - k->n);
-        EXPECT(all_zero(new->set.mask + k->n, rest));
-        EXPECT(all_zero(new->set.x + k->n, rest) && all_zero(new->set.y + k->n, rest));
+        const struct door_check *new = &a.party.check;
+        EXPECT(same_identity(&a.party.who, &old.who) && a.party.who.party == party);
+        EXPECT(a.party.last == number && new->phase == DOOR_LOADED);
+        EXPECT(new->set.number == number && same_terms(&new->set.terms, &k->terms));
+        EXPECT(all_zero(new->set.mask + n, rest));
+        EXPECT(all_zero(new->set.x + n, rest) && all_zero(new->set.y + n, rest));
         EXPECT(all_zero(new->masked, sizeof new->masked) && new->own == 0 && new->word == 0);
-        d->box[party] = *new;
+        d->box[party] = a.party;
     }
 }
 
@@ -234,7 +248,7 @@ static void loads(struct door *d, uint64_t number, const struct check *k, const 
 static void fit(const struct door_set *s0, const struct door_set *s1)
 {
     uint32_t product = 0;
-    for (size_t i = 0; i < s0->n; i++) {
+    for (size_t i = 0; i < s0->terms.n; i++) {
         EXPECT(s0->x[i] + s1->x[i] == s0->mask[i] && s0->y[i] + s1->y[i] == s1->mask[i]);
         product += s0->mask[i] * s1->mask[i];
     }
@@ -251,20 +265,21 @@ struct vector {
 
 static void masks(struct door *d, const struct check *k, struct vector sent[2])
 {
+    const size_t n = k->terms.n;
     for (int party = 0; party < 2; party++) {
         uint32_t v[MOST];
         words_of(k, party, v);
         draw_bytes((uint8_t *)sent[party].at, sizeof sent[party].at);
         struct vector before = sent[party];
         struct door_party next = d->box[party];
-        struct door_party_answer a = door_mask(next, v, k->n, sent[party].at, MOST + BEYOND);
+        struct door_party_answer a = door_mask(next, v, n, sent[party].at, MOST + BEYOND);
         EXPECT(a.why == DOOR_ACCEPTED && a.word == 0);
-        next.phase = 2;
-        next.own = word(own(k, party));
-        for (size_t i = 0; i < k->n; i++)
-            next.masked[i] = v[i] + next.set.mask[i];
+        next.check.phase = DOOR_MASKED;
+        next.check.own = word(own(k, party));
+        for (size_t i = 0; i < n; i++)
+            next.check.masked[i] = v[i] + next.check.set.mask[i];
         EXPECT(same_party(&a.party, &next));
-        memcpy(before.at, next.masked, sizeof(uint32_t) * k->n);
+        memcpy(before.at, next.check.masked, sizeof(uint32_t) * n);
         EXPECT(memcmp(sent[party].at, before.at, sizeof before.at) == 0);
         d->box[party] = a.party;
     }
@@ -279,16 +294,16 @@ static void takes(
     for (int party = 0; party < 2; party++) {
         uint32_t other = 1 - party;
         struct door_party next = d->box[party];
-        struct door_party_answer a = door_take(
-            next, DOOR_MASKED_VECTOR, PADDED, DOOR_NAME, other, number, sent[other].at, k->n);
+        struct door_party_answer a = door_take(next, DOOR_MASKED_VECTOR, PADDED, DOOR_NAME, other,
+            number, sent[other].at, k->terms.n);
         EXPECT(a.why == DOOR_ACCEPTED);
-        next.phase = 3;
-        next.word = a.word;
+        next.check.phase = DOOR_TAKEN;
+        next.check.word = a.word;
         EXPECT(same_party(&a.party, &next));
         d->box[party] = a.party;
         words[party] = a.word;
         z += a.word;
-        r += next.set.r;
+        r += next.check.set.r;
     }
     EXPECT(z == word(measure(k)) + r);
 }
@@ -368,7 +383,7 @@ static void whole(struct door *d, uint64_t number, const struct check *k)
     uint32_t words[2], answers[2];
     deals(d, number, k, &h);
     loads(d, number, k, &h);
-    fit(&d->box[0].set, &d->box[1].set);
+    fit(&d->box[0].check.set, &d->box[1].check.set);
     masks(d, k, sent);
     takes(d, number, k, sent, words);
     finishes(d, number, words, answers);
@@ -397,7 +412,7 @@ static void whole_checks(void)
 static void ends(void)
 {
     struct door d = open_door(0);
-    struct check k = {.code = DOOR_EUCLID, .n = MOST};
+    struct check k = {.terms = {DOOR_EUCLID, MOST}};
     for (size_t i = 0; i < MOST; i++) {
         k.v[0][i] = -1024;
         k.v[1][i] = 1023;
@@ -411,7 +426,7 @@ static void ends(void)
     whole(&d, 3, &k);
     k.t = 0;
     whole(&d, 4, &k);
-    k.code = DOOR_SCALAR;
+    k.terms.code = DOOR_SCALAR;
     k.t = -0x40000000;
     whole(&d, 5, &k);
     k.t = 0x40000000;
@@ -484,17 +499,17 @@ static void starts(void)
     EXPECT(memcmp(dealer.key0, keys[0], DOOR_KEY) == 0);
     EXPECT(memcmp(dealer.key1, keys[1], DOOR_KEY) == 0);
     struct door_party box = idle(1, 6);
-    EXPECT(memcmp(box.name, PADDED, DOOR_NAME) == 0 && box.party == 1 && box.last == 6);
-    EXPECT(memcmp(box.key, keys[1], DOOR_KEY) == 0 && box.phase == 0);
-    EXPECT(all_zero(&box.set.number, sizeof box.set.number) && box.set.code == 0 && box.set.n == 0);
+    const struct door_set *set = &box.check.set;
+    EXPECT(memcmp(box.who.name, PADDED, DOOR_NAME) == 0 && box.who.party == 1 && box.last == 6);
+    EXPECT(memcmp(box.who.key, keys[1], DOOR_KEY) == 0 && box.check.phase == DOOR_IDLE);
+    EXPECT(set->number == 0 && set->terms.code == 0 && set->terms.n == 0);
 }
 
 /* What is handed to a deal. */
 struct order {
     uint64_t number;
     size_t seed_size;
-    uint32_t code;
-    size_t n;
+    struct door_terms terms;
     uint32_t t;
     size_t room[2];
 };
@@ -505,7 +520,7 @@ static void deal_refused(struct door_dealer dealer, struct order o, uint32_t why
     draw_bytes(h.half[0], sizeof h.half[0]);
     draw_bytes(h.half[1], sizeof h.half[1]);
     before = h;
-    struct door_dealer_answer a = door_deal(dealer, o.number, seed, o.seed_size, o.code, o.n, o.t,
+    struct door_dealer_answer a = door_deal(dealer, o.number, seed, o.seed_size, o.terms, o.t,
         h.half[0], o.room[0], h.half[1], o.room[1]);
     EXPECT(a.why == why);
     if (why == DOOR_ACCEPTED)
@@ -517,9 +532,9 @@ static void deal_refused(struct door_dealer dealer, struct order o, uint32_t why
 static void deal_in_turn(struct door_dealer dealer)
 {
     size_t enough = half_size(18);
-    struct order o = {dealer.last, 31, 3, 18, 514, {enough - 1, enough - 1}};
+    struct order o = {dealer.last, 31, {3, 18}, 514, {enough - 1, enough - 1}};
     deal_refused(dealer, o, DOOR_BAD_PARTY_OR_CODE);
-    o.code = DOOR_HAMMING;
+    o.terms.code = DOOR_HAMMING;
     deal_refused(dealer, o, DOOR_WRONG_LENGTH);
     o.seed_size = 32;
     deal_refused(dealer, o, DOOR_SHORT_BUFFER);
@@ -541,16 +556,16 @@ static void deal_alone(struct door_dealer dealer)
         {DOOR_EUCLID, -1}, {DOOR_HAMMING, -1}, {DOOR_HAMMING, 514},
     };
     const struct order good = {
-        dealer.last + 1, 32, DOOR_SCALAR, 18, 0, {DOOR_HALF_MOST, DOOR_HALF_MOST}};
+        dealer.last + 1, 32, {DOOR_SCALAR, 18}, 0, {DOOR_HALF_MOST, DOOR_HALF_MOST}};
     deal_refused(dealer, good, DOOR_ACCEPTED);
     for (size_t i = 0; i < sizeof lengths / sizeof *lengths; i++) {
         struct order o = good;
-        o.n = lengths[i];
+        o.terms.n = lengths[i];
         deal_refused(dealer, o, DOOR_WRONG_LENGTH);
     }
     for (size_t i = 0; i < sizeof thresholds / sizeof *thresholds; i++) {
         struct order o = good;
-        o.code = thresholds[i].code;
+        o.terms.code = thresholds[i].code;
         o.t = word(thresholds[i].t);
         deal_refused(dealer, o, DOOR_OUT_OF_RANGE);
     }
@@ -561,7 +576,7 @@ static void deal_alone(struct door_dealer dealer)
     o.seed_size = 33;
     deal_refused(dealer, o, DOOR_WRONG_LENGTH);
     o = good;
-    o.code = 256;
+    o.terms.code = 256;
     deal_refused(dealer, o, DOOR_BAD_PARTY_OR_CODE);
     dealer.last = UINT64_MAX;
     o = good;
@@ -632,9 +647,9 @@ static void drop_refused(const struct door_party *box, uint32_t why)
     box_refused(&a, box, why);
 }
 
-/* A check at the office box: its state at every phase, and good input for every call. */
+/* A check at the office box: its state by phase, and good input for every call. */
 struct stage {
-    struct door_party at[4];
+    struct door_party at[DOOR_TAKEN + 1];
     struct halves halves;
     size_t size; /* of a half */
     size_t n;
@@ -651,13 +666,13 @@ static void set_stage(uint32_t code, size_t n)
     struct vector sent[2];
     uint32_t words[2];
     deals(&d, 41, &k, &stage.halves);
-    stage.at[0] = d.box[1];
+    stage.at[DOOR_IDLE] = d.box[1];
     loads(&d, 41, &k, &stage.halves);
-    stage.at[1] = d.box[1];
+    stage.at[DOOR_LOADED] = d.box[1];
     masks(&d, &k, sent);
-    stage.at[2] = d.box[1];
+    stage.at[DOOR_MASKED] = d.box[1];
     takes(&d, 41, &k, sent, words);
-    stage.at[3] = d.box[1];
+    stage.at[DOOR_TAKEN] = d.box[1];
     stage.size = half_size(n);
     stage.n = n;
     memset(stage.v, 0, sizeof stage.v);
@@ -671,36 +686,37 @@ static void set_stage(uint32_t code, size_t n)
 /* Every call with good input at a state: those in turn are accepted, the others refused. */
 static void turns(const struct door_party *box, bool fits)
 {
-    uint32_t why[4];
-    for (uint32_t phase = 0; phase < 4; phase++)
-        why[phase] = fits && box->phase == phase ? DOOR_ACCEPTED : DOOR_OUT_OF_TURN;
-    load_refused(box, stage.halves.half[1], stage.size, why[0]);
-    mask_refused(box, stage.v, stage.n, stage.n, why[1]);
-    take_refused(box, stage.vector, stage.v, why[2]);
-    finish_refused(box, stage.word, why[3]);
-    drop_refused(box, fits && box->phase != 0 ? DOOR_ACCEPTED : DOOR_OUT_OF_TURN);
+    uint32_t why[DOOR_TAKEN + 1];
+    for (uint32_t phase = DOOR_IDLE; phase <= DOOR_TAKEN; phase++)
+        why[phase] = fits && box->check.phase == phase ? DOOR_ACCEPTED : DOOR_OUT_OF_TURN;
+    load_refused(box, stage.halves.half[1], stage.size, why[DOOR_IDLE]);
+    mask_refused(box, stage.v, stage.n, stage.n, why[DOOR_LOADED]);
+    take_refused(box, stage.vector, stage.v, why[DOOR_MASKED]);
+    finish_refused(box, stage.word, why[DOOR_TAKEN]);
+    drop_refused(
+        box, fits && box->check.phase != DOOR_IDLE ? DOOR_ACCEPTED : DOOR_OUT_OF_TURN);
 }
 
 static void states(void)
 {
-    for (int phase = 0; phase < 4; phase++) {
+    for (uint32_t phase = DOOR_IDLE; phase <= DOOR_TAKEN; phase++) {
         turns(&stage.at[phase], true);
         struct door_party box = stage.at[phase];
-        box.party = 2;
+        box.who.party = 2;
         turns(&box, false);
         box = stage.at[phase];
-        box.phase += 4;
+        box.check.phase += DOOR_TAKEN + 1;
         turns(&box, false);
         box = stage.at[phase];
-        box.set.code += phase == 0 ? 1 : 3;
+        box.check.set.terms.code += phase == DOOR_IDLE ? 1 : 3;
         turns(&box, false);
         box = stage.at[phase];
-        box.set.n = phase == 0 ? 1 : 0;
+        box.check.set.terms.n = phase == DOOR_IDLE ? 1 : 0;
         turns(&box, false);
-        box.set.n = 513;
+        box.check.set.terms.n = 513;
         turns(&box, false);
     }
-    struct door_party_answer a = door_drop(stage.at[3]);
+    struct door_party_answer a = door_drop(stage.at[DOOR_TAKEN]);
     struct door_party closed = idle(1, 41);
     EXPECT(same_party(&a.party, &closed));
 }
@@ -712,12 +728,12 @@ static void load_in_turn(void)
     struct door_dealer_answer dealt = deal(dealer_of(OTHER, 4, 41), 42, &k, &other);
     EXPECT(dealt.why == DOOR_ACCEPTED);
     uint8_t *half = other.half[1];
-    struct door_party box = stage.at[0];
+    struct door_party box = stage.at[DOOR_IDLE];
     box.last = 42;
-    box.set.code = 1;
+    box.check.set.terms.code = 1;
     half[stage.size - 1] ^= 128;
     load_refused(&box, half, stage.size - 1, DOOR_OUT_OF_TURN);
-    box.set.code = 0;
+    box.check.set.terms.code = 0;
     load_refused(&box, half, stage.size - 1, DOOR_WRONG_LENGTH);
     load_refused(&box, half, stage.size, DOOR_WRONG_NUMBER);
     box.last = 41;
@@ -731,7 +747,7 @@ static void load_in_turn(void)
 static void load_alone(void)
 {
     static uint8_t half[17 * DOOR_BLOCK];
-    const struct door_party *box = &stage.at[0];
+    const struct door_party *box = &stage.at[DOOR_IDLE];
     static const size_t sizes[] = {0, DOOR_BLOCK, 2 * DOOR_BLOCK, 1537, 17 * DOOR_BLOCK};
     memcpy(half, stage.halves.half[1], stage.size);
     for (size_t i = 0; i < sizeof sizes / sizeof *sizes; i++)
@@ -747,7 +763,7 @@ static void load_alone(void)
     load_refused(box, half, stage.size - DOOR_BLOCK, DOOR_BAD_CONTENT); /* a block left out */
     load_refused(box, stage.halves.half[0], stage.size, DOOR_BAD_BLOCK); /* another key */
     struct door_party other = *box;
-    memcpy(other.key, keys[0], DOOR_KEY);
+    memcpy(other.who.key, keys[0], DOOR_KEY);
     load_refused(&other, stage.halves.half[0], stage.size, DOOR_BAD_CONTENT); /* another party */
     other = *box;
     other.last = UINT64_MAX;
@@ -757,17 +773,17 @@ static void load_alone(void)
 static void mask(void)
 {
     size_t n = stage.n;
-    struct door_party box = stage.at[1];
-    uint32_t good = stage.v[n - 1];
-    stage.v[n - 1] = box.set.code == DOOR_HAMMING ? 2 : 1024;
-    box.phase = 2;
+    struct door_party box = stage.at[DOOR_LOADED];
+    uint32_t good = stage.v[n - 1], code = box.check.set.terms.code;
+    stage.v[n - 1] = code == DOOR_HAMMING ? 2 : 1024;
+    box.check.phase = DOOR_MASKED;
     mask_refused(&box, stage.v, n + 1, n - 1, DOOR_OUT_OF_TURN);
-    box.phase = 1;
+    box.check.phase = DOOR_LOADED;
     mask_refused(&box, stage.v, n + 1, n - 1, DOOR_WRONG_LENGTH);
     mask_refused(&box, stage.v, n - 1, n, DOOR_WRONG_LENGTH);
     mask_refused(&box, stage.v, n, n - 1, DOOR_SHORT_BUFFER);
     mask_refused(&box, stage.v, n, n, DOOR_OUT_OF_RANGE);
-    stage.v[n - 1] = word(box.set.code == DOOR_HAMMING ? -1 : -1025);
+    stage.v[n - 1] = word(code == DOOR_HAMMING ? -1 : -1025);
     mask_refused(&box, stage.v, n, n, DOOR_OUT_OF_RANGE);
     stage.v[n - 1] = good;
     mask_refused(&box, stage.v, n, n, DOOR_ACCEPTED);
@@ -776,7 +792,7 @@ static void mask(void)
 /* Calls 3 and 4 have their refusals in common; the phase tells which of the two is in turn. */
 static void message_refused(const struct door_party *box, struct message m, uint32_t why)
 {
-    if (box->phase == 2)
+    if (box->check.phase == DOOR_MASKED)
         take_refused(box, m, stage.v, why);
     else
         finish_refused(box, m, why);
@@ -784,9 +800,9 @@ static void message_refused(const struct door_party *box, struct message m, uint
 
 static void message(const struct door_party *box, struct message good)
 {
-    struct message m = {2, OTHER, 15, 1, 42, good.n};
+    struct message m = {DOOR_ANSWER, OTHER, 15, 1, 42, good.n};
     struct door_party out_of_turn = *box;
-    out_of_turn.phase = 1;
+    out_of_turn.check.phase = DOOR_LOADED;
     take_refused(&out_of_turn, m, stage.v, DOOR_OUT_OF_TURN);
     finish_refused(&out_of_turn, m, DOOR_OUT_OF_TURN);
     message_refused(box, m, DOOR_WRONG_LENGTH);
@@ -812,7 +828,7 @@ static void message(const struct door_party *box, struct message good)
     message_refused(box, m, DOOR_WRONG_MESSAGE);
     m = good;
     m.n--;
-    if (box->phase == 2)
+    if (box->check.phase == DOOR_MASKED)
         message_refused(box, m, DOOR_WRONG_LENGTH);
 }
 
@@ -827,13 +843,14 @@ static void joins(void)
     EXPECT(join(40, &good, 41) == 1); /* the sum is modulo 2^32 */
     const struct join zero = join_of(UINT64_MAX, UINT32_MAX, 1);
     EXPECT(join(40, &zero, UINT64_MAX) == 0);
-    struct join j = {15, {1, 2}, {OTHER, PADDED}, {16, 15}, {1, 0}, {40, 41}, {1, 1}};
+    struct join j = {
+        15, {DOOR_WORD, DOOR_ANSWER}, {OTHER, PADDED}, {16, 15}, {1, 0}, {40, 41}, {1, 1}};
     join_refused(j, DOOR_WRONG_LENGTH);
     j.size = 16;
     join_refused(j, DOOR_WRONG_LENGTH);
     j.name_size[1] = 16;
     join_refused(j, DOOR_WRONG_MESSAGE);
-    j.kind[0] = 2;
+    j.kind[0] = DOOR_ANSWER;
     join_refused(j, DOOR_WRONG_MESSAGE);
     j.name[0] = PADDED;
     join_refused(j, DOOR_WRONG_MESSAGE);
@@ -890,16 +907,17 @@ static void empty_at_dealer(uint8_t *none)
     dealer_refused(door_start_dealer(BARE, bare, none, 0, none, 0, 7), &none_started,
         DOOR_WRONG_LENGTH); /* two keys that are both empty are not told to be equal */
     struct door_dealer dealer = dealer_of(BARE, bare, 40);
+    const struct door_terms terms = {DOOR_SCALAR, 18};
     draw_bytes(h.half[0], room);
     draw_bytes(h.half[1], room);
     before = h;
-    dealer_refused(door_deal(dealer, 41, none, 0, 0, 18, 0, h.half[0], room, h.half[1], room),
+    dealer_refused(door_deal(dealer, 41, none, 0, terms, 0, h.half[0], room, h.half[1], room),
         &dealer, DOOR_WRONG_LENGTH);
-    dealer_refused(door_deal(dealer, 41, seed, key, 0, 18, 0, none, 0, h.half[1], room), &dealer,
+    dealer_refused(door_deal(dealer, 41, seed, key, terms, 0, none, 0, h.half[1], room), &dealer,
         DOOR_SHORT_BUFFER);
-    dealer_refused(door_deal(dealer, 41, seed, key, 0, 18, 0, h.half[0], room, none, 0), &dealer,
+    dealer_refused(door_deal(dealer, 41, seed, key, terms, 0, h.half[0], room, none, 0), &dealer,
         DOOR_SHORT_BUFFER);
-    dealer_refused(door_deal(dealer, 41, seed, key, 0, 18, 0, none, 0, none, 0), &dealer,
+    dealer_refused(door_deal(dealer, 41, seed, key, terms, 0, none, 0, none, 0), &dealer,
         DOOR_SHORT_BUFFER);
     EXPECT(memcmp(&h, &before, sizeof h) == 0);
 }
@@ -907,29 +925,30 @@ static void empty_at_dealer(uint8_t *none)
 static void empty_at_box(uint8_t *none, uint32_t *no_words)
 {
     static const struct door_party none_started;
-    const struct door_party *at = stage.at;
+    const struct door_party *unloaded = &stage.at[DOOR_IDLE], *loaded = &stage.at[DOOR_LOADED];
+    const struct door_party *masked = &stage.at[DOOR_MASKED], *taken = &stage.at[DOOR_TAKEN];
     struct vector out, before;
     party_refused(door_start_party(none, 0, 0, keys[0], DOOR_KEY, 7), &none_started,
         DOOR_BAD_NAME);
     party_refused(door_start_party(BARE, sizeof BARE, 0, none, 0, 7), &none_started,
         DOOR_WRONG_LENGTH);
-    party_refused(door_load(at[0], none, 0), &at[0], DOOR_WRONG_LENGTH);
+    party_refused(door_load(*unloaded, none, 0), unloaded, DOOR_WRONG_LENGTH);
     draw_bytes((uint8_t *)out.at, sizeof out.at);
     before = out;
-    party_refused(door_mask(at[1], no_words, 0, out.at, stage.n), &at[1], DOOR_WRONG_LENGTH);
+    party_refused(door_mask(*loaded, no_words, 0, out.at, stage.n), loaded, DOOR_WRONG_LENGTH);
     EXPECT(memcmp(&out, &before, sizeof out) == 0);
-    party_refused(door_mask(at[1], stage.v, stage.n, no_words, 0), &at[1], DOOR_SHORT_BUFFER);
-    party_refused(door_mask(at[1], no_words, 0, no_words, 0), &at[1], DOOR_WRONG_LENGTH);
+    party_refused(door_mask(*loaded, stage.v, stage.n, no_words, 0), loaded, DOOR_SHORT_BUFFER);
+    party_refused(door_mask(*loaded, no_words, 0, no_words, 0), loaded, DOOR_WRONG_LENGTH);
     struct message m = stage.vector;
     m.n = 0;
-    take_refused(&at[2], m, no_words, DOOR_WRONG_LENGTH);
+    take_refused(masked, m, no_words, DOOR_WRONG_LENGTH);
     m.name = none;
     m.name_size = 0;
-    take_refused(&at[2], m, no_words, DOOR_WRONG_LENGTH);
+    take_refused(masked, m, no_words, DOOR_WRONG_LENGTH);
     m.n = stage.n;
-    take_refused(&at[2], m, stage.v, DOOR_WRONG_LENGTH);
+    take_refused(masked, m, stage.v, DOOR_WRONG_LENGTH);
     m.kind = DOOR_WORD;
-    finish_refused(&at[3], m, DOOR_WRONG_LENGTH);
+    finish_refused(taken, m, DOOR_WRONG_LENGTH);
 }
 
 static void empty_at_lock(uint8_t *none)
@@ -974,8 +993,8 @@ int main(int count, char **arguments)
         load_in_turn();
         load_alone();
         mask();
-        message(&stage.at[2], stage.vector);
-        message(&stage.at[3], stage.word);
+        message(&stage.at[DOOR_MASKED], stage.vector);
+        message(&stage.at[DOOR_TAKEN], stage.word);
         empty_slices(keys[0], stage.v);
         empty_slices(NULL, NULL);
     }

@@ -12,7 +12,7 @@ pub type Tag = [u8; 16];
 /// The verified functions of crates/cipher_c, check_c, door_c and lock_c, at each level of x86-64,
 /// and what the cipher and the check are handed.
 pub mod ours {
-    use super::door::{Dealer, DealerAnswer, Party, PartyAnswer};
+    use super::door::{Dealer, DealerAnswer, Party, PartyAnswer, Terms};
     use super::*;
     use crate::level::Level;
     use second::dcf::{self, Seed};
@@ -151,8 +151,7 @@ pub mod ours {
             number: u64,
             seed: *const u8,
             seed_len: usize,
-            code: u32,
-            length: usize,
+            terms: Terms,
             threshold: u32,
             out0: *mut u8,
             out0_len: usize,
@@ -342,6 +341,23 @@ pub mod door {
     use second::{dcf, party};
     use std::mem::MaybeUninit;
 
+    /// Who a box is, as crates/messages has it.
+    #[repr(C)]
+    #[derive(Clone, Copy, PartialEq)]
+    pub struct Identity {
+        name: [u8; 16],
+        party: u32,
+        key: Key,
+    }
+
+    /// What both boxes know of a set, as crates/measure has it.
+    #[repr(C)]
+    #[derive(Clone, Copy, PartialEq)]
+    pub struct Terms {
+        code: u32,
+        n: usize,
+    }
+
     /// A dealer's state, as crates/dealer has it.
     #[repr(C)]
     #[derive(Clone, Copy, PartialEq)]
@@ -363,8 +379,7 @@ pub mod door {
     #[derive(Clone, Copy, PartialEq)]
     pub struct Set {
         number: u64,
-        code: u32,
-        n: usize,
+        terms: Terms,
         mask: [u32; 512],
         x: [u32; 512],
         y: [u32; 512],
@@ -374,19 +389,24 @@ pub mod door {
         key: ComparisonKey,
     }
 
-    /// A box's state, as crates/party has it.
+    /// The check that a box has open, as crates/party has it.
     #[repr(C)]
     #[derive(Clone, Copy, PartialEq)]
-    pub struct Party {
-        name: [u8; 16],
-        party: u32,
-        key: Key,
-        last: u64,
+    pub struct Check {
         phase: u32,
         set: Set,
         masked: [u32; 512],
         own: u32,
         word: u32,
+    }
+
+    /// A box's state, as crates/party has it.
+    #[repr(C)]
+    #[derive(Clone, Copy, PartialEq)]
+    pub struct Party {
+        who: Identity,
+        last: u64,
+        check: Check,
     }
 
     /// What a call on a box answers: the next state is in it.
@@ -406,17 +426,18 @@ pub mod door {
 
         /// The state as the second implementation has it.
         pub fn plain(&self) -> party::Party {
-            let Party { set, .. } = &self.party;
+            let Party { who, last, check } = &self.party;
+            let set = &check.set;
             party::Party {
-                name: self.party.name,
-                party: self.party.party,
-                key: self.party.key,
-                last: self.party.last,
-                phase: self.party.phase,
+                name: who.name,
+                party: who.party,
+                key: who.key,
+                last: *last,
+                phase: check.phase,
                 set: party::OpenSet {
                     number: set.number,
-                    code: set.code,
-                    length: set.n as u32,
+                    code: set.terms.code,
+                    length: set.terms.n as u32,
                     own_mask: set.mask,
                     x_share: set.x,
                     y_share: set.y,
@@ -426,9 +447,9 @@ pub mod door {
                     key: set.key.plain(),
                 },
                 check: party::Check {
-                    masked: self.party.masked,
-                    own: self.party.own,
-                    word: self.party.word,
+                    masked: check.masked,
+                    own: check.own,
+                    word: check.word,
                 },
             }
         }
@@ -452,7 +473,10 @@ pub mod door {
         }
 
         fn deal(self, dealer: &Dealer, order: &Order, out: [&mut [u8]; 2]) -> u32 {
-            let (code, length) = (order.code as u32, order.length as usize);
+            let terms = Terms {
+                code: order.code as u32,
+                n: order.length as usize,
+            };
             let (seed, seed_len) = (order.seed.as_ptr(), order.seed.len());
             let [(out0, out0_len), (out1, out1_len)] = out.map(|out| (out.as_mut_ptr(), out.len()));
             let answer = unsafe {
@@ -461,8 +485,7 @@ pub mod door {
                     order.number,
                     seed,
                     seed_len,
-                    code,
-                    length,
+                    terms,
                     order.threshold,
                     out0,
                     out0_len,

@@ -13,19 +13,20 @@
 
 struct box {
     struct door_party party;
-    /* Messages of the other box, which may be faster, that wait for this one to get there. */
-    struct message early[2];
-    bool waits[2];
+    /* By kind, messages of the other box, which may be faster, that wait for this one to get
+       there. */
+    struct message early[DOOR_WORD + 1];
+    bool waits[DOOR_WORD + 1];
 };
 
 static enum part self_of(const struct box *box)
 {
-    return box->party.party == CAMERA ? CAMERA : OFFICE;
+    return box->party.who.party == CAMERA ? CAMERA : OFFICE;
 }
 
 static enum part other_of(const struct box *box)
 {
-    return box->party.party == CAMERA ? OFFICE : CAMERA;
+    return box->party.who.party == CAMERA ? OFFICE : CAMERA;
 }
 
 /* The state goes on and the answer's copy of it goes away; the refusal is handed back. */
@@ -60,17 +61,17 @@ static void send_words(const struct box *box, const struct link *link, enum part
     uint32_t kind, uint64_t number, const uint32_t *words, size_t count)
 {
     struct message message = {
-        .kind = kind, .sender = box->party.party, .number = number, .count = count};
-    memcpy(message.name, box->party.name, DOOR_NAME);
+        .kind = kind, .sender = box->party.who.party, .number = number, .count = count};
+    memcpy(message.name, box->party.who.name, DOOR_NAME);
     memcpy(message.words, words, sizeof *words * count);
     send_to(link, to, &message);
 }
 
 static void drop_open_set(struct box *box, const char *because)
 {
-    if (box->party.phase == 0)
+    if (box->party.check.phase == DOOR_IDLE)
         return;
-    uint64_t number = box->party.set.number;
+    uint64_t number = box->party.check.set.number;
     struct door_party_answer a = door_drop(box->party);
     uint32_t why = adopt(box, &a);
     if (why == DOOR_ACCEPTED)
@@ -104,7 +105,7 @@ static bool load(struct box *box, uint64_t number, const uint8_t *half, size_t s
         drop_open_set(box, "since its number could not be forced to disk and nothing has left yet");
         return false;
     }
-    remove_spent_halves(box->party.party, box->party.last);
+    remove_spent_halves(box->party.who.party, box->party.last);
     return true;
 }
 
@@ -112,7 +113,7 @@ static bool mask(
     struct box *box, const struct link *link, const struct vector *vector, uint32_t *why)
 {
     uint32_t masked[DOOR_LENGTH_MOST];
-    uint64_t number = box->party.set.number;
+    uint64_t number = box->party.check.set.number;
     struct door_party_answer a =
         door_mask(box->party, vector->words, vector->length, masked, DOOR_LENGTH_MOST);
     *why = adopt(box, &a);
@@ -121,8 +122,8 @@ static bool mask(
         drop_open_set(box, "since it cannot be used for this vector");
         return false;
     }
-    send_words(
-        box, link, other_of(box), DOOR_MASKED_VECTOR, number, masked, box->party.set.n);
+    send_words(box, link, other_of(box), DOOR_MASKED_VECTOR, number, masked,
+        box->party.check.set.terms.n);
     return true;
 }
 
@@ -131,7 +132,7 @@ static bool mask(
 static void hand_in(struct box *box, const struct link *link, const struct message *m)
 {
     bool finishes = m->kind == DOOR_WORD;
-    uint64_t number = box->party.set.number;
+    uint64_t number = box->party.check.set.number;
     struct door_party_answer a = finishes
         ? door_finish(box->party, m->kind, m->name, DOOR_NAME, m->sender, m->number, m->words[0])
         : door_take(
@@ -154,9 +155,10 @@ static bool comes_early(const struct box *box, const struct message *m)
         return false;
     if (m->number > box->party.last)
         return true;
-    uint32_t takes_at = m->kind == DOOR_MASKED_VECTOR ? 2 : 3;
-    return box->party.phase != 0 && m->number == box->party.set.number
-        && box->party.phase < takes_at;
+    const struct door_check *check = &box->party.check;
+    uint32_t takes_at = m->kind == DOOR_MASKED_VECTOR ? DOOR_MASKED : DOOR_TAKEN;
+    return check->phase != DOOR_IDLE && m->number == check->set.number
+        && check->phase < takes_at;
 }
 
 /* A masked vector first: taking it is what lets a word be taken. */
@@ -188,7 +190,8 @@ static void begin(struct box *box, const struct link *link, const struct message
     static struct vector vector;
     size_t size;
     uint32_t why = DOOR_ACCEPTED;
-    bool begun = own_vector(box, m, &vector) && read_half(box->party.party, m->number, half, &size);
+    bool begun =
+        own_vector(box, m, &vector) && read_half(box->party.who.party, m->number, half, &size);
     if (begun) {
         drop_open_set(box, "since another one begins");
         begun = load(box, m->number, half, size, &why) && mask(box, link, &vector, &why);

@@ -41,7 +41,7 @@ static bool deal_next(
     /* Past the last 64-bit number this is 0, which the deal refuses. */
     uint64_t number = dealer->last + 1;
     struct door_dealer_answer a =
-        door_deal(*dealer, number, seed, sizeof seed, s->code, s->length, (uint32_t)s->threshold,
+        door_deal(*dealer, number, seed, sizeof seed, s->terms, (uint32_t)s->threshold,
             h->half[CAMERA], DOOR_HALF_MOST, h->half[OFFICE], DOOR_HALF_MOST);
     *dealer = a.dealer;
     *why = a.why;
@@ -67,7 +67,7 @@ static bool deal(struct door_dealer *dealer, struct settings *s, uint32_t *why)
     *why = DOOR_ACCEPTED;
     if (!read_settings(s) || !deal_next(dealer, s, &h, why))
         return false;
-    bool done = hand_out(dealer, s->length, &h);
+    bool done = hand_out(dealer, s->terms.n, &h);
     explicit_bzero(&h, sizeof h);
     if (!done)
         say("set %" PRIu64 ": its number or a half could not be forced to disk; the set is lost",
@@ -89,9 +89,9 @@ static void handle(void *state, const struct link *link, const struct message *m
         return;
     }
     say("set %" PRIu64 ": dealt; a half of %zu bytes is on each stick", dealer->last,
-        DOOR_HALF(s.length));
+        DOOR_HALF(s.terms.n));
     struct message dealt = {.kind = HOST_DEALT, .sender = DEALER, .number = dealer->last,
-        .words = {s.code, (uint32_t)s.length, (uint32_t)s.threshold}, .count = 3};
+        .words = {s.terms.code, (uint32_t)s.terms.n, (uint32_t)s.threshold}, .count = 3};
     memcpy(dealt.name, dealer->name, DOOR_NAME);
     send_to(link, OPERATOR, &dealt);
 }

@@ -220,8 +220,8 @@ bool parse_settings(const char *text, struct settings *settings)
     if (!next_number(&text, 0, UINT32_MAX, &code) || !next_number(&text, 0, INTMAX_MAX, &length)
         || !next_number(&text, INT32_MIN, INT32_MAX, &threshold) || *text != '\0')
         return false;
-    settings->code = (uint32_t)code;
-    settings->length = (size_t)length;
+    settings->terms.code = (uint32_t)code;
+    settings->terms.n = (size_t)length;
     settings->threshold = (int32_t)threshold;
     return true;
 }
@@ -241,8 +241,8 @@ bool read_settings(struct settings *settings)
 bool write_settings(const struct settings *settings)
 {
     char text[PATH_ROOM];
-    int size = snprintf(text, sizeof text, "%" PRIu32 " %zu %" PRId32 "\n", settings->code,
-        settings->length, settings->threshold);
+    int size = snprintf(text, sizeof text, "%" PRIu32 " %zu %" PRId32 "\n", settings->terms.code,
+        settings->terms.n, settings->threshold);
     return write_durably("dealer", "settings", text, (size_t)size);
 }
 

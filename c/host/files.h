@@ -44,10 +44,10 @@ struct door_name {
 
 bool read_name(const char *folder, struct door_name *name);
 
-/* What the dealer deals for. Whether the three fit each other is the deal's matter. */
+/* What the dealer deals for. Whether code, length and threshold fit each other is the deal's
+   matter. */
 struct settings {
-    uint32_t code;
-    size_t length;
+    struct door_terms terms;
     int32_t threshold;
 };
 

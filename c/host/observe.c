@@ -14,10 +14,8 @@ int32_t current[2][DOOR_LENGTH_MOST];
 /* What is known of one set. */
 struct seen {
     bool dealt;
-    uint32_t code;
-    size_t length;
-    int32_t threshold;
-    bool sent[2][3];                    /* by box and kind */
+    struct settings settings;           /* what it was dealt for */
+    bool sent[2][DOOR_ANSWER + 1];      /* by box and kind */
     int32_t used[2][DOOR_LENGTH_MOST];  /* the vector that each box had when it sent it masked */
     bool reported;                      /* by the lock */
     uint64_t half[2];                   /* a hash of each box's half */
@@ -27,10 +25,11 @@ struct seen {
 static struct seen seen[NUMBERS];
 static uint64_t most_sent[PARTS]; /* the highest number that left each part */
 
-int64_t measure(uint32_t code, size_t length, const int32_t *x, const int32_t *y)
+int64_t measure(struct door_terms terms, const int32_t *x, const int32_t *y)
 {
+    const uint32_t code = terms.code;
     int64_t sum = 0;
-    for (size_t i = 0; i < length; i++) {
+    for (size_t i = 0; i < terms.n; i++) {
         int64_t a = x[i], b = y[i];
         sum += code == DOOR_SCALAR ? a * b : code == DOOR_EUCLID ? (a - b) * (a - b) : a != b;
     }
@@ -130,9 +129,9 @@ static void observe_dealt(enum part from, const struct message *m)
     EXPECT(s->half[CAMERA] != 0 && s->half[OFFICE] != 0,
         "set %" PRIu64 " was announced without its halves", m->number);
     s->dealt = true;
-    s->code = m->words[0];
-    s->length = m->words[1];
-    s->threshold = (int32_t)m->words[2];
+    s->settings.terms.code = m->words[0];
+    s->settings.terms.n = m->words[1];
+    s->settings.threshold = (int32_t)m->words[2];
     tally.dealt++;
 }
 
@@ -174,10 +173,10 @@ static void observe_verdict(enum part from, const struct message *m)
     EXPECT(!s->reported, "set %" PRIu64 " was reported twice", m->number);
     EXPECT(s->sent[CAMERA][DOOR_ANSWER] && s->sent[OFFICE][DOOR_ANSWER],
         "set %" PRIu64 " was reported before both boxes answered", m->number);
-    int64_t found = measure(s->code, s->length, s->used[CAMERA], s->used[OFFICE]);
-    EXPECT(m->words[0] == (found >= s->threshold),
+    int64_t found = measure(s->settings.terms, s->used[CAMERA], s->used[OFFICE]);
+    EXPECT(m->words[0] == (found >= s->settings.threshold),
         "set %" PRIu64 ": measure %" PRId64 ", threshold %" PRId32 ", and the lock said %" PRIu32,
-        m->number, found, s->threshold, m->words[0]);
+        m->number, found, s->settings.threshold, m->words[0]);
     s->reported = true;
     tally.answered++;
     if (m->words[0] == 1)

@@ -27,7 +27,7 @@ static bool would_deal(const struct plan *plan)
     const char *call = "the dealer's start";
     if (a.why == DOOR_ACCEPTED) {
         call = "a trial deal with these settings";
-        a = door_deal(a.dealer, 1, seed, sizeof seed, s->code, s->length, (uint32_t)s->threshold,
+        a = door_deal(a.dealer, 1, seed, sizeof seed, s->terms, (uint32_t)s->threshold,
             halves[CAMERA], DOOR_HALF_MOST, halves[OFFICE], DOOR_HALF_MOST);
     }
     if (a.why != DOOR_ACCEPTED)

@@ -59,15 +59,15 @@ static int32_t element(uint32_t code)
 
 static void draw_vector(enum part box)
 {
-    for (size_t i = 0; i < settings.length; i++)
-        current[box][i] = element(settings.code);
+    for (size_t i = 0; i < settings.terms.n; i++)
+        current[box][i] = element(settings.terms.code);
 }
 
 static void write_vector(const char *path, const int32_t *vector)
 {
     FILE *file = fopen(path, "w");
     EXPECT(file != NULL, "cannot make %s", path);
-    for (size_t i = 0; i < settings.length; i++)
+    for (size_t i = 0; i < settings.terms.n; i++)
         fprintf(file, "%" PRId32 "\n", vector[i]);
     EXPECT(fclose(file) == 0, "cannot write %s", path);
 }
@@ -76,7 +76,7 @@ static void write_vector(const char *path, const int32_t *vector)
 static int32_t threshold_near(int64_t found)
 {
     static const int64_t least[] = {-(1 << 30), 0, 0}, most[] = {1 << 30, INT32_MAX, 513};
-    int64_t low = least[settings.code], high = most[settings.code];
+    int64_t low = least[settings.terms.code], high = most[settings.terms.code];
     int64_t t = found + (int64_t)chance(3) - 1;
     if (chance(8) == 0)
         t = low + (int64_t)chance((uint64_t)(high - low) + 1);
@@ -86,16 +86,16 @@ static int32_t threshold_near(int64_t found)
 static void draw_check(void)
 {
     static const size_t lengths[] = {1, 2, 17, 18, 128, 511, 512};
-    settings.code = (uint32_t)chance(3);
-    settings.length = lengths[chance(sizeof lengths / sizeof *lengths)];
+    settings.terms.code = (uint32_t)chance(3);
+    settings.terms.n = lengths[chance(sizeof lengths / sizeof *lengths)];
     draw_vector(CAMERA);
     draw_vector(OFFICE);
-    settings.threshold = threshold_near(
-        measure(settings.code, settings.length, current[CAMERA], current[OFFICE]));
+    settings.threshold =
+        threshold_near(measure(settings.terms, current[CAMERA], current[OFFICE]));
     FILE *file = fopen("dealer/settings", "w");
     EXPECT(file != NULL
-            && fprintf(file, "%" PRIu32 " %zu %" PRId32 "\n", settings.code, settings.length,
-                   settings.threshold) > 0
+            && fprintf(file, "%" PRIu32 " %zu %" PRId32 "\n", settings.terms.code,
+                   settings.terms.n, settings.threshold) > 0
             && fclose(file) == 0,
         "cannot write the settings");
     write_vector("office/vector", current[OFFICE]);
@@ -111,8 +111,8 @@ static void send_begin(enum part box)
 {
     struct message begin = {.kind = HOST_BEGIN, .sender = OPERATOR, .number = check.number};
     if (box == CAMERA) {
-        begin.count = settings.length;
-        for (size_t i = 0; i < settings.length; i++)
+        begin.count = settings.terms.n;
+        for (size_t i = 0; i < settings.terms.n; i++)
             begin.words[i] = (uint32_t)current[CAMERA][i];
     }
     send_surely(box, &begin);
@@ -286,8 +286,8 @@ static void operators_check(void)
     char *const arguments[] = {"door-host", "check", ".", "picture", NULL};
     start_check();
     write_vector("picture", current[CAMERA]);
-    bool open = measure(settings.code, settings.length, current[CAMERA], current[OFFICE])
-        >= settings.threshold;
+    bool open =
+        measure(settings.terms, current[CAMERA], current[OFFICE]) >= settings.threshold;
     operator_runs = true;
     int process = start_program(arguments);
     expect_answer();
@@ -381,7 +381,7 @@ static void rubbish(enum part part)
         for (size_t k = 0; k < size; k++)
             bytes[k] = (uint8_t)chance(256);
         if (size > 0 && bytes[0] >= HOST_DEAL)
-            bytes[0] = (uint8_t)chance(3); /* nothing that starts a deal or a set */
+            bytes[0] = (uint8_t)chance(DOOR_ANSWER + 1); /* nothing that starts a deal or a set */
         throw_at(part, bytes, size);
         hear_from(part);
     }

@@ -108,6 +108,6 @@ void inspect_dead(enum part part);
    kept a copy. */
 void put_half_back(enum part box, uint64_t number);
 
-int64_t measure(uint32_t code, size_t length, const int32_t *x, const int32_t *y);
+int64_t measure(struct door_terms terms, const int32_t *x, const int32_t *y);
 
 #endif
