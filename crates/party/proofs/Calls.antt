@@ -10,15 +10,16 @@ use lib.ListN.{length, replicate}
 use Rattle.algebra.specs.Bit.{both}
 use Rattle.algebra.specs.Word.{add}
 use Rattle.words.specs.List.{over, length-tab}
-use Rattle.measure.specs.Measure.{isCode, allInRange, ownWord}
+use Rattle.measure.specs.Measure.{isCode, lengthFits, allInRange, ownWord, carried, ordinaryWidth}
+use Rattle.measure.specs.Laws.{length-fits}
 use Rattle.share.specs.Share as Share
 use Rattle.share.specs.Share.{plus}
 use Rattle.messages.specs.declared.Label.{Label}
 use Rattle.messages.specs.Messages.{outOfTurn, wrongLength, shortBuffer, wrongMessage, wrongNumber, outOfRange, vectorKind, wordKind, officeParty, unless, isName, isKey, expected, padded}
 use Rattle.messages.specs.Laws as Refusals
 use Rattle.messages.specs.Laws.{turned-down, goes-on, passed, fits-short}
-use Rattle.content.specs.Content.{fill, lengthFits}
-use Rattle.content.specs.Laws.{length-fits, fill-over}
+use Rattle.content.specs.Content.{fill}
+use Rattle.content.specs.Laws.{fill-over}
 use Rattle.opening.specs.declared.Examined.{Examined}
 use Rattle.half.specs.Half.{openedSet}
 use Rattle.opening.specs.Examined.{answerFor, examined}
@@ -47,7 +48,7 @@ moves k why next new s x w e none en ex =
 abbrev turn : ℕ → Party → Bool
 turn k s =
     eqb (s .check .phase) k
-    && stateFits (s .who .party) (s .check .phase) (s .check .set .code) (s .check .set .n)
+    && stateFits (s .who .party) (s .check .phase) (s .check .set .terms)
 
 turn-is : (k : ℕ) (s : Party) → turn k s ≡ inTurn k s
 unfolding inTurn sound
@@ -57,7 +58,7 @@ after-turn : {a b : Bool} (rest : ℕ) → a ≡ b → unless a outOfTurn rest �
 after-turn rest e = ap (λ (t : Bool). unless t outOfTurn rest) e
 
 -- an open set's length fits an array
-open-most : (k : ℕ) (s : Party) → inTurn (suc k) s ≡ true → s .check .set .n ≤ 512
+open-most : (k : ℕ) (s : Party) → inTurn (suc k) s ≡ true → s .check .set .terms .n ≤ 512
 unfolding inTurn sound stateFits
 open-most k s e =
     let phase : ℕ = s .check .phase in
@@ -65,9 +66,9 @@ open-most k s e =
     let now = both (eqb phase (suc k)) _ e in
     let at : phase ≡ suc k = eqb-true phase (suc k) (now .0) in
     let some : phase ≡ 0 → ⊥ = λ z. omega arith in
-    let state : leb phase 3 && (isCode (set .code) && lengthFits (set .n)) ≡ true =
+    let state : leb phase 3 && (isCode (set .terms .code) && lengthFits (set .terms)) ≡ true =
     rw (ne-eqb phase 0 some) at (both (leb (s .who .party) 1) _ (now .1) .1) in
-    length-fits (set .n) (both (isCode (set .code)) _ (both (leb phase 3) _ state .1) .1) .1
+    length-fits (set .terms) (both (isCode (set .terms .code)) _ (both (leb phase 3) _ state .1) .1) .1
 
 -- ---- load
 
@@ -107,12 +108,12 @@ module _ (s : Party) (t : Bool) (et : t ≡ turn idlePhase s) (h : List ℕ) whe
 module _ (s : Party) (t : Bool) (et : t ≡ turn loadedPhase s) (v out : List ℕ) (k : ℕ)
     (ek : k
     ≡ unless t outOfTurn
-    (unless (eqb (length v) (s .check .set .n)) wrongLength
-    (unless (leb (s .check .set .n) (length out)) shortBuffer
-    (unless (allInRange (s .check .set .code) v) outOfRange 0))))
+    (unless (eqb (length v) (s .check .set .terms .n)) wrongLength
+    (unless (leb (s .check .set .terms .n) (length out)) shortBuffer
+    (unless (allInRange (s .check .set .terms) v) outOfRange 0))))
   where
     abbrev n : ℕ
-    n = s .check .set .n
+    n = s .check .set .terms .n
 
     why-mask : k ≡ whyNotMask s v (length out)
     unfolding whyNotMask
@@ -135,7 +136,7 @@ module _ (s : Party) (t : Bool) (et : t ≡ turn loadedPhase s) (v out : List �
     out-refused some = Refusals.refused _ out why-mask some
 
     pub mask-taken : (a : List ℕ) (o : ℕ) → k ≡ 0 → a ≡ fill (plus n v (s .check .set .mask))
-        → o ≡ ownWord (s .check .set .code) (length v) v
+        → o ≡ ownWord (s .check .set .terms) v
         → told k
         (record {
           who = s .who;
@@ -144,21 +145,20 @@ module _ (s : Party) (t : Bool) (et : t ≡ turn loadedPhase s) (v out : List �
         })
         0
         ≡ P.mask s v (length out)
-    unfolding P.mask masked maskedVector
+    unfolding P.mask masked maskedVector carried
     mask-taken a o none ea eo =
-        let own = eo ∙ ap (λ (n : ℕ). ownWord (s .check .set .code) n v) (mask-fits none .1) in
         moves k _ _ _ s 0 0 why-mask none
         (λ i.
         record {
           who = s .who;
           last = s .last;
-          check = record { phase = maskedPhase; set = s .check .set; masked = ea i; own = own i; word = 0 };
+          check = record { phase = maskedPhase; set = s .check .set; masked = ea i; own = eo i; word = 0 };
         })
         refl
 
     pub out-taken : (written : List ℕ) → k ≡ 0 → written ≡ over 0 (plus n v (s .check .set .mask)) out
         → written ≡ maskOut s v out
-    unfolding maskOut maskedVector
+    unfolding maskOut maskedVector carried
     out-taken written none e = e ∙ Refusals.taken _ out why-mask none
 
 -- ---- calls 3 and 4: what `why_not_message` answers
@@ -177,18 +177,18 @@ module _ (phase kind : ℕ) (s : Party) (t : Bool) (et : t ≡ turn phase s) (l 
 
 module _ (s : Party) (t : Bool) (et : t ≡ turn maskedPhase s) (l : Label) (name v : List ℕ) (k : ℕ)
     (ek : k
-    ≡ messageWhy maskedPhase vectorKind s t et l name (eqb (length name) 16 && eqb (length v) (s .check .set .n)))
+    ≡ messageWhy maskedPhase vectorKind s t et l name (eqb (length name) 16 && eqb (length v) (s .check .set .terms .n)))
   where
     why-take : k ≡ whyNotTake s l name v
     unfolding whyNotTake isName
     why-take = ek ∙ why-message maskedPhase vectorKind s t et l name _
 
-    pub take-fits : k ≡ 0 → (s .check .set .n ≤ 512) × (s .check .set .n ≤ length v)
+    pub take-fits : k ≡ 0 → (s .check .set .terms .n ≤ 512) × (s .check .set .terms .n ≤ length v)
     unfolding whyNotTake whyNotMessage isName
     take-fits none =
         let a = passed _ (sym why-take ∙ none) in
         let b = passed _ (a .1) in
-        let long = eqb-true (length v) (s .check .set .n) (both (eqb (length name) 16) _ (b .0) .1) in
+        let long = eqb-true (length v) (s .check .set .terms .n) (both (eqb (length name) 16) _ (b .0) .1) in
         (open-most 1 s (a .0), omega (arith, long))
 
     pub take-refused : (k ≡ 0 → ⊥) → told k s 0 ≡ P.takeVector s l name v
@@ -197,9 +197,9 @@ module _ (s : Party) (t : Bool) (et : t ≡ turn maskedPhase s) (l : Label) (nam
 
     pub take-taken : (x w : ℕ) → k ≡ 0
         → x
-        ≡ boxShare (s .who .party) (s .check .set .n) (s .check .set .c) (s .check .masked) v (s .check .set .x)
+        ≡ boxShare (s .who .party) (s .check .set .terms .n) (s .check .set .c) (s .check .masked) v (s .check .set .x)
         (s .check .set .y)
-        → w ≡ Share.boxWord (s .check .set .code) x (s .check .own) (s .check .set .r)
+        → w ≡ Share.boxWord (s .check .set .terms) x (s .check .own) (s .check .set .r)
         → told k
         (record {
           who = s .who;
@@ -217,7 +217,7 @@ module _ (s : Party) (t : Bool) (et : t ≡ turn maskedPhase s) (l : Label) (nam
     unfolding P.takeVector worded wordOf
     take-taken x w none ex ew =
         let is : w ≡ wordOf (s .check .set) (s .who .party) (s .check .masked) (s .check .own) v =
-        ew ∙ ap (λ (y : ℕ). Share.boxWord (s .check .set .code) y (s .check .own) (s .check .set .r)) ex in
+        ew ∙ ap (λ (y : ℕ). Share.boxWord (s .check .set .terms) y (s .check .own) (s .check .set .r)) ex in
         moves k _ _ _ s w _ why-take none (ap (worded s) is) is
 
 module _ (s : Party) (t : Bool) (et : t ≡ turn takenPhase s) (l : Label) (name : List ℕ) (w k : ℕ)
@@ -231,16 +231,16 @@ module _ (s : Party) (t : Bool) (et : t ≡ turn takenPhase s) (l : Label) (name
   finish-refused some = keeps k _ _ s _ why-finish some
 
   pub finish-taken : (q : Party) (z x : ℕ) → k ≡ 0 → q ≡ idle (s .who) (s .last) → z ≡ add (s .check .word) w
-      → x ≡ Share.answer (s .who .party) (s .check .set .key) (s .check .set .seed) z → told k q x ≡ P.finish s l name w
+      → x ≡ Share.answer ordinaryWidth (s .who .party) (s .check .set .key) (s .check .set .seed) z → told k q x ≡ P.finish s l name w
   unfolding P.finish closed answerOf
   finish-taken q z x none eq ez ex =
       moves k _ _ _ s x _ why-finish none eq
-      (ex ∙ ap (Share.answer (s .who .party) (s .check .set .key) (s .check .set .seed)) ez)
+      (ex ∙ ap (Share.answer ordinaryWidth (s .who .party) (s .check .set .key) (s .check .set .seed)) ez)
 
 -- ---- drop
 
 module _ (s : Party) (t : Bool)
-    (et : t ≡ stateFits (s .who .party) (s .check .phase) (s .check .set .code) (s .check .set .n)) where
+    (et : t ≡ stateFits (s .who .party) (s .check .phase) (s .check .set .terms)) where
   drop-turn : not (eqb (s .check .phase) idlePhase) && t ≡ not (eqb (s .check .phase) idlePhase) && sound s
   unfolding sound
   drop-turn = ap (λ (b : Bool). not (eqb (s .check .phase) idlePhase) && b) et

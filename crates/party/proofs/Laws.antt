@@ -6,10 +6,11 @@ use Prim.Native.Nat.{ℕ, _-_}
 use borrow.Author.Tests.{not-true, not-false, ne-eqb}
 use lib.Dec.{eqb, leb}
 use lib.ListN.{replicate}
-use Rattle.measure.specs.Measure.{isCode}
+use Rattle.measure.specs.declared.Terms.{Terms}
+use Rattle.measure.specs.Measure.{isCode, lengthFits}
 use Rattle.share.specs.Share.{share, boxWord}
 use Rattle.content.specs.declared.Set.{Set}
-use Rattle.content.specs.Content.{lengthFits, noSet}
+use Rattle.content.specs.Content.{noSet}
 use Rattle.messages.specs.declared.Identity.{Identity}
 use Rattle.messages.specs.declared.Label.{Label}
 use Rattle.messages.specs.Messages.{outOfTurn, wrongLength, wrongMessage, wrongNumber, officeParty, unless, expected}
@@ -18,16 +19,18 @@ use Rattle.party.specs.Party.{idlePhase, noCheck, idle, stateFits, boxSh
 
 -- ---- the tests of a state
 
-module _ (party phase code n : ℕ) where
-  pub no-party : not (leb party 1) ≡ true → false ≡ stateFits party phase code n
+module _ (party phase : ℕ) (terms : Terms) where
+  pub no-party : not (leb party 1) ≡ true → false ≡ stateFits party phase terms
   unfolding stateFits
   no-party h = rw (not-true (leb party 1) h) refl
 
-  pub with-none : not (leb party 1) ≡ false → phase ≡ 0 → eqb code 0 && eqb n 0 ≡ stateFits party phase code n
+  pub with-none : not (leb party 1) ≡ false → phase ≡ 0
+      → eqb (terms .code) 0 && eqb (terms .n) 0 ≡ stateFits party phase terms
   unfolding stateFits
   with-none h e = rw (not-false (leb party 1) h, e) refl
 
-  pub with-set : not (leb party 1) ≡ false → (phase ≡ 0 → ⊥) → (c l : Bool) → c ≡ isCode code → l ≡ lengthFits n → leb phase 3 && (c && l) ≡ stateFits party phase code n
+  pub with-set : not (leb party 1) ≡ false → (phase ≡ 0 → ⊥) → (c l : Bool) → c ≡ isCode (terms .code)
+      → l ≡ lengthFits terms → leb phase 3 && (c && l) ≡ stateFits party phase terms
   unfolding stateFits
   with-set h e c l ec el = rw (not-false (leb party 1) h, ne-eqb phase 0 e, ec, el) refl
 

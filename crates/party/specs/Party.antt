@@ -7,14 +7,15 @@ use lib.Dec.{eqb, leb}
 use lib.ListN.{length, replicate}
 use Rattle.algebra.specs.Word.{add}
 use Rattle.words.specs.List.{over}
-use Rattle.measure.specs.Measure.{mostElements, isCode, allInRange, ownWord}
+use Rattle.measure.specs.declared.Terms.{Terms}
+use Rattle.measure.specs.Measure.{mostElements, isCode, lengthFits, allInRange, ownWord, carried, ordinaryWidth}
 use Rattle.share.specs.Share as Share
 use Rattle.share.specs.Share.{plus}
 use Rattle.messages.specs.declared.Label.{Label}
 use Rattle.messages.specs.declared.Identity.{Identity}
 use Rattle.messages.specs.Messages.{badName, badPartyOrCode, outOfTurn, wrongLength, shortBuffer, wrongMessage, wrongNumber, outOfRange, vectorKind, wordKind, cameraParty, officeParty, unless, ifTaken, nameFits, padded, isKey, isName, expected}
 use Rattle.content.specs.declared.Set.{Set}
-use Rattle.content.specs.Content.{fill, lengthFits, noSet}
+use Rattle.content.specs.Content.{fill, noSet}
 use Rattle.half.specs.Half.{whyNot, openedSet}
 use Rattle.party.specs.declared.Check.{Check}
 use Rattle.party.specs.declared.Party.{Party}
@@ -71,13 +72,14 @@ startParty name party key floor =
 -- ---- the turn
 
 -- 3: "or the state handed in holds a phase or party, or at its phase a code or L, that no call leaves"
-unfoldable pub stateFits : ℕ → ℕ → ℕ → ℕ → Bool
-stateFits party phase code n =
+unfoldable pub stateFits : ℕ → ℕ → Terms → Bool
+stateFits party phase terms =
     leb party officeParty
-    && cond (eqb phase idlePhase) (eqb code 0 && eqb n 0) (leb phase takenPhase && (isCode code && lengthFits n))
+    && cond (eqb phase idlePhase) (eqb (terms .code) 0 && eqb (terms .n) 0)
+    (leb phase takenPhase && (isCode (terms .code) && lengthFits terms))
 
 unfoldable pub sound : Party → Bool
-sound s = stateFits (s .who .party) (s .check .phase) (s .check .set .code) (s .check .set .n)
+sound s = stateFits (s .who .party) (s .check .phase) (s .check .set .terms)
 
 -- 3: "A box call is out of its turn"
 unfoldable pub inTurn : ℕ → Party → Bool
@@ -104,13 +106,13 @@ load s h = answered (whyNotLoad s h) (loaded s (openedSet (s .who .key) h)) s 0
 unfoldable pub whyNotMask : Party → List ℕ → ℕ → ℕ
 whyNotMask s v room =
     unless (inTurn loadedPhase s) outOfTurn
-    (unless (eqb (length v) (s .check .set .n)) wrongLength
-    (unless (leb (s .check .set .n) room) shortBuffer
-    (unless (allInRange (s .check .set .code) v) outOfRange 0)))
+    (unless (eqb (length v) (s .check .set .terms .n)) wrongLength
+    (unless (leb (s .check .set .terms .n) room) shortBuffer
+    (unless (allInRange (s .check .set .terms) v) outOfRange 0)))
 
 -- "Mask its own vector: element plus mask, as words"
-unfoldable pub maskedVector : Set → List ℕ → List ℕ
-maskedVector set v = plus (set .n) v (set .mask)
+unfoldable pub maskedVector : Set → ℕ → List ℕ → List ℕ
+maskedVector set party v = plus (set .terms .n) (carried (set .terms) party v) (set .mask)
 
 -- "The state keeps the masked vector and own"
 unfoldable pub masked : Party → List ℕ → Party
@@ -119,8 +121,8 @@ masked s v =
     (record {
       phase = maskedPhase;
       set = s .check .set;
-      masked = fill (maskedVector (s .check .set) v);
-      own = ownWord (s .check .set .code) (s .check .set .n) v;
+      masked = fill (maskedVector (s .check .set) (s .who .party) v);
+      own = ownWord (s .check .set .terms) v;
       word = 0;
     })
 
@@ -128,7 +130,7 @@ unfoldable pub mask : Party → List ℕ → ℕ → PartyAnswer
 mask s v room = answered (whyNotMask s v room) (masked s v) s 0
 
 unfoldable pub maskOut : Party → List ℕ → List ℕ → List ℕ
-maskOut s v out = ifTaken (whyNotMask s v (length out)) (over 0 (maskedVector (s .check .set) v) out) out
+maskOut s v out = ifTaken (whyNotMask s v (length out)) (over 0 (maskedVector (s .check .set) (s .who .party) v) out) out
 
 -- ---- messages: the tests of calls 3 and 4, each at its phase, with a message of its kind. `lengths`: whether all that
 -- came is as long as 4 asks.
@@ -142,7 +144,7 @@ whyNotMessage phase kind s l name lengths =
 -- ---- call 3
 
 unfoldable pub whyNotTake : Party → Label → List ℕ → List ℕ → ℕ
-whyNotTake s l name v = whyNotMessage maskedPhase vectorKind s l name (isName name && eqb (length v) (s .check .set .n))
+whyNotTake s l name v = whyNotMessage maskedPhase vectorKind s l name (isName name && eqb (length v) (s .check .set .terms .n))
 
 -- its share, from its own masked vector and the other's: MX is party 0's, MY party 1's
 unfoldable pub boxShare : ℕ → ℕ → ℕ → List ℕ → List ℕ → List ℕ → List ℕ → ℕ
@@ -152,7 +154,7 @@ boxShare party n c ownMasked other x y =
 -- "its word: k × (share) + own + its r"
 unfoldable pub wordOf : Set → ℕ → List ℕ → ℕ → List ℕ → ℕ
 wordOf set party ownMasked own other =
-    Share.boxWord (set .code) (boxShare party (set .n) (set .c) ownMasked other (set .x) (set .y)) own (set .r)
+    Share.boxWord (set .terms) (boxShare party (set .terms .n) (set .c) ownMasked other (set .x) (set .y)) own (set .r)
 
 unfoldable pub worded : Party → ℕ → Party
 worded s w =
@@ -174,7 +176,7 @@ closed s = idle (s .who) (s .last)
 
 -- "With Z the sum of both words"
 unfoldable pub answerOf : Set → ℕ → ℕ → ℕ → ℕ
-answerOf set party word other = Share.answer party (set .key) (set .seed) (add word other)
+answerOf set party word other = Share.answer ordinaryWidth party (set .key) (set .seed) (add word other)
 
 unfoldable pub finish : Party → Label → List ℕ → ℕ → PartyAnswer
 finish s l name w = answered (whyNotFinish s l name) (closed s) s (answerOf (s .check .set) (s .who .party) (s .check .word) w)

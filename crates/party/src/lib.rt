@@ -10,10 +10,12 @@ ghost use Rattle.words.specs.List.{over};
 ghost use Rattle.measure.specs.Measure.{allInRange};
 ghost use Rattle.share.specs.Share.{plus};
 ghost use Rattle.messages.specs.Messages.{outOfTurn, wrongLength, shortBuffer, wrongMessage, wrongNumber, outOfRange, officeParty, unless, expected};
-ghost use Rattle.content.specs.Content.{fill, lengthFits};
+ghost use Rattle.content.specs.Content.{fill};
 ghost use Rattle.party.specs.Party.{noCheck, opened as openedCheck, idle as idleOf, whyNotParty, startParty, stateFits, load as loadOf, mask as maskOf, maskOut, takeVector as takeOf, boxShare, finish as finishOf, dropSet as dropOf};
 use content::Set;
 use measure::MOST_ELEMENTS;
+use measure::ORDINARY_WIDTH;
+use measure::Terms;
 use messages::Identity;
 use messages::KEY;
 use messages::Label;
@@ -55,30 +57,24 @@ pub struct PartyAnswer {
     pub word: u32,
 }
 
-fn length_fits(n: usize) -> bool
-    ensures { λ r. ⌜ r ≡ lengthFits n ⌝ }
-{
-    (1 <= n) & (n <= 512)
-}
-
 // Whether a call could have left this party, phase, code and length in a state.
-fn state_fits(party: u32, phase: u32, code: u32, n: usize) -> bool
-    ensures { λ r. ⌜ r ≡ stateFits party phase code n ⌝ }
+fn state_fits(party: u32, phase: u32, terms: Terms) -> bool
+    ensures { λ r. ⌜ r ≡ stateFits party phase terms ⌝ }
 {
     if !(party <= messages::OFFICE) {
         return false;
     }
     if phase == IDLE {
-        return (code == 0) & (n == 0);
+        return (terms.code == 0) & (terms.n == 0);
     }
-    (phase <= TAKEN) & (measure::is_code(code) & length_fits(n))
+    (phase <= TAKEN) & (measure::is_code(terms.code) & measure::length_fits(terms))
 }
 
 // Whether it is the turn of the call that comes at phase `wanted`.
-fn in_turn(wanted: u32, party: u32, phase: u32, code: u32, n: usize) -> bool
-    ensures { λ r. ⌜ r ≡ (eqb phase wanted && stateFits party phase code n) ⌝ }
+fn in_turn(wanted: u32, party: u32, phase: u32, terms: Terms) -> bool
+    ensures { λ r. ⌜ r ≡ (eqb phase wanted && stateFits party phase terms) ⌝ }
 {
-    (phase == wanted) & state_fits(party, phase, code, n)
+    (phase == wanted) & state_fits(party, phase, terms)
 }
 
 fn no_check() -> Check
@@ -143,21 +139,21 @@ fn why_not_start(name: &[u8], party: u32, key: &[u8]) -> u32
     0
 }
 
-// Call 2's refusals, from what decides them: whether the state and the turn fit, the set's length
-// and code, the vector, and the room in the buffer.
-fn why_not_mask(turn: bool, n: usize, code: u32, v: &[u32], room: usize) -> u32
-    ensures { λ r. ⌜ r ≡ unless turn outOfTurn (unless (eqb (length (now (v .entry))) n) wrongLength (unless (leb n room) shortBuffer (unless (allInRange code (now (v .entry))) outOfRange 0))) ⌝ }
+// Call 2's refusals, from what decides them: whether the state and the turn fit, the set's terms, the
+// vector, and the room in the buffer.
+fn why_not_mask(turn: bool, terms: Terms, v: &[u32], room: usize) -> u32
+    ensures { λ r. ⌜ r ≡ unless turn outOfTurn (unless (eqb (length (now (v .entry))) (terms .n)) wrongLength (unless (leb (terms .n) room) shortBuffer (unless (allInRange terms (now (v .entry))) outOfRange 0))) ⌝ }
 {
     if !turn {
         return messages::OUT_OF_TURN;
     }
-    if !(v.len() == n) {
+    if !(v.len() == terms.n) {
         return messages::WRONG_LENGTH;
     }
-    if !(n <= room) {
+    if !(terms.n <= room) {
         return messages::SHORT_BUFFER;
     }
-    if !measure::all_in_range(code, v) {
+    if !measure::all_in_range(terms, v) {
         return messages::OUT_OF_RANGE;
     }
     0
@@ -270,13 +266,8 @@ impl Party {
     pub fn load(self, h: &[u8]) -> PartyAnswer
         ensures { λ r. ⌜ r ≡ loadOf self (now (h .entry)) ⌝ }
     {
-        let turn = in_turn(
-            IDLE,
-            self.who.party,
-            self.check.phase,
-            self.check.set.code,
-            self.check.set.n,
-        );
+        let terms = self.check.set.terms;
+        let turn = in_turn(IDLE, self.who.party, self.check.phase, terms);
         let mut next = self;
         let mut why = messages::OUT_OF_TURN;
         if turn {
@@ -302,19 +293,18 @@ impl Party {
         ensures { λ r. ⌜ r ≡ maskOf self (now (v .entry)) (length (now (out .entry))) ⌝ }
         ensures { λ _. ⌜ now (out .exit) ≡ maskOut self (now (v .entry)) (now (out .entry)) ⌝ }
     {
-        let n = self.check.set.n;
-        let code = self.check.set.code;
-        let turn = in_turn(LOADED, self.who.party, self.check.phase, code, n);
-        let refusal = why_not_mask(turn, n, code, v, out.len());
+        let terms = self.check.set.terms;
+        let turn = in_turn(LOADED, self.who.party, self.check.phase, terms);
+        let refusal = why_not_mask(turn, terms, v, out.len());
         let mut next = self;
         if refusal == 0 {
             let mask = self.check.set.mask;
-            write_masked(n, v, &mask, out);
-            let kept = masked_array(n, v, &mask);
+            write_masked(terms.n, v, &mask, out);
+            let kept = masked_array(terms.n, v, &mask);
             let mut check = self.check;
             check.phase = MASKED;
             check.masked = kept;
-            check.own = own_term::own(code, v);
+            check.own = own_term::own(terms, v);
             check.word = 0;
             next.check = check;
         }
@@ -329,10 +319,10 @@ impl Party {
     pub fn take(self, label: Label, name: &[u8], v: &[u32]) -> PartyAnswer
         ensures { λ r. ⌜ r ≡ takeOf self label (now (name .entry)) (now (v .entry)) ⌝ }
     {
-        let n = self.check.set.n;
+        let terms = self.check.set.terms;
         let party = self.who.party;
-        let turn = in_turn(MASKED, party, self.check.phase, self.check.set.code, n);
-        let lengths = (name.len() == NAME) & (v.len() == n);
+        let turn = in_turn(MASKED, party, self.check.phase, terms);
+        let lengths = (name.len() == NAME) & (v.len() == terms.n);
         let door = self.who.name;
         let number = self.check.set.number;
         let why = why_not_message(
@@ -351,8 +341,8 @@ impl Party {
         let masked = self.check.masked;
         let x = self.check.set.x;
         let y = self.check.set.y;
-        let share = box_share(party, n, self.check.set.c, masked, v, x, y);
-        let word = answers::word(self.check.set.code, share, self.check.own, self.check.set.r);
+        let share = box_share(party, terms.n, self.check.set.c, masked, v, x, y);
+        let word = answers::word(terms, share, self.check.own, self.check.set.r);
         let mut next = self;
         next.check.phase = TAKEN;
         next.check.word = word;
@@ -368,13 +358,8 @@ impl Party {
         ensures { λ r. ⌜ r ≡ finishOf self label (now (name .entry)) word ⌝ }
     {
         let party = self.who.party;
-        let turn = in_turn(
-            TAKEN,
-            party,
-            self.check.phase,
-            self.check.set.code,
-            self.check.set.n,
-        );
+        let terms = self.check.set.terms;
+        let turn = in_turn(TAKEN, party, self.check.phase, terms);
         let lengths = name.len() == NAME;
         let door = self.who.name;
         let number = self.check.set.number;
@@ -393,7 +378,8 @@ impl Party {
         }
         let key = self.check.set.key;
         let seed = self.check.set.seed;
-        let answer = answers::answer(party, key, seed, words::add(self.check.word, word));
+        let z = words::add(self.check.word, word);
+        let answer = answers::answer(ORDINARY_WIDTH, party, key, seed, z);
         let who = self.who;
         PartyAnswer {
             why,
@@ -407,7 +393,8 @@ impl Party {
         ensures { λ r. ⌜ r ≡ dropOf self ⌝ }
     {
         let phase = self.check.phase;
-        let sound = state_fits(self.who.party, phase, self.check.set.code, self.check.set.n);
+        let terms = self.check.set.terms;
+        let sound = state_fits(self.who.party, phase, terms);
         if !((phase != IDLE) & sound) {
             return refused(messages::OUT_OF_TURN, self);
         }

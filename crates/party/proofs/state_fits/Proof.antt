@@ -4,10 +4,10 @@ use Rattle.party.proofs.state_fits.Statement.{statement}
 use Rattle.party.proofs.state_fits.Tie as tie
 
 returns : tie.Need-returns
-returns c = no-party _ _ _ _ (c .if1 .taken)
+returns c = no-party _ _ _ (c .if1 .taken)
 
 returns-2 : tie.Need-returns-2
-returns-2 c = with-none _ _ _ _ (c .before .if1 .left) (c .if2 .taken)
+returns-2 c = with-none _ _ _ (c .before .before .before .if1 .left) (c .before .before .if2 .taken)
 
 is-code-requires : tie.Need-is-code-requires
 is-code-requires c κs = search needs
@@ -16,7 +16,7 @@ length-fits-requires : tie.Need-length-fits-requires
 length-fits-requires c κs = search needs
 
 returns-3 : tie.Need-returns-3
-returns-3 c = with-set _ _ _ _ (c .before .before .before .if1 .left) (c .before .before .if2 .left) _ _ (c .before .is-code .ensures) (c .length-fits .ensures)
+returns-3 c = with-set _ _ _ (c .before .before .before .if1 .left) (c .before .before .if2 .left) _ _ (c .before .is-code .ensures) (c .length-fits .ensures)
 
 pub state-fits-spec : {M : Type 1} → statement M
 state-fits-spec =

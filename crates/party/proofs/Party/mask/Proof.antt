@@ -15,7 +15,7 @@ write-masked-requires c κs =
     let at-if1 = c .before .before .before in
     let at-why = at-if1 .before in
     let at-turn = at-why .before in
-    let args = at-turn .before .before .before .args in
+    let args = at-turn .before .before .before .before .args in
     let f = mask-fits (args .self) _ (at-turn .in-turn .ensures) (args .v .now) (args .out .now) _
     (at-why .why-not-mask .ensures) (at-if1 .if1 .taken) in
     (f .0, omega (arith, f .1), f .2)
@@ -26,13 +26,22 @@ masked-array-requires c κs =
     let at-if1 = at-write-masked .before .before .before .before in
     let at-why = at-if1 .before in
     let at-turn = at-why .before in
-    let args = at-turn .before .before .before .args in
+    let args = at-turn .before .before .before .before .args in
     let f = mask-fits (args .self) _ (at-turn .in-turn .ensures) (args .v .now) (args .out .now) _
     (at-why .why-not-mask .ensures) (at-if1 .if1 .taken) in
     (f .0, omega (arith, f .1))
 
 own-requires : tie.Need-own-requires
-own-requires c κs = search needs
+own-requires c κs =
+    let at-masked-array = c .before in
+    let at-write-masked = at-masked-array .before .before .before .before in
+    let at-if1 = at-write-masked .before .before .before .before in
+    let at-why = at-if1 .before in
+    let at-turn = at-why .before in
+    let args = at-turn .before .before .before .before .args in
+    let f = mask-fits (args .self) _ (at-turn .in-turn .ensures) (args .v .now) (args .out .now) _
+    (at-why .why-not-mask .ensures) (at-if1 .if1 .taken) in
+    omega (arith, f .1)
 
 same-length : tie.Need-same-length
 same-length c = search needs
@@ -45,7 +54,7 @@ returns c =
     let at-if1 = at-write-masked .before .before .before .before in
     let at-why = at-if1 .before in
     let at-turn = at-why .before in
-    let args = at-turn .before .before .before .args in
+    let args = at-turn .before .before .before .before .args in
     let turn = at-turn .in-turn .ensures in
     let why = at-why .why-not-mask .ensures in (
       mask-taken (args .self) _ turn (args .v .now) (args .out .now) _ why _ _ (at-if1 .if1 .taken) (at-masked-array .masked-array .ensures) (c .own .ensures),
@@ -57,7 +66,7 @@ returns-2 : tie.Need-returns-2
 returns-2 c =
     let at-why = c .before in
     let at-turn = at-why .before in
-    let args = at-turn .before .before .before .args in
+    let args = at-turn .before .before .before .before .args in
     let turn = at-turn .in-turn .ensures in
     let why = at-why .why-not-mask .ensures in
     (mask-refused (args .self) _ turn (args .v .now) (args .out .now) _ why (c .if1 .left), out-refused (args .self) _ turn (args .v .now) (args .out .now) _ why (c .if1 .left))

@@ -17,7 +17,7 @@ returns : tie.Need-returns
 returns c =
     let at-if1 = c .before in
     let at-why = at-if1 .before in
-    let at-turn = at-why .before .before in
+    let at-turn = at-why .before .before .before in
     c .refused .ensures
     ∙ take-refused _ _ (at-turn .in-turn .ensures) _ _ _ _ (at-why .why-not-message .ensures) (at-if1 .if1 .taken)
 
@@ -25,8 +25,8 @@ box-share-requires : tie.Need-box-share-requires
 box-share-requires c κs =
     let at-if1 = c .before .before .before in
     let at-why = at-if1 .before in
-    let at-turn = at-why .before .before in
-    let args = at-turn .before .before .before .args in
+    let at-turn = at-why .before .before .before in
+    let args = at-turn .before .before .before .before .args in
     take-fits (args .self) _ (at-turn .in-turn .ensures) (args .label) (args .name .now) (args .v .now) _
     (at-why .why-not-message .ensures) (at-if1 .if1 .left)
 
@@ -39,7 +39,7 @@ returns-2 c =
     let at-share = at-word .before in
     let at-if1 = at-share .before .before .before .before in
     let at-why = at-if1 .before in
-    let at-turn = at-why .before .before in
+    let at-turn = at-why .before .before .before in
     take-taken _ _ (at-turn .in-turn .ensures) _ _ _ _ (at-why .why-not-message .ensures) _ _ (at-if1 .if1 .left)
     (at-share .box-share .ensures) (at-word .word .ensures)
 
