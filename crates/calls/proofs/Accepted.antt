@@ -64,9 +64,9 @@ load-tells s h e =
 
 pub record MaskTells (s : Party) (v : List ℕ) (room : ℕ) : Type 0 where
   pub turn : s .check .phase ≡ 1
-  pub long : length v ≡ s .check .set .n
-  pub room-fits : s .check .set .n ≤ room
-  pub in-range : allInRange (s .check .set .code) v ≡ true
+  pub long : length v ≡ s .check .set .terms .n
+  pub room-fits : s .check .set .terms .n ≤ room
+  pub in-range : allInRange (s .check .set .terms) v ≡ true
 
 pub mask-tells : (s : Party) (v : List ℕ) (room : ℕ) → whyNotMask s v room ≡ 0 → MaskTells s v room
 unfolding whyNotMask

@@ -2,7 +2,7 @@
 use mathlib.Core.Path.{sym, ap, subst, _∙_}
 use mathlib.Core.List.{List, [], _∷_}
 use Prim.Native.Nat.{ℕ}
-use Rattle.dealer.specs.Dealer.{Deal}
+use Rattle.dealing.specs.Dealing.{Deal}
 use Rattle.calls.specs.Lists.{Box, Starts, Started, beginning, Call, camera, office, joined, after, events, history, Admissible}
 use Rattle.calls.specs.Demand.{openSets, nothingMade, Answered, Free, NoWrongReport, NoReuse, AlwaysAnswered, NeverStuck, CanEnd, CanDrop, NotEmpty, Demand3}
 use Rattle.calls.proofs.Once.{single}

@@ -10,7 +10,7 @@ use Rattle.calls.specs.Lists.{Box, World, Starts, Event, dealt, dropped,
 use Rattle.calls.specs.Demand.{openSets}
 use Rattle.calls.proofs.Boxes.{party-fits}
 use Rattle.calls.proofs.Parts.{open-dropped}
-use Rattle.calls.proofs.Dealt.{setOf, set-code, set-n, Sound}
+use Rattle.calls.proofs.Dealt.{setOf, set-terms, set-n, Sound}
 use Rattle.calls.proofs.Goes.{OpenAt, drop-goes}
 use Rattle.calls.proofs.History.{Good, Dealt, look}
 use Rattle.calls.proofs.Invariant.{phaseOf, showing, lastAt, Inv}
@@ -40,9 +40,8 @@ module _ (S : Starts) (h : List Event) where
         some-phase = slot-phase t .0;
         last-phase = slot-phase t .1;
         party-fits = party-fits b;
-        code-fits = rw (e, set-code d b) (D .code-fits);
-        some = rw (e, set-n d b) (D .some);
-        most = rw (e, set-n d b) (D .most);
+        code-fits = rw (e, set-terms d b) (D .code-fits);
+        length-fits = rw (e, set-terms d b) (D .length-fits);
       }
 
   module _ (w : World) (I : Inv S h w) (b : Box) (open-set : 1 ≤ openSets b h) where

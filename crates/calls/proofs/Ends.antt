@@ -5,7 +5,8 @@ use mathlib.Core.List.{List, [], _∷_, _++_}
 use Prim.Native.Nat.{ℕ, _/_, _^_, _<_}
 use lib.ListN.{length, replicate}
 use Rattle.half.specs.Half.{blockAt}
-use Rattle.dealer.specs.Dealer.{Deal, halfSize}
+use Rattle.dealing.specs.Dealing.{Deal}
+use Rattle.dealer.specs.Dealer.{halfSize}
 use Rattle.calls.specs.Lists.{Box, camera, office, other, World, Starts, Started, beginning, Message, Call, deal, load, mask, take, finish, join, Event, step, after, events, In, here, there, Fits, Sent, SentVector, SentWord, SentAnswer, Admits, history, Admissible}
 use Rattle.calls.specs.Demand.{Progress, nothingMade, onward, Labelled, Ready, Run, start, own, InRange, Free, Ended}
 use Rattle.calls.proofs.Boxes.{both}
@@ -101,14 +102,14 @@ module _ (s : Starts) (start-ok : Started s) (cs : List Call) (list-ok : Admissi
 
     pub ended : Ended s cs d v
     ended =
-        let half : List ℕ = replicate (halfSize (d .n)) 0 in
-        let out : List ℕ = replicate (d .n) 0 in
+        let half : List ℕ = replicate (halfSize (d .terms .n)) 0 in
+        let out : List ℕ = replicate (d .terms .n) 0 in
         let t0 : Reached nothingMade [] = record { rs = []; run = start; admissible = list-ok; events-are = refl } in
-        let t1 = next t0 (deal d half half) (refl, refl, room (halfSize (d .n)), room (halfSize (d .n))) in
+        let t1 = next t0 (deal d half half) (refl, refl, room (halfSize (d .terms .n)), room (halfSize (d .terms .n))) in
         let t2 = next t1 (load camera (halfOf s d camera)) (refl, halfOf s d, here refl, refl) in
         let t3 = next t2 (load office (halfOf s d office)) (refl, halfOf s d, there (here refl), refl) in
-        let t4 = next t3 (mask camera (v camera) out) (refl, refl, room (d .n)) in
-        let t5 = next t4 (mask office (v office) out) (refl, refl, room (d .n)) in
+        let t4 = next t3 (mask camera (v camera) out) (refl, refl, room (d .terms .n)) in
+        let t5 = next t4 (mask office (v office) out) (refl, refl, room (d .terms .n)) in
         let t6 = next t5 (take camera (maskFrom s d v office)) (refl, (refl, refl), (v office, here refl)) in
         let t7 = next t6 (take office (maskFrom s d v camera)) (refl, (refl, refl), (v camera, third)) in
         let t8 = next t7 (finish camera (wordFrom s d v office)) (refl, (refl, refl), here refl) in

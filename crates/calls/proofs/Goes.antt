@@ -9,13 +9,13 @@ use lib.Dec.{eqb}
 use lib.ListN.{length}
 use Rattle.algebra.specs.Word.{add}
 use Rattle.words.specs.List.{same-refl}
-use Rattle.measure.specs.Measure.{isCode, allInRange, thresholdFits}
+use Rattle.measure.specs.Measure.{isCode, lengthFits, allInRange, thresholdFits}
 use Rattle.messages.specs.declared.Label.{Label}
-use Rattle.messages.specs.Messages.{unless, isName, expected}
-use Rattle.content.specs.Content.{lengthFits}
+use Rattle.messages.specs.Messages.{isKey, unless, isName, expected}
 use Rattle.half.specs.Half.{whyNot}
 use Rattle.dealer.specs.declared.Dealer.{Dealer}
-use Rattle.dealer.specs.Dealer.{Deal, halfSize, whyNotDeal}
+use Rattle.dealing.specs.Dealing.{Deal}
+use Rattle.dealer.specs.Dealer.{halfSize, whyNotDeal}
 use Rattle.party.specs.declared.Party.{Party}
 use Rattle.party.specs.Party.{stateFits, sound, inTurn, whyNotLoad, whyNotMask, whyNotMessage, whyNotTake, whyNotFinish, whyNotDrop}
 use Rattle.lock.specs.declared.Lock.{Lock}
@@ -24,17 +24,17 @@ use Rattle.calls.proofs.Accepted.{Heard}
 
 -- ---- the dealer
 
-pub deal-goes : (s : Dealer) (d : Deal) (room0 room1 : ℕ) → isCode (d .code) ≡ true → length (d .seed) ≡ 32 → 1 ≤ d .n → d .n ≤ 512 → halfSize (d .n) ≤ room0
-    → halfSize (d .n) ≤ room1 → s .last < d .number → thresholdFits (d .code) (d .t) ≡ true → whyNotDeal s d room0 room1 ≡ 0
-unfolding whyNotDeal lengthFits unless
-deal-goes s d room0 room1 code seed some most room-0 room-1 above threshold =
+pub deal-goes : (s : Dealer) (d : Deal) (room0 room1 : ℕ) → isCode (d .terms .code) ≡ true → length (d .seed) ≡ 32
+    → lengthFits (d .terms) ≡ true → halfSize (d .terms .n) ≤ room0
+    → halfSize (d .terms .n) ≤ room1 → s .last < d .number → thresholdFits (d .terms) (d .t) ≡ true → whyNotDeal s d room0 room1 ≡ 0
+unfolding whyNotDeal isKey unless
+deal-goes s d room0 room1 code seed long room-0 room-1 above threshold =
     rw (
       code,
       eq-eqb (length (d .seed)) 32 seed,
-      le-leb 1 (d .n) some,
-      le-leb (d .n) 512 most,
-      le-leb (halfSize (d .n)) room0 room-0,
-      le-leb (halfSize (d .n)) room1 room-1,
+      long,
+      le-leb (halfSize (d .terms .n)) room0 room-0,
+      le-leb (halfSize (d .terms .n)) room1 room-1,
       lt-ltb (s .last) (d .number) above,
       threshold,
     )
@@ -52,9 +52,9 @@ door-long kind sender number door l name h e = rw (h .name-is) (eq-eqb (length d
 
 -- ---- a box: its turn, with no set open and at a later phase
 
-idle-turn : (s : Party) → s .check .phase ≡ 0 → s .who .party ≤ 1 → s .check .set .code ≡ 0 → s .check .set .n ≡ 0 → inTurn 0 s ≡ true
+idle-turn : (s : Party) → s .check .phase ≡ 0 → s .who .party ≤ 1 → s .check .set .terms .code ≡ 0 → s .check .set .terms .n ≡ 0 → inTurn 0 s ≡ true
 unfolding inTurn sound stateFits
-idle-turn s e p c n = rw (eq-eqb (s .check .phase) 0 e, le-leb (s .who .party) 1 p, eq-eqb (s .check .set .code) 0 c, eq-eqb (s .check .set .n) 0 n) refl
+idle-turn s e p c n = rw (eq-eqb (s .check .phase) 0 e, le-leb (s .who .party) 1 p, eq-eqb (s .check .set .terms .code) 0 c, eq-eqb (s .check .set .terms .n) 0 n) refl
 
 -- what 01's third refusal asks of a state with a set open
 pub record OpenAt (k : ℕ) (s : Party) : Type 0 where
@@ -62,23 +62,21 @@ pub record OpenAt (k : ℕ) (s : Party) : Type 0 where
   pub some-phase : 1 ≤ k
   pub last-phase : k ≤ 3
   pub party-fits : s .who .party ≤ 1
-  pub code-fits : isCode (s .check .set .code) ≡ true
-  pub some : 1 ≤ s .check .set .n
-  pub most : s .check .set .n ≤ 512
+  pub code-fits : isCode (s .check .set .terms .code) ≡ true
+  pub length-fits : lengthFits (s .check .set .terms) ≡ true
 
 some-open : (k : ℕ) (s : Party) → OpenAt k s → eqb (s .check .phase) 0 ≡ false
 some-open k s o = ne-eqb (s .check .phase) 0 (λ e. omega (arith, o .phase-is, o .some-phase))
 
 open-sound : (k : ℕ) (s : Party) → OpenAt k s → sound s ≡ true
-unfolding sound stateFits lengthFits
+unfolding sound stateFits
 open-sound k s o =
     rw (
       some-open k s o,
       le-leb (s .who .party) 1 (o .party-fits),
       le-leb (s .check .phase) 3 (omega (arith, o .phase-is, o .last-phase)),
       o .code-fits,
-      le-leb 1 (s .check .set .n) (o .some),
-      le-leb (s .check .set .n) 512 (o .most),
+      o .length-fits,
     )
     refl
 
@@ -88,23 +86,23 @@ open-turn k s o = rw (eq-eqb (s .check .phase) k (o .phase-is), open-sound k s o
 
 -- its calls
 
-pub load-goes : (s : Party) (h : List ℕ) → s .check .phase ≡ 0 → s .who .party ≤ 1 → s .check .set .code ≡ 0 → s .check .set .n ≡ 0 → whyNot (s .who .key) (s .who .name) (s .who .party) (s .last) h ≡ 0
+pub load-goes : (s : Party) (h : List ℕ) → s .check .phase ≡ 0 → s .who .party ≤ 1 → s .check .set .terms .code ≡ 0 → s .check .set .terms .n ≡ 0 → whyNot (s .who .key) (s .who .name) (s .who .party) (s .last) h ≡ 0
     → whyNotLoad s h ≡ 0
 unfolding whyNotLoad unless
 load-goes s h e p c n f = rw (idle-turn s e p c n) f
 
-pub mask-goes : (s : Party) (v : List ℕ) (room : ℕ) → OpenAt 1 s → length v ≡ s .check .set .n → s .check .set .n ≤ room → allInRange (s .check .set .code) v ≡ true → whyNotMask s v room ≡ 0
+pub mask-goes : (s : Party) (v : List ℕ) (room : ℕ) → OpenAt 1 s → length v ≡ s .check .set .terms .n → s .check .set .terms .n ≤ room → allInRange (s .check .set .terms) v ≡ true → whyNotMask s v room ≡ 0
 unfolding whyNotMask unless
-mask-goes s v room o l r f = rw (open-turn 1 s o, eq-eqb (length v) (s .check .set .n) l, le-leb (s .check .set .n) room r, f) refl
+mask-goes s v room o l r f = rw (open-turn 1 s o, eq-eqb (length v) (s .check .set .terms .n) l, le-leb (s .check .set .terms .n) room r, f) refl
 
-pub take-goes : (s : Party) (l : Label) (name v : List ℕ) → OpenAt 2 s → length (s .who .name) ≡ 16 → length v ≡ s .check .set .n
+pub take-goes : (s : Party) (l : Label) (name v : List ℕ) → OpenAt 2 s → length (s .who .name) ≡ 16 → length v ≡ s .check .set .terms .n
     → Heard 0 (1 - s .who .party) (s .check .set .number) (s .who .name) l name → whyNotTake s l name v ≡ 0
 unfolding whyNotTake whyNotMessage unless
 take-goes s l name v o n e h =
     rw (
       open-turn 2 s o,
       door-long _ _ _ _ _ _ h n,
-      eq-eqb (length v) (s .check .set .n) e,
+      eq-eqb (length v) (s .check .set .terms .n) e,
       expects _ _ _ _ _ _ h,
       eq-eqb (l .number) (s .check .set .number) (h .number-is),
     )

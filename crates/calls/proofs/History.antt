@@ -7,7 +7,7 @@ use lib.Dec.{eqb, eqb-refl}
 use Rattle.measure.specs.Measure.{allInRange}
 use Rattle.messages.specs.Messages.{padded}
 use Rattle.half.specs.Half.{half}
-use Rattle.dealer.specs.Dealer.{Deal}
+use Rattle.dealing.specs.Dealing.{Deal}
 use Rattle.calls.specs.Lists.{Box, camera, office, partyOf, Starts, Event, dealt, loaded, sent, dropped, joined, refused, vector, word, answer, In, here, there}
 use Rattle.calls.specs.Demand.{dealsIn, Sending, sendsBy, collect}
 use Rattle.calls.specs.Demand.{dealOf, sentOf, vectorOf, deals, vectors, verdict}
@@ -52,7 +52,7 @@ module _ (S : Starts) where
   abbrev pub EventOk : List Event → Event → Type 0
   EventOk h (dealt d f) = Sound d × ((b : Box) → f b ≡ halfOf d b)
   EventOk h (loaded b n) = Unit {0}
-  EventOk h (sent b n (vector x m)) = (t : Dealt h n) × (allInRange (t .d .code) x ≡ true) × (m ≡ maskOf (t .d) b x)
+  EventOk h (sent b n (vector x m)) = (t : Dealt h n) × (allInRange (t .d .terms) x ≡ true) × (m ≡ maskOf (t .d) b x)
   EventOk h (sent b n (word w)) = (t : Pair h n) × (w ≡ wordBy (t .of .d) (t .v) b)
   EventOk h (sent b n (answer a)) = (t : Pair h n) × (a ≡ answerBy (t .of .d) (t .v) b)
   EventOk h (dropped b) = Unit {0}

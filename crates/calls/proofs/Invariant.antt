@@ -8,7 +8,8 @@ use Rattle.messages.specs.Messages.{padded}
 use Rattle.content.specs.Content.{blockCount}
 use Rattle.half.specs.Claims.{length-half}
 use Rattle.dealer.specs.declared.Dealer.{Dealer}
-use Rattle.dealer.specs.Dealer.{Deal, startDealer, whyNotDeal, halfSize, halfFor, keyOf}
+use Rattle.dealing.specs.Dealing.{Deal}
+use Rattle.dealer.specs.Dealer.{startDealer, whyNotDeal, halfSize, halfFor, keyOf}
 use Rattle.messages.specs.declared.Identity.{Identity}
 use Rattle.party.specs.declared.Check.{Check}
 use Rattle.party.specs.declared.Party.{Party}
@@ -118,7 +119,7 @@ module _ (S : Starts) where
       → whyNotDeal s d (length out0) (length out1) ≡ 0 → (b : Box) → written s d out0 out1 b ≡ halfOf S d b
   unfolding halfSize
   wrote long s last e d k out0 out1 z b =
-      let size : length (halfFor s d (partyOf b)) ≡ 512 * blockCount (d .n) = ap length (half-is s last e d b)
+      let size : length (halfFor s d (partyOf b)) ≡ 512 * blockCount (d .terms .n) = ap length (half-is s last e d b)
       ∙ length-half (S .key b) (door S) (partyOf b) long (setOf d b) (set-proper d b k)
       ∙ ap (λ n. 512 * blockCount n) (set-n d b) in
       written-is s d out0 out1 b z size ∙ half-is s last e d b

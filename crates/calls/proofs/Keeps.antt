@@ -11,7 +11,8 @@ use Rattle.algebra.specs.Word.{add}
 use Rattle.measure.specs.Measure.{allInRange}
 use Rattle.messages.specs.Messages.{ifTaken}
 use Rattle.dealer.specs.Dealer as DealerCalls
-use Rattle.dealer.specs.Dealer.{Deal, whyNotDeal}
+use Rattle.dealing.specs.Dealing.{Deal}
+use Rattle.dealer.specs.Dealer.{whyNotDeal}
 use Rattle.dealer.specs.Laws.{deal-tells}
 use Rattle.party.specs.declared.Party.{Party}
 use Rattle.party.specs.declared.PartyAnswer.{PartyAnswer}
@@ -86,7 +87,7 @@ module _ (S : Starts) (h : List Event) (w : World) (I : Inv S h w) where
       go true f =
           let e = eqb-true _ _ f in
           let tells = deal-tells (w .dealer) d (length out0) (length out1) e in
-          let k : Sound d = record { number-fits = fits; code-fits = tells .code-fits; some = tells .some; most = tells .most; threshold-fits = tells .threshold-fits } in
+          let k : Sound d = record { number-fits = fits; code-fits = tells .code-fits; length-fits = tells .length-fits; threshold-fits = tells .threshold-fits } in
           let above : lastDealt (S .dealerFloor) h < d .number = subst (λ s. s .last < d .number) (I .dealer-is) (tells .above) in
           record {
             good = (I .good, (k, wrote S long (w .dealer) _ (I .dealer-is) d k out0 out1 e));
@@ -114,10 +115,10 @@ module _ (S : Starts) (h : List Event) (w : World) (I : Inv S h w) where
       let ev = one-pair S h w I i (s .0 .v) (t .v) (s .0 .sents) (t .sents) in
       (t, ap₂ add (r .1) (s .1 ∙ ap₂ (λ d v. answerBy d v office) ed ev) ∙ answers-join (t .of .d) (t .v) (look S h (dealt (t .of .d) (t .of .f)) (I .good) (t .of .was) .0) (ranged t))
     where
-      ranged : (t : Pair h i) (b : Box) → allInRange (t .of .d .code) (t .v b) ≡ true
+      ranged : (t : Pair h i) (b : Box) → allInRange (t .of .d .terms) (t .v b) ≡ true
       ranged t b =
           let r = look S h (sent b i (vector (t .v b) (t .sents b .0))) (I .good) (t .sents b .1) in
-          subst (λ d. allInRange (d .code) (t .v b) ≡ true) (one-deal S h w I i (r .0) (t .of)) (r .1)
+          subst (λ d. allInRange (d .terms) (t .v b) ≡ true) (one-deal S h w I i (r .0) (t .of)) (r .1)
 
   on-join : (m n : Message ℕ) → Admits (door S) h (join m n) → Inv S (step w (join m n) .event ∷ h) (step w (join m n) .world)
   unfolding LockCalls.join ifTaken

@@ -12,13 +12,13 @@ use Rattle.content.specs.declared.Set.{Set}
 use Rattle.content.specs.Content.{blockCount, fill, Proper}
 use Rattle.half.specs.Claims.{length-half, half-number, half-opened, Wrote, only-whole}
 use Rattle.half.specs.Half.{blockAt, setNumber, openedSet}
-use Rattle.dealer.specs.Dealer.{Deal}
+use Rattle.dealing.specs.Dealing.{Deal}
 use Rattle.party.specs.declared.Party.{Party}
 use Rattle.party.specs.Party as BoxCalls
 use Rattle.party.specs.Party.{idle, whyNotLoad, whyNotMask, whyNotTake, whyNotFinish, whyNotDrop, maskedVector}
 use Rattle.calls.specs.Lists.{Box, camera, office, partyOf, other, World, Starts, Message, take, finish, Event, dealt, loaded, sent, dropped, vector, word, answer, maskedBy, In, Written, Sent, SentVector, SentWord}
 use Rattle.calls.proofs.Accepted.{Heard, load-tells, mask-tells, take-tells, finish-tells, drop-tells}
-use Rattle.calls.proofs.Dealt.{setOf, set-number, set-code, set-proper, Sound, maskOf, ownOf, wordBy}
+use Rattle.calls.proofs.Dealt.{setOf, set-number, set-terms, set-proper, Sound, maskOf, ownOf, wordBy}
 use Rattle.calls.proofs.History.{door, halfOf, EventOk, Dealt, Vector, look}
 use Rattle.calls.proofs.Slots.{Slot, fresh, masked, worded, Word, Slots, slots-away, slots-load, slots-mask, slots-take, slots-close, slots-drop}
 use Rattle.calls.proofs.Written.{new, masked-is}
@@ -91,9 +91,9 @@ module _ (S : Starts) where
         let z : Party = showing S b (lastAt S b h) (fresh s ∷ ts) in
         let t = k .holds .0 .0 in
         let f = k .holds .0 .1 in
-        let r : allInRange (t .d .code) v ≡ true = subst (λ c. allInRange c v ≡ true) (ap (λ y. y .code) f ∙ set-code (t .d) b) (mask-tells z v _ e .in-range) in
+        let r : allInRange (t .d .terms) v ≡ true = subst (λ c. allInRange c v ≡ true) (ap (λ y. y .terms) f ∙ set-terms (t .d) b) (mask-tells z v _ e .in-range) in
         subst (λ m. Stepped h b (BoxCalls.masked z v) (sent b (s .number) (vector v m))) (sym (masked-is z v out e))
-        (own-sent _ _, (t, r, ap (λ y. maskedVector y v) f), record { slots = _; few = few; shows = refl; ok = slots-mask h b (lastAt S b h) s ts k v })
+        (own-sent _ _, (t, r, ap (λ y. maskedVector y (partyOf b) v) f), record { slots = _; few = few; shows = refl; ok = slots-mask h b (lastAt S b h) s ts k v })
 
     -- ---- call 3
 
@@ -143,7 +143,7 @@ module _ (S : Starts) where
         → Stepped h b (BoxCalls.closed z) (sent b (z .check .set .number) (answer (BoxCalls.finish z (m .label) (m .name) (m .content) .word)))
 
     right-answer : (b : Box) (s : Set) (u c : ℕ) → Word h b s u → SentWord h (other b) (s .number) c
-        → EventOk S h (sent b (s .number) (answer (Share.answer (partyOf b) (s .key) (s .seed) (add u c))))
+        → EventOk S h (sent b (s .number) (answer (BoxCalls.answerOf s (partyOf b) u c)))
     right-answer b s u c g i =
         let r = look S h (sent (other b) (s .number) (word c)) (I .good) i in
         let t = g .0 in
@@ -152,19 +152,19 @@ module _ (S : Starts) where
         let ev = one-pair S h w I (s .number) (r .0 .v) v (r .0 .sents) (g .3) in
         let q : c ≡ wordBy (t .d) v (other b) = r .1 ∙ ap₂ (λ d v. wordBy d v (other b)) ed ev in (
           record { of = t; v = v; sents = g .3 },
-          ap₂ (λ x y. Share.answer (partyOf b) (s .key) (s .seed) (add x y)) (g .4) q
-              ∙ ap (λ y. Share.answer (partyOf b) (y .key) (y .seed) (add (wordBy (t .d) v b) (wordBy (t .d) v (other b)))) (g .1),
+          ap₂ (BoxCalls.answerOf s (partyOf b)) (g .4) q
+              ∙ ap (λ y. BoxCalls.answerOf y (partyOf b) (wordBy (t .d) v b) (wordBy (t .d) v (other b))) (g .1),
         )
 
     pub finishing : (b : Box) (m : Message ℕ) → Sent (door S) 1 (SentWord h) m → (ts : List Slot) → length ts ≤ 1 → Slots h b (lastAt S b h) ts
         → Finishing b m (showing S b (lastAt S b h) ts)
-    unfolding idle BoxCalls.noCheck BoxCalls.finish BoxCalls.answerOf
+    unfolding idle BoxCalls.noCheck BoxCalls.finish
     finishing b m ad [] few k e = absurd (omega (arith, finish-tells _ _ _ e .turn))
     finishing b m ad (fresh s ∷ ts) few k e = absurd (omega (arith, finish-tells _ _ _ e .turn))
     finishing b m ad (masked s a o ∷ ts) few k e = absurd (omega (arith, finish-tells _ _ _ e .turn))
     finishing b m ad (worded s a o u ∷ ts) few k e =
         let z : Party = showing S b (lastAt S b h) (worded s a o u ∷ ts) in
-        let y : ℕ = Share.answer (partyOf b) (s .key) (s .seed) (add u (m .content)) in
+        let y : ℕ = BoxCalls.answerOf s (partyOf b) u (m .content) in
         let g = right-answer b s u (m .content) (k .holds .0) (told (SentWord h) 1 (other b) (s .number) m ad (heard-by 1 b (s .number) m (finish-tells z _ _ e .hears))) in
         subst (λ x. Stepped h b (BoxCalls.closed z) (sent b (s .number) (answer x))) (sym (new _ _ _ e))
         (own-sent _ _, g, record { slots = ts; few = omega arith; shows = closing b (worded s a o u) ts few; ok = slots-close h b (lastAt S b h) (worded s a o u) ts k (s .number) y })
@@ -204,7 +204,7 @@ module _ (S : Starts) where
       mine-block : (x : List ℕ) → Written h b x → Wrote (S .key b) (door S) (partyOf b) long Mine mine-proper one-mine x
       mine-block x (d, f, i, j, l, e) =
           let k = sound d f i in
-          let size : length (f b) ≡ 512 * blockCount (setOf d b .n) = ap length (k .1) ∙ length-half (S .key b) (door S) (partyOf b) long (setOf d b) (set-proper d b (k .0)) in
+          let size : length (f b) ≡ 512 * blockCount (setOf d b .terms .n) = ap length (k .1) ∙ length-half (S .key b) (door S) (partyOf b) long (setOf d b) (set-proper d b (k .0)) in
           record { set = setOf d b; dealt = (d, f, i, refl); place = j; among = omega arith; is = e ∙ ap (λ z. blockAt z j) (k .1) }
 
       last-own : (n : ℕ) → lastAt S b (loaded b n ∷ h) ≡ n

@@ -14,7 +14,8 @@ use Rattle.half.specs.Claims.{half-taken, half-number, half-opened}
 use Rattle.half.specs.Half.{setNumber, openedSet}
 use Rattle.dealer.specs.declared.Dealer.{Dealer}
 use Rattle.dealer.specs.Dealer as DealerCalls
-use Rattle.dealer.specs.Dealer.{Deal, halfSize}
+use Rattle.dealing.specs.Dealing.{Deal}
+use Rattle.dealer.specs.Dealer.{halfSize}
 use Rattle.party.specs.declared.Party.{Party}
 use Rattle.party.specs.declared.PartyAnswer.{PartyAnswer}
 use Rattle.party.specs.Party as BoxCalls
@@ -25,7 +26,7 @@ use Rattle.calls.specs.Lists.{Box, camera, office, partyOf, other, Start
 use Rattle.calls.specs.Demand.{verdict, Labelled, InRange}
 use Rattle.calls.proofs.Accepted.{Heard}
 use Rattle.calls.proofs.Goes.{OpenAt, deal-goes, load-goes, mask-goes, take-goes, finish-goes, join-goes}
-use Rattle.calls.proofs.Dealt.{setOf, set-number, set-code, set-n, set-proper, Sound, maskOf, ownOf, mask-long, wordBy, answerBy, answers-join}
+use Rattle.calls.proofs.Dealt.{setOf, set-number, set-terms, set-n, set-proper, Sound, maskOf, ownOf, mask-long, wordBy, answerBy, answers-join}
 use Rattle.calls.proofs.History.{door, halfOf}
 use Rattle.calls.proofs.Slots.{Slot, fresh, masked, worded}
 use Rattle.calls.proofs.Written.{new, masked-is}
@@ -58,7 +59,7 @@ module _ (S : Starts) (d : Deal) (v : Box → List ℕ) where
 
   module _ (long : length (door S) ≡ 16) (R : InRange d v) where
     sound : Sound d
-    sound = record { number-fits = R .number-fits; code-fits = R .code-fits; some = R .some; most = R .most; threshold-fits = R .threshold-fits }
+    sound = record { number-fits = R .number-fits; code-fits = R .code-fits; length-fits = R .length-fits; threshold-fits = R .threshold-fits }
 
     -- ---- each call, at the state that the run gives it
 
@@ -70,9 +71,8 @@ module _ (S : Starts) (d : Deal) (v : Box → List ℕ) where
           some-phase = some;
           last-phase = last;
           party-fits = party-fits b;
-          code-fits = rw (s, set-code d b) (R .code-fits);
-          some = rw (s, set-n d b) (R .some);
-          most = rw (s, set-n d b) (R .most);
+          code-fits = rw (s, set-terms d b) (R .code-fits);
+          length-fits = rw (s, set-terms d b) (R .length-fits);
         }
 
     hears : {A : Type 0} (kind : ℕ) (b c : Box) (n : ℕ) (m : Message A) → partyOf c ≡ n → Labelled (door S) kind c (d .number) m
@@ -104,14 +104,14 @@ module _ (S : Starts) (d : Deal) (v : Box → List ℕ) where
           ap (loaded b) n,
         )
 
-    pub mask-made : (b : Box) (x out : List ℕ) → x ≡ v b → d .n ≤ length out
+    pub mask-made : (b : Box) (x out : List ℕ) → x ≡ v b → d .terms .n ≤ length out
         → (let z : Party = shown b 0 in
         Made (BoxCalls.mask z x (length out)) (sent b (z .check .set .number) (vector x (maskedBy z x out))) (shown b 1) (said (mask b x out)))
     unfolding BoxCalls.mask BoxCalls.masked
     mask-made b x out q room =
         let z : Party = shown b 0 in
         let o = open-at b (fresh (setOf d b)) 1 (omega arith) (omega arith) refl refl in
-        let k = mask-goes z x (length out) o (rw (q, set-n d b) (R .vector-long b)) (rw (set-n d b) room) (rw (q, set-code d b) (R .elements-fit b)) in (
+        let k = mask-goes z x (length out) o (rw (q, set-n d b) (R .vector-long b)) (rw (set-n d b) room) (rw (q, set-terms d b) (R .elements-fit b)) in (
           k,
           new _ _ _ k ∙ ap (BoxCalls.masked z) q,
           ap₂ (λ n m. sent b n (vector x m)) (set-number d b) (masked-is z x out k) ∙ ap (λ y. sent b (d .number) (vector y (maskOf d b y))) q,
@@ -124,7 +124,7 @@ module _ (S : Starts) (d : Deal) (v : Box → List ℕ) where
     unfolding BoxCalls.takeVector BoxCalls.worded
     take-made b m a q =
         let z : Party = shown b 1 in
-        let n : length (m .content) ≡ setOf d b .n = ap length q ∙ mask-long (setOf d (other b)) (v (other b)) ∙ set-n d (other b) ∙ sym (set-n d b) in
+        let n : length (m .content) ≡ setOf d b .terms .n = ap length q ∙ mask-long (setOf d (other b)) (partyOf (other b)) (v (other b)) ∙ set-n d (other b) ∙ sym (set-n d b) in
         let k = take-goes z (m .label) (m .name) (m .content) (open-at b (slotAt b 1) 2 (omega arith) (omega arith) refl refl) long n (hears 0 b (other b) _ m (sym (other-party b)) a) in
         let u = ap (BoxCalls.wordOf (setOf d b) (partyOf b) (fill (maskOf d b (v b))) (ownOf d b (v b))) q in (
           k,
@@ -136,20 +136,20 @@ module _ (S : Starts) (d : Deal) (v : Box → List ℕ) where
         → (let z : Party = shown b 2 in
         let a : PartyAnswer = BoxCalls.finish z (m .label) (m .name) (m .content) in
         Made a (sent b (z .check .set .number) (answer (a .word))) (BoxCalls.closed z) (said (finish b m)))
-    unfolding BoxCalls.finish BoxCalls.answerOf
+    unfolding BoxCalls.finish
     finish-made b m a q =
         let z : Party = shown b 2 in
         let k = finish-goes z (m .label) (m .name) (open-at b (slotAt b 2) 3 (omega arith) (omega arith) refl refl) long (hears 1 b (other b) _ m (sym (other-party b)) a) in
-        let u = ap (λ y. Share.answer (partyOf b) (setOf d b .key) (setOf d b .seed) (add (wordBy d v b) y)) q in
+        let u = ap (BoxCalls.answerOf (setOf d b) (partyOf b) (wordBy d v b)) q in
         (k, new _ _ _ k, ap₂ (λ n w. sent b n (answer w)) (set-number d b) (new _ _ _ k ∙ u))
 
     -- the same of the dealer and of the lock
-    pub deal-made : (s : Dealer) (last : ℕ) → s ≡ dealerWith S last → last < d .number → (out0 out1 : List ℕ) → halfSize (d .n) ≤ length out0 → halfSize (d .n) ≤ length out1
+    pub deal-made : (s : Dealer) (last : ℕ) → s ≡ dealerWith S last → last < d .number → (out0 out1 : List ℕ) → halfSize (d .terms .n) ≤ length out0 → halfSize (d .terms .n) ≤ length out1
         → (let a = DealerCalls.deal s d (length out0) (length out1) in
         (a .why ≡ 0) × (a .dealer ≡ dealerWith S (d .number)) × (dealt d (written s d out0 out1) ≡ dealt d (halfOf S d)))
     unfolding DealerCalls.deal
     deal-made s last e l out0 out1 r0 r1 =
-        let k = deal-goes s d (length out0) (length out1) (R .code-fits) (R .seed-long) (R .some) (R .most) r0 r1 (rw e l) (R .threshold-fits) in
+        let k = deal-goes s d (length out0) (length out1) (R .code-fits) (R .seed-long) (R .length-fits) r0 r1 (rw e l) (R .threshold-fits) in
         (k, new _ _ _ k ∙ ap (dealtBy S d) e, ap (dealt d) (fun-ext (wrote S long s last e d sound out0 out1 k)))
 
     pub join-made : (s : Lock) (last : ℕ) → s ≡ lockWith S last → last < d .number → (m n : Message ℕ) → Labelled (door S) 2 camera (d .number) m
@@ -167,6 +167,6 @@ module _ (S : Starts) (d : Deal) (v : Box → List ℕ) where
           number-is = ap (λ z. z .number) (y .0) ∙ sym number;
           name-is = y .1 ∙ sym name;
         } in
-        let bit : add (m .content) (n .content) ≤ 1 = rw sum (bit-le (reached (d .code) (measure (d .code) (d .n) (v camera) (v office)) (signed (d .t)))) in
+        let bit : add (m .content) (n .content) ≤ 1 = rw sum (bit-le (reached (d .terms) (measure (d .terms) (v camera) (v office)) (signed (d .t)))) in
         let k = join-goes s (m .label) (m .name) (m .content) (n .label) (n .name) (n .content) (rw name long) (at camera m a) (at office n b) (rw (e, number) l) bit in
         (k, new _ _ _ k ∙ ap₂ (λ x y. record { name = x; last = y }) name number, ap₂ joined number (new _ _ _ k ∙ sum))

@@ -9,13 +9,16 @@ use lib.IntN.{ℤ, pos, _+ℤ_, _*ℤ_}
 use lib.ListN.{replicate, length-replicate}
 use Rattle.algebra.specs.Word.{signed}
 use Rattle.algebra.specs.Sum.{sumℤ}
-use Rattle.measure.specs.Measure.{row, scalarProduct, squaredEuclid, hamming, element, measure, reached, isCode, within, inRange, allInRange, thresholdFits}
+use Rattle.measure.specs.Measure.{row, scalarProduct, squaredEuclid, hamming, element, measure, isCode, lengthFits, within, inRange, allInRange, thresholdFits}
+use Rattle.measure.specs.declared.Terms.{Terms}
+use Rattle.measure.specs.Laws.{reached-plain}
 use Rattle.measure.specs.Measure as Measure
 use Rattle.words.specs.List.{same}
 use Rattle.messages.specs.Messages.{unless, nameFits, printable, isKey}
 use Rattle.party.specs.Party.{startParty, whyNotParty}
 use Rattle.lock.specs.Lock.{startLock, whyNotLock}
-use Rattle.dealer.specs.Dealer.{Deal, dealFrom, startDealer, whyNotDealer}
+use Rattle.dealing.specs.Dealing.{Deal, dealFrom}
+use Rattle.dealer.specs.Dealer.{startDealer, whyNotDealer}
 use Rattle.calls.specs.Lists.{partyOf, Starts, Started, Call, history, Admissible}
 use Rattle.calls.specs.Demand.{verdict, InRange, Free, Ended, CanEnd, Example}
 use Rattle.calls.proofs.Boxes.{both}
@@ -39,70 +42,77 @@ no-sum f z (suc n) = ap₂ _+ℤ_ (no-sum f z n) (z n)
 no-product : (l n : ℕ) → sumℤ (λ i. element (zeros l) i *ℤ element (zeros l) i) n ≡ pos 0
 no-product l n = no-sum _ (λ i. ap₂ _*ℤ_ (no-element l i) (no-element l i)) n
 
-no-measure : (code l n : ℕ) → measure code n (zeros l) (zeros l) ≡ pos 0
-unfolding measure Measure.own row scalarProduct squaredEuclid hamming
+no-measure : (code l n : ℕ) → measure (record { code = code; n = n }) (zeros l) (zeros l) ≡ pos 0
+unfolding measure Measure.own Measure.cross row scalarProduct squaredEuclid hamming
 no-measure zero l n = rw (no-product l n) refl
 no-measure (suc zero) l n = rw (no-product l n) refl
 no-measure (suc (suc code)) l n = rw (no-product l n) refl
 
-zero-fits : (code : ℕ) → (inRange code 0 ≡ true) × (thresholdFits code 0 ≡ true) × (thresholdFits code 1 ≡ true)
+zero-fits : (code n : ℕ)
+    → (let terms : Terms = record { code = code; n = n } in
+    (inRange terms 0 ≡ true) × (thresholdFits terms 0 ≡ true) × (thresholdFits terms 1 ≡ true))
 unfolding inRange thresholdFits within row scalarProduct squaredEuclid hamming signed
-zero-fits zero = (refl, refl, refl)
-zero-fits (suc zero) = (refl, refl, refl)
-zero-fits (suc (suc code)) = (refl, refl, refl)
+zero-fits zero n = (refl, refl, refl)
+zero-fits (suc zero) n = (refl, refl, refl)
+zero-fits (suc (suc code)) n = (refl, refl, refl)
 
-zeros-fit : (code l : ℕ) → allInRange code (zeros l) ≡ true
+zeros-fit : (terms : Terms) (l : ℕ) → allInRange terms (zeros l) ≡ true
 unfolding allInRange zeros
-zeros-fit code zero = refl
-zeros-fit code (suc l) = ap₂ _&&_ (zero-fits code .0) (zeros-fit code l)
+zeros-fit terms zero = refl
+zeros-fit terms (suc l) = ap₂ _&&_ (zero-fits (terms .code) (terms .n) .0) (zeros-fit terms l)
 
 -- ---- a run with them, under any number
 
-module _ (n code l : ℕ) (small : n < 2 ^ 64) (code-ok : isCode code ≡ true) (some : 1 ≤ l) (most : l ≤ 512) where
-  abbrev dealOf : ℕ → Deal
-  dealOf t = dealFrom n (replicate 32 0) code l t
+module _ (n : ℕ) (terms : Terms) (small : n < 2 ^ 64) (coded : isCode (terms .code) ≡ true)
+    (long : lengthFits terms ≡ true) where
+  abbrev nothing : List ℕ
+  nothing = zeros (terms .n)
 
-  zero-range : (t : ℕ) → thresholdFits code t ≡ true → InRange (dealOf t) (λ b. zeros l)
+  abbrev dealOf : ℕ → Deal
+  dealOf t = dealFrom n (replicate 32 0) terms t
+
+  zero-range : (t : ℕ) → thresholdFits terms t ≡ true → InRange (dealOf t) (λ b. nothing)
   unfolding zeros
   zero-range t k =
       record {
         number-fits = small;
-        code-fits = code-ok;
+        code-fits = coded;
         seed-long = refl;
-        some = some;
-        most = most;
-        vector-long = λ b. length-replicate {A = ℕ} l 0;
+        length-fits = long;
+        vector-long = λ b. length-replicate {A = ℕ} (terms .n) 0;
         threshold-fits = k;
-        elements-fit = λ b. zeros-fit code l;
+        elements-fit = λ b. zeros-fit terms (terms .n);
       }
 
-  zero-verdict : (verdict (dealOf 0) (zeros l) (zeros l) ≡ 1) × (verdict (dealOf 1) (zeros l) (zeros l) ≡ 0)
-  unfolding reached signed
-  zero-verdict = (rw (no-measure code l l) refl, rw (no-measure code l l) refl)
+  zero-verdict : (verdict (dealOf 0) nothing nothing ≡ 1) × (verdict (dealOf 1) nothing nothing ≡ 0)
+  unfolding signed
+  zero-verdict =
+      let none = no-measure (terms .code) (terms .n) (terms .n) in
+      (rw (reached-plain terms _ (pos 0), none) refl, rw (reached-plain terms _ (pos 1), none) refl)
 
-  example : (s : Starts) (cs : List Call) (t bit : ℕ) → thresholdFits code t ≡ true
-      → verdict (dealOf t) (zeros l) (zeros l) ≡ bit
-      → (InRange (dealOf t) (λ b. zeros l) → Ended s cs (dealOf t) (λ b. zeros l)) → Example s cs n code l bit
+  example : (s : Starts) (cs : List Call) (t bit : ℕ) → thresholdFits terms t ≡ true
+      → verdict (dealOf t) nothing nothing ≡ bit
+      → (InRange (dealOf t) (λ b. nothing) → Ended s cs (dealOf t) (λ b. nothing)) → Example s cs n terms bit
   example s cs t bit k says ends =
       record {
         d = dealOf t;
-        v = λ b. zeros l;
+        v = λ b. nothing;
         number-is = refl;
-        code-is = refl;
-        length-is = refl;
+        terms-are = refl;
         in-range = zero-range t k;
         ended = ends (zero-range t k);
         says = says;
       }
 
   pub examples : CanEnd → (s : Starts) → Started s → (cs : List Call) → Admissible s cs → Free s (history s cs) n
-      → Example s cs n code l 1 × Example s cs n code l 0
+      → Example s cs n terms 1 × Example s cs n terms 0
   unfolding CanEnd
   examples ends s f cs a F =
-      let run : (t : ℕ) → InRange (dealOf t) (λ b. zeros l) → Ended s cs (dealOf t) (λ b. zeros l) =
-      λ t R. ends s f cs a (dealOf t) (λ b. zeros l) R F in (
-        example s cs 0 1 (zero-fits code .1) (zero-verdict .0) (run 0),
-        example s cs 1 0 (zero-fits code .2) (zero-verdict .1) (run 1),
+      let run : (t : ℕ) → InRange (dealOf t) (λ b. nothing) → Ended s cs (dealOf t) (λ b. nothing) =
+      λ t R. ends s f cs a (dealOf t) (λ b. nothing) R F in
+      let fit = zero-fits (terms .code) (terms .n) in (
+        example s cs 0 1 (fit .1) (zero-verdict .0) (run 0),
+        example s cs 1 0 (fit .2) (zero-verdict .1) (run 1),
       )
 
 -- ---- a door named "A", with floors of zero

@@ -197,11 +197,11 @@ opened-fits key name party last x e =
     content-fits name party _ (setNumber x) _ (passed _ (blocks .1) .0)
 
 -- at its phase k, which a call in turn has seen
-sound-at : (k : ℕ) (p : Party) → inTurn k p ≡ true → stateFits (p .who .party) k (p .check .set .code) (p .check .set .n) ≡ true
+sound-at : (k : ℕ) (p : Party) → inTurn k p ≡ true → stateFits (p .who .party) k (p .check .set .terms) ≡ true
 unfolding inTurn sound
 sound-at k p e =
     let t = both (eqb (p .check .phase) k) _ e in
-    subst (λ i. stateFits (p .who .party) i (p .check .set .code) (p .check .set .n) ≡ true) (eqb-true _ _ (t .0)) (t .1)
+    subst (λ i. stateFits (p .who .party) i (p .check .set .terms) ≡ true) (eqb-true _ _ (t .0)) (t .1)
 
 party-at : (p : Party) → sound p ≡ true → leb (p .who .party) 1 ≡ true
 unfolding sound stateFits

@@ -7,7 +7,7 @@ use Prim.Native.Nat.{ℕ, suc, _-_}
 use native.Mathlib.Omega.{arith}
 use lib.Dec.{eqb}
 use lib.ListN.{length, length-append}
-use Rattle.dealer.specs.Dealer.{Deal}
+use Rattle.dealing.specs.Dealing.{Deal}
 use Rattle.calls.specs.Lists.{Box, other, Event, Body, dealt, loaded, sent, dropped, joined, refused}
 use Rattle.calls.specs.Demand.{dealsIn, loadsBy, sendsBy, dropsBy, joinsIn, vectorOf, wordOf, answerOf}
 use Rattle.calls.specs.Demand.{deals, vectors, sentWords, lastDealt, lastLoaded, lastJoined, openSets}

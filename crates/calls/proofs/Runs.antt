@@ -6,7 +6,8 @@ use Prim.Native.Nat.{ℕ, zero, suc, _<_, _≤_}
 use native.Mathlib.Omega.{arith}
 use lib.ListN.{length}
 use Rattle.half.specs.Half.{setNumber}
-use Rattle.dealer.specs.Dealer.{Deal, halfSize}
+use Rattle.dealing.specs.Dealing.{Deal}
+use Rattle.dealer.specs.Dealer.{halfSize}
 use Rattle.party.specs.declared.Party.{Party}
 use Rattle.party.specs.declared.PartyAnswer.{PartyAnswer}
 use Rattle.party.specs.Party as BoxCalls
@@ -90,7 +91,7 @@ module _ (S : Starts) (d : Deal) (v : Box → List ℕ) where
       holding : (b : Box) (k : ℕ) → g .made b ≡ k → Holds b (w .box b) k
       holding b k e = subst (Holds b (w .box b)) e (A .box-at b)
 
-      deal-goes-on : (out0 out1 : List ℕ) → g .begun ≡ false → halfSize (d .n) ≤ length out0 → halfSize (d .n) ≤ length out1 → Goes (deal d out0 out1)
+      deal-goes-on : (out0 out1 : List ℕ) → g .begun ≡ false → halfSize (d .terms .n) ≤ length out0 → halfSize (d .terms .n) ≤ length out1 → Goes (deal d out0 out1)
       deal-goes-on out0 out1 m r0 r1 =
           let k = deal-made S d v long R (w .dealer) (A .dealer-at .0) (A .dealer-at .1) (A .dealer-at .2 m) out0 out1 r0 r1 in
           let r = event-is _ _ _ (k .0) (k .2) in (

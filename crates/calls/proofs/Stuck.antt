@@ -8,7 +8,8 @@ use native.Mathlib.Decide.{decLe}
 use native.Mathlib.Nat.{lt-of-not-le}
 use native.Mathlib.Omega.{arith}
 use lib.ListN.{length, replicate, length-replicate}
-use Rattle.dealer.specs.Dealer.{Deal, halfSize}
+use Rattle.dealing.specs.Dealing.{Deal}
+use Rattle.dealer.specs.Dealer.{halfSize}
 use Rattle.calls.specs.Lists.{Box, camera, office, partyOf, other, World, Starts, Message, Call, deal, load, mask, take, finish, join, Event, dealt, loaded, sent, vector, word, answer, events, In, here, there}
 use Rattle.calls.specs.Demand.{Progress, nothingMade, madeOne, onward, Ready, Run, start, own, aside, turned, InRange, Whole}
 use Rattle.calls.proofs.Boxes.{each, put-all}
@@ -92,7 +93,7 @@ module _ (S : Starts) (d : Deal) (v : Box → List ℕ) where
     -- of the box that is not ahead of the other
     box-next : g .begun ≡ true → (b : Box) (k : ℕ) → g .made b ≡ k → k < 4 → k ≤ g .made (other b) → Next g h
     box-next t b zero m l o = (load b (halfOf S d b), (m, halfOf S d, H .has-deal t, refl))
-    box-next t b (suc zero) m l o = (mask b (v b) (replicate (d .n) 0), (m, refl, room (d .n)))
+    box-next t b (suc zero) m l o = (mask b (v b) (replicate (d .terms .n) 0), (m, refl, room (d .terms .n)))
     box-next t b (suc (suc zero)) m l o =
         (take b (maskFrom (other b)), (m, (refl, refl), (v (other b), H .has-left (other b) 1 (omega (arith, o)))))
     box-next t b (suc (suc (suc zero))) m l o =
@@ -115,8 +116,8 @@ module _ (S : Starts) (d : Deal) (v : Box → List ℕ) where
 
     goes-on : (x : Bool) → g .begun ≡ x → Whole g ⊎ Next g h
     goes-on false e =
-        let out : List ℕ = replicate (halfSize (d .n)) 0 in
-        inr (deal d out out, (e, refl, room (halfSize (d .n)), room (halfSize (d .n))))
+        let out : List ℕ = replicate (halfSize (d .terms .n)) 0 in
+        inr (deal d out out, (e, refl, room (halfSize (d .terms .n)), room (halfSize (d .terms .n))))
     goes-on true e =
         elim (decLe (g .made camera) (g .made office)) as (λ z. Whole g ⊎ Next g h) [
           | yes p ↦ behind e camera p

@@ -32,7 +32,7 @@ no-box w b a e s p f q =
     no-event (a .why) e (λ z. f z (ap (λ (s : Party). s .check .phase) (sym (p ∙ new (a .why) s (w .box b) z) ∙ sym (put-own (w .box) b (a .party)) ∙ ap (λ y. y .box b) q)))
 
 pub unmoved : (w : World) (c : Call) → step w c .world ≡ w → Refused (step w c .event)
-unfolding DealerCalls.deal BoxCalls.load BoxCalls.mask BoxCalls.takeVector BoxCalls.finish BoxCalls.answerOf BoxCalls.dropSet LockCalls.join BoxCalls.loaded BoxCalls.opened BoxCalls.masked BoxCalls.worded BoxCalls.closed idle BoxCalls.noCheck
+unfolding DealerCalls.deal BoxCalls.load BoxCalls.mask BoxCalls.takeVector BoxCalls.finish BoxCalls.dropSet LockCalls.join BoxCalls.loaded BoxCalls.opened BoxCalls.masked BoxCalls.worded BoxCalls.closed idle BoxCalls.noCheck
 unmoved w (deal d out0 out1) q =
     no-event _ _ (λ z. omega (arith, deal-tells (w .dealer) d (length out0) (length out1) z .above, ap (λ (s : Dealer). s .last) (sym (new _ _ (w .dealer) z) ∙ ap (λ y. y .dealer) q)))
 unmoved w (load b x) q = no-box w b (BoxCalls.load (w .box b) x) _ _ refl (λ z f. omega (arith, load-tells (w .box b) x z .turn, f)) q

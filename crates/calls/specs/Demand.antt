@@ -8,9 +8,11 @@ use Prim.Native.Nat.{ℕ, suc, _+_, _-_, _^_, _<_, _≤_}
 use lib.Dec.{eqb}
 use lib.ListN.{length}
 use Rattle.algebra.specs.Word.{signed}
-use Rattle.measure.specs.Measure.{measure, reached, isCode, allInRange, thresholdFits}
+use Rattle.measure.specs.declared.Terms.{Terms}
+use Rattle.measure.specs.Measure.{measure, reached, isCode, lengthFits, allInRange, thresholdFits}
 use Rattle.messages.specs.Messages.{padded}
-use Rattle.dealer.specs.Dealer.{Deal, halfSize}
+use Rattle.dealing.specs.Dealing.{Deal}
+use Rattle.dealer.specs.Dealer.{halfSize}
 use Rattle.calls.specs.Lists.{Box, camera, office, partyOf, other, sameBox, put, World, Starts, Started, beginning, Message, Call, deal, load, mask, take, finish, drop, join, Body, vector, word, answer, Event, dealt, loaded, sent, dropped, joined, refused, step, after, events, In, SentVector, SentWord, SentAnswer, history, Admissible}
 
 -- ---- what a list's accepted calls were
@@ -131,7 +133,7 @@ openSets b (e ∷ h) = openSets b h + length (loadsBy b e) - closes b e
 
 -- what a lock is to say of a deal and two vectors
 abbrev pub verdict : Deal → List ℕ → List ℕ → ℕ
-verdict d x y = cond (reached (d .code) (measure (d .code) (d .n) x y) (signed (d .t))) 1 0
+verdict d x y = cond (reached (d .terms) (measure (d .terms) x y) (signed (d .t))) 1 0
 
 -- "For an accepted join under n, the list's accepted deal of n gives measure and T, X is the vector handed to the camera box's accepted call 2 under n, and Y the office
 -- box's; that each is there exactly once is part of the claim"
@@ -184,9 +186,9 @@ module _ (door : List ℕ) (d : Deal) (v : Box → List ℕ) where
   -- which of its own calls may come next, where the run's events so far are h. "Each load gets the half the deal wrote for its box, and messages are handed on as sent. Any
   -- order will do in which nothing is handed on before it is written or sent." Output buffers are as refusal 5 asks.
   abbrev pub Ready : Progress → List Event → Call → Type 0
-  Ready g h (deal e out0 out1) = (g .begun ≡ false) × (e ≡ d) × (halfSize (d .n) ≤ length out0) × (halfSize (d .n) ≤ length out1)
+  Ready g h (deal e out0 out1) = (g .begun ≡ false) × (e ≡ d) × (halfSize (d .terms .n) ≤ length out0) × (halfSize (d .terms .n) ≤ length out1)
   Ready g h (load b half) = (g .made b ≡ 0) × (f : Box → List ℕ) × In (dealt d f) h × (half ≡ f b)
-  Ready g h (mask b x out) = (g .made b ≡ 1) × (x ≡ v b) × (d .n ≤ length out)
+  Ready g h (mask b x out) = (g .made b ≡ 1) × (x ≡ v b) × (d .terms .n ≤ length out)
   Ready g h (take b m) = (g .made b ≡ 2) × Labelled door 0 (other b) (d .number) m × SentVector h (other b) (d .number) (m .content)
   Ready g h (finish b m) = (g .made b ≡ 3) × Labelled door 1 (other b) (d .number) m × SentWord h (other b) (d .number) (m .content)
   Ready g h (drop b) = ⊥
@@ -217,13 +219,12 @@ Answered d v (join m n) x = x ≡ joined (d .number) (verdict d (v camera) (v of
 -- "In range means that code, lengths, output buffers, threshold and elements are as refusals 2, 4, 5 and 8 ask"
 pub record InRange (d : Deal) (v : Box → List ℕ) : Type 0 where
   pub number-fits : d .number < 2 ^ 64
-  pub code-fits : isCode (d .code) ≡ true
+  pub code-fits : isCode (d .terms .code) ≡ true
   pub seed-long : length (d .seed) ≡ 32
-  pub some : 1 ≤ d .n
-  pub most : d .n ≤ 512
-  pub vector-long : (b : Box) → length (v b) ≡ d .n
-  pub threshold-fits : thresholdFits (d .code) (d .t) ≡ true
-  pub elements-fit : (b : Box) → allInRange (d .code) (v b) ≡ true
+  pub length-fits : lengthFits (d .terms) ≡ true
+  pub vector-long : (b : Box) → length (v b) ≡ d .terms .n
+  pub threshold-fits : thresholdFits (d .terms) (d .t) ≡ true
+  pub elements-fit : (b : Box) → allInRange (d .terms) (v b) ≡ true
 
 -- no set is open at either box, and n is above all four last numbers
 pub record Free (s : Starts) (h : List Event) (n : ℕ) : Type 0 where
@@ -278,14 +279,13 @@ CanDrop = (s : Starts) → Started s → (cs : List Call) → Admissible s cs �
 
 -- ---- not empty
 
--- after the list cs, a whole run under n, with this code and length, whose join says `bit`: so the hypotheses of each
--- claim can be met
-pub record Example (s : Starts) (cs : List Call) (n code l bit : ℕ) : Type 0 where
+-- after the list cs, a whole run under n on these terms, whose join says `bit`: so the hypotheses of each claim can be
+-- met
+pub record Example (s : Starts) (cs : List Call) (n : ℕ) (terms : Terms) (bit : ℕ) : Type 0 where
   pub d : Deal
   pub v : Box → List ℕ
   pub number-is : d .number ≡ n
-  pub code-is : d .code ≡ code
-  pub length-is : d .n ≡ l
+  pub terms-are : d .terms ≡ terms
   pub in-range : InRange d v
   pub ended : Ended s cs d v
   pub says : verdict d (v camera) (v office) ≡ bit
@@ -293,9 +293,9 @@ pub record Example (s : Starts) (cs : List Call) (n code l bit : ℕ) : Type 0 w
 -- after every admissible list that leaves no set open, under every number that is free, for every measure and length:
 -- one run says 1 and one says 0; and there are accepted starts, with every number from 1 on free
 unfoldable pub NotEmpty : Type 0
-NotEmpty = ((s : Starts) → Started s → (cs : List Call) → Admissible s cs → (n code l : ℕ) → n < 2 ^ 64
-    → isCode code ≡ true → 1 ≤ l → l ≤ 512 → Free s (history s cs) n
-    → Example s cs n code l 1 × Example s cs n code l 0)
+NotEmpty = ((s : Starts) → Started s → (cs : List Call) → Admissible s cs → (n : ℕ) (terms : Terms) → n < 2 ^ 64
+    → isCode (terms .code) ≡ true → lengthFits terms ≡ true → Free s (history s cs) n
+    → Example s cs n terms 1 × Example s cs n terms 0)
     × ((s : Starts) × Started s × Free s [] 1)
 
 -- ---- demand 3, whole

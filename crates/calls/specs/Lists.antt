@@ -12,7 +12,8 @@ use Rattle.half.specs.Half.{blockAt, setNumber}
 use Rattle.dealer.specs.declared.Dealer.{Dealer}
 use Rattle.dealer.specs.declared.DealerAnswer.{DealerAnswer}
 use Rattle.dealer.specs.Dealer as DealerCalls
-use Rattle.dealer.specs.Dealer.{Deal, halfSize}
+use Rattle.dealing.specs.Dealing.{Deal}
+use Rattle.dealer.specs.Dealer.{halfSize}
 use Rattle.party.specs.declared.Party.{Party}
 use Rattle.party.specs.declared.PartyAnswer.{PartyAnswer}
 use Rattle.party.specs.Party as BoxCalls
@@ -142,10 +143,10 @@ onLock w a e = record { world = record { dealer = w .dealer; box = w .box; lock 
 -- "An accepted call writes only from the start of an output buffer: a deal the whole blocks of one half in each of two, call 2 its L words": what was written is the start
 -- of the buffer as the call leaves it
 abbrev pub written : Dealer → Deal → List ℕ → List ℕ → Box → List ℕ
-written s d out0 out1 b = part 0 (halfSize (d .n)) (DealerCalls.dealOut s d out0 out1 (partyOf b))
+written s d out0 out1 b = part 0 (halfSize (d .terms .n)) (DealerCalls.dealOut s d out0 out1 (partyOf b))
 
 abbrev pub maskedBy : Party → List ℕ → List ℕ → List ℕ
-maskedBy s v out = part 0 (s .check .set .n) (BoxCalls.maskOut s v out)
+maskedBy s v out = part 0 (s .check .set .terms .n) (BoxCalls.maskOut s v out)
 
 abbrev pub step : World → Call → Step
 step w (deal d out0 out1) =

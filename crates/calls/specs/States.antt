@@ -35,7 +35,7 @@ StaysUntilEnded = (w : World) (b : Box) → 1 ≤ w .box b .check .phase → (cs
 -- "with no set open all of it is zero, code and L included, and array places past L are always zero"
 pub record Tidy (s : Party) : Type 0 where
   pub none-open : s .check .phase ≡ 0 → (s .check .set ≡ noSet) × (s .check .masked ≡ replicate 512 0) × (s .check .own ≡ 0) × (s .check .word ≡ 0)
-  pub past-length : (i : ℕ) → s .check .set .n ≤ i → (getD (s .check .set .mask) i 0 ≡ 0) × (getD (s .check .set .x) i 0 ≡ 0) × (getD (s .check .set .y) i 0 ≡ 0) × (getD (s .check .masked) i 0 ≡ 0)
+  pub past-length : (i : ℕ) → s .check .set .terms .n ≤ i → (getD (s .check .set .mask) i 0 ≡ 0) × (getD (s .check .set .x) i 0 ≡ 0) × (getD (s .check .set .y) i 0 ≡ 0) × (getD (s .check .masked) i 0 ≡ 0)
 
 unfoldable pub AlwaysTidy : Type 0
 AlwaysTidy = (s : Starts) (cs : List Call) (b : Box) → Tidy (after (beginning s) cs .box b)
