@@ -1,4 +1,4 @@
--- The rows of the table as code makes them: the range test on words, every element of a slice, and the own term. Assumes nothing.
+-- The rows of the table as code makes them: the range test on words, and every element of a slice. Assumes nothing.
 use mathlib.Core.Path.{_≡_, refl, sym, ap, ap₂, _∙_}
 use mathlib.Core.Bool.{Bool, _&&_, and-true, and-assoc}
 use mathlib.Core.List.{List, [], _∷_}
