@@ -69,7 +69,7 @@ can-drop s f cs a b o =
 not-empty : NotEmpty
 unfolding NotEmpty
 not-empty =
-    (λ s f cs a n code l small ok some most F. examples n code l small ok some most can-end s f cs a F, some-starts)
+    (λ s f cs a n terms small coded long F. examples n terms small coded long can-end s f cs a F, some-starts)
 
 pub demand-3 : Demand3
 unfolding Demand3

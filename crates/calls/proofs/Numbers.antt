@@ -180,17 +180,17 @@ module _ (floor : ℕ) (b : Box) where
 
 -- what a load takes has a code and a length that fit
 content-fits : (name : List ℕ) (party count m : ℕ) (c : List ℕ) → contentFits name party count c ≡ true
-    → isCode (setIn m c .code) && lengthFits (setIn m c .n) ≡ true
+    → isCode (setIn m c .terms .code) && lengthFits (setIn m c .terms) ≡ true
 unfolding contentFits setIn
 content-fits name party count m c e =
     let named = both (same (field c 0) name) _ e in
     let owned = both (eqb (getD (field c 1) 0 0) party) _ (named .1) in
-    let coded = both (isCode (setIn m c .code)) _ (owned .1) in
-    let long = both (lengthFits (setIn m c .n)) _ (coded .1) in
+    let coded = both (isCode (setIn m c .terms .code)) _ (owned .1) in
+    let long = both (lengthFits (setIn m c .terms)) _ (coded .1) in
     ap₂ _&&_ (coded .0) (long .0)
 
 opened-fits : (key name : List ℕ) (party last : ℕ) (x : List ℕ) → whyNot key name party last x ≡ 0
-    → isCode (openedSet key x .code) && lengthFits (openedSet key x .n) ≡ true
+    → isCode (openedSet key x .terms .code) && lengthFits (openedSet key x .terms) ≡ true
 unfolding whyNot whyNotOpened openedSet
 opened-fits key name party last x e =
     let blocks = passed _ (passed _ (passed _ e .1) .1) in

@@ -187,16 +187,16 @@ module _ (h : List Event) (b : Box) (last : ℕ) where
       rest (inr (inr q)) = inr (inr q)
 
   pub slots-mask : (s : Set) (ts : List Slot) → Slots h b last (fresh s ∷ ts) → (x : List ℕ)
-      → Slots (sent b (s .number) (vector x (maskedVector s x)) ∷ h) b last (masked s (fill (maskedVector s x)) (ownWord (s .code) (s .n) x) ∷ ts)
+      → Slots (sent b (s .number) (vector x (maskedVector s (partyOf b) x)) ∷ h) b last (masked s (fill (maskedVector s (partyOf b) x)) (ownWord (s .terms) x) ∷ ts)
   slots-mask s ts k x =
-      let u : Slot = masked s (fill (maskedVector s x)) (ownWord (s .code) (s .n) x) in
+      let u : Slot = masked s (fill (maskedVector s (partyOf b) x)) (ownWord (s .terms) x) in
       let n : ℕ = s .number in
-      let sends : Body = vector x (maskedVector s x) in
+      let sends : Body = vector x (maskedVector s (partyOf b) x) in
       let t = k .holds .0 .0 in
       let e = k .holds .0 .1 in
       record {
         holds = (
-          (dealt-later _ t, e, x, (maskedVector s x, here refl), ap (λ z. fill (maskedVector z x)) e, ap (λ z. ownWord (z .code) (z .n) x) e),
+          (dealt-later _ t, e, x, (maskedVector s (partyOf b) x, here refl), ap (λ z. fill (maskedVector z x)) e, ap (λ z. ownWord (z .code) (z .n) x) e),
           slots-later h _ b ts (k .holds .1),
         );
         low = k .low;
