@@ -29,19 +29,23 @@ use Rattle.calls.proofs.History.{door, EventOk, Pair, look}
 use Rattle.calls.proofs.Invariant.{BoxIs, dealerWith, lockWith, Inv, dealtBy, wrote, one-deal, one-pair}
 use Rattle.calls.proofs.Boxes.{put-same, put-all}
 use Rattle.calls.proofs.Parts.{other-away, dealt-away, joined-away, refused-away, own-quiet}
-use Rattle.calls.proofs.Parts.{deals-quiet, dealt-quiet, joined-quiet}
+use Rattle.calls.proofs.Parts.{Away, Quiet, deals-quiet, dealt-quiet, joined-quiet, refused-quiet}
 use Rattle.calls.proofs.Kept.{told, box-away, Stepped, at-box, Masking, masking, Taking, taking, Finishing, finishing, Dropping, dropping, Loading, loading}
 
 module _ (S : Starts) (h : List Event) (w : World) (I : Inv S h w) where
-  still : (why : ℕ) → Inv S (refused why ∷ h) w
-  still why =
+  -- an event that is right and leaves every part alone, as a refusal does
+  alone : (e : Event) → EventOk S h e → Quiet e → ((b : Box) → Away b e) → Inv S (e ∷ h) w
+  alone e ok q away =
       record {
-        good = (I .good, tt);
-        deals-once = I .deals-once;
-        dealer-is = I .dealer-is;
-        box-is = λ b. box-away S h _ b (w .box b) (refused-away why b) (I .box-is b);
-        lock-is = I .lock-is;
+        good = (I .good, ok);
+        deals-once = λ n. rw (deals-quiet q h n, dealt-quiet q h (S .dealerFloor)) (I .deals-once n);
+        dealer-is = I .dealer-is ∙ ap (dealerWith S) (sym (dealt-quiet q h (S .dealerFloor)));
+        box-is = λ b. box-away S h e b (w .box b) (away b) (I .box-is b);
+        lock-is = I .lock-is ∙ ap (lockWith S) (sym (joined-quiet q h (S .lockFloor)));
       }
+
+  still : (why : ℕ) → Inv S (refused why ∷ h) w
+  still why = alone (refused why) tt (refused-quiet why) (refused-away why)
 
   moved : (b : Box) (s : Party) (e : Event) → Stepped S h b s e → Inv S (e ∷ h) (record { dealer = w .dealer; box = put (w .box) b s; lock = w .lock })
   moved b s e k =

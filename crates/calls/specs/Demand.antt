@@ -17,8 +17,8 @@ use Rattle.calls.specs.Lists.{Box, camera, office, partyOf, other, sameB
 
 -- ---- what a list's accepted calls were
 
--- By kind and part: what an event is if it is of that kind, else nothing. These five tell the kinds of events apart,
--- and all else that is said of a list's events goes through them.
+-- By kind and part: what an event is if it is of that kind, else nothing. Deals, vectors, words, last numbers and open
+-- sets go through these five, and tell no kinds of events apart themselves.
 
 -- what was dealt
 abbrev pub dealsIn : Event → List Deal
@@ -69,7 +69,7 @@ joinsIn (dropped c) = []
 joinsIn (joined n bit) = n ∷ []
 joinsIn (refused why) = []
 
--- all of them in a list, newest first as it is
+-- what f gives for each in a list, in the list's order
 abbrev pub collect : {A B : Type 0} → (A → List B) → List A → List B
 collect f [] = []
 collect f (x ∷ l) = f x ++ collect f l
