@@ -12,7 +12,7 @@ use Rattle.measure.specs.Measure.{ownWord}
 use Rattle.content.specs.declared.Set.{Set}
 use Rattle.content.specs.Content.{fill}
 use Rattle.party.specs.Party.{maskedVector}
-use Rattle.calls.specs.Lists.{Box, Event, Body, loaded, sent, dropped, vector, word, answer, here, there}
+use Rattle.calls.specs.Lists.{Box, partyOf, Event, Body, loaded, sent, dropped, vector, word, answer, here, there}
 use Rattle.calls.specs.Demand.{vectors, sentWords, openSets}
 use Rattle.calls.proofs.Parts.{Away, vectors-away, words-away, open-away}
 use Rattle.calls.proofs.Parts.{vectors-sent, words-sent, open-loaded, open-sent, open-dropped}

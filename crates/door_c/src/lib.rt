@@ -2,13 +2,15 @@
 // back by value; a slice is a pointer and a length. No function asks anything of its caller.
 ghost use mathlib.Core.Path.{_≡_};
 ghost use lib.ListN.{length};
-ghost use Rattle.dealer.specs.Dealer.{startDealer, dealFrom, deal, dealOut};
+ghost use Rattle.dealing.specs.Dealing.{dealFrom};
+ghost use Rattle.dealer.specs.Dealer.{startDealer, deal, dealOut};
 ghost use Rattle.party.specs.Party.{startParty, load, mask, maskOut, takeVector, finish, dropSet};
 ghost use Rattle.lock.specs.Lock.{startLock, join};
 use dealer::Dealer;
 use dealer::DealerAnswer;
 use lock::Lock;
 use lock::LockAnswer;
+use measure::Terms;
 use messages::Label;
 use party::Party;
 use party::PartyAnswer;
@@ -32,17 +34,16 @@ pub extern "C" fn door_deal(
     dealer: Dealer,
     number: u64,
     seed: &[u8],
-    code: u32,
-    n: usize,
+    terms: Terms,
     t: u32,
     out0: &mut [u8],
     out1: &mut [u8],
 ) -> DealerAnswer
-    ensures { λ r. ⌜ r ≡ deal dealer (dealFrom number (now (seed .entry)) code n t) (length (now (out0 .entry))) (length (now (out1 .entry))) ⌝ }
-    ensures { λ _. ⌜ now (out0 .exit) ≡ dealOut dealer (dealFrom number (now (seed .entry)) code n t) (now (out0 .entry)) (now (out1 .entry)) 0 ⌝ }
-    ensures { λ _. ⌜ now (out1 .exit) ≡ dealOut dealer (dealFrom number (now (seed .entry)) code n t) (now (out0 .entry)) (now (out1 .entry)) 1 ⌝ }
+    ensures { λ r. ⌜ r ≡ deal dealer (dealFrom number (now (seed .entry)) terms t) (length (now (out0 .entry))) (length (now (out1 .entry))) ⌝ }
+    ensures { λ _. ⌜ now (out0 .exit) ≡ dealOut dealer (dealFrom number (now (seed .entry)) terms t) (now (out0 .entry)) (now (out1 .entry)) 0 ⌝ }
+    ensures { λ _. ⌜ now (out1 .exit) ≡ dealOut dealer (dealFrom number (now (seed .entry)) terms t) (now (out0 .entry)) (now (out1 .entry)) 1 ⌝ }
 {
-    dealer.deal(number, seed, code, n, t, out0, out1)
+    dealer.deal(number, seed, terms, t, out0, out1)
 }
 
 // Party 0 is the camera box, party 1 the office box.

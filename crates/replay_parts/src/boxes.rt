@@ -1,5 +1,6 @@
 // A box's start and its calls.
 use crate::states;
+use measure::Terms;
 use messages::Label;
 use party::Party;
 use party::PartyAnswer;
@@ -101,9 +102,9 @@ fn put(p: Party, l: Line) -> PartyAnswer {
     let party = memory::low(l.f3);
     let code = memory::low(l.f4);
     let n = memory::size(l.f5);
+    let terms = Terms { code, n };
     let mut set = p.check.set;
-    set.code = code;
-    set.n = n;
+    set.terms = terms;
     let mut check = p.check;
     check.phase = phase;
     check.set = set;

@@ -2,6 +2,7 @@
 use crate::states;
 use dealer::Dealer;
 use dealer::DealerAnswer;
+use measure::Terms;
 use replay_lines::lines;
 use replay_lines::lines::Line;
 use replay_lines::memory;
@@ -40,8 +41,10 @@ fn deal(d: Dealer, b: &mut [u8; BYTES], l: Line) -> DealerAnswer {
     let a = d.deal(
         l.f1,
         memory::first(b, 2, l.f2),
-        memory::low(l.f3),
-        memory::size(l.f4),
+        Terms {
+            code: memory::low(l.f3),
+            n: memory::size(l.f4),
+        },
         memory::low(l.f5),
         script::first_mut(&mut out0, memory::size(l.f6)),
         script::first_mut(&mut out1, memory::size(l.f7)),

@@ -124,8 +124,8 @@ fn lay_set(b: &mut [u8; BYTES], s: Set) {
     let seed = s.seed;
     let key = s.key;
     lay_wide(b, 64, s.number);
-    lay_word(b, 72, s.code);
-    lay_wide(b, 76, memory::wide(s.n));
+    lay_word(b, 72, s.terms.code);
+    lay_wide(b, 76, memory::wide(s.terms.n));
     lay_vector(b, 84, mask);
     lay_vector(b, 2132, x);
     lay_vector(b, 4180, y);
