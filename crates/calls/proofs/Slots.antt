@@ -196,7 +196,7 @@ module _ (h : List Event) (b : Box) (last : ℕ) where
       let e = k .holds .0 .1 in
       record {
         holds = (
-          (dealt-later _ t, e, x, (maskedVector s (partyOf b) x, here refl), ap (λ z. fill (maskedVector z x)) e, ap (λ z. ownWord (z .code) (z .n) x) e),
+          (dealt-later _ t, e, x, (maskedVector s (partyOf b) x, here refl), ap (λ z. fill (maskedVector z (partyOf b) x)) e, ap (λ z. ownWord (z .terms) x) e),
           slots-later h _ b ts (k .holds .1),
         );
         low = k .low;
