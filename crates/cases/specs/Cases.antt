@@ -14,7 +14,7 @@ use Rattle.algebra.specs.Word as W
 use Rattle.words.specs.List.{tab, same}
 use Rattle.measure.specs.Measure.{row, scalarProduct, squaredEuclid, hamming, element, own, measure, reached, word}
 use Rattle.share.specs.Share.{plus, idealGate}
-use Rattle.content.specs.Content.{size, blockCount}
+use Rattle.content.specs.Content.{widths, sumFirst, size, blockCount}
 
 -- a line: what is given, and what it comes to
 pub data Line : Type 0 where
@@ -81,5 +81,5 @@ all [] = true
 all (l ∷ t) = holds l && all t
 
 pub the-cases : all table ≡ true
-unfolding all table holds sameℤ crossed size blockCount idealGate measure own element reached row scalarProduct squaredEuclid hamming word plus tab same sum sumℤ add sub W.neg W.signed only less
+unfolding all table holds sameℤ crossed widths sumFirst size blockCount idealGate measure own element reached row scalarProduct squaredEuclid hamming word plus tab same sum sumℤ add sub W.neg W.signed only less
 the-cases = refl
