@@ -16,7 +16,7 @@ use Rattle.measure.specs.declared.Terms.{Terms}
 use Rattle.measure.specs.Measure.{row, scalarProduct, squaredEuclid, hamming, element, own, cross, measure}
 use Rattle.measure.specs.Measure.{sign, difference, reached, word, ordinaryWidth}
 use Rattle.share.specs.Share.{plus, idealGate}
-use Rattle.content.specs.Content.{size, blockCount}
+use Rattle.content.specs.Content.{widths, sumFirst, size, blockCount}
 
 -- a line: what is given, and what it comes to
 pub data Line : Type 0 where
@@ -90,7 +90,7 @@ all [] = true
 all (l ∷ t) = holds l && all t
 
 pub the-cases : all table ≡ true
-unfolding all table holds termsOf sameℤ crossed size blockCount idealGate measure own cross element
+unfolding all table holds termsOf sameℤ crossed widths sumFirst size blockCount idealGate measure own cross element
     sign difference reached row scalarProduct squaredEuclid hamming word
     plus tab same sum sumℤ add sub W.neg W.signed only less
 the-cases = refl

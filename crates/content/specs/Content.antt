@@ -1,5 +1,6 @@
--- What a half holds (01, "The sealed half"): the plain content of a set for a party, as a list of fields in order, and the set read back from it.
--- Bytes are numbers below 256. Assumes nothing.
+-- What a half holds (01, "The sealed half"): the plain content of a set for a party, as a list of fields in order, and
+-- the set read back from it. A field more is a name for its place, its width, its bytes, and where it is read back. Bytes
+-- are numbers below 256. Assumes nothing.
 use mathlib.Core.Path.{_≡_}
 use mathlib.Core.Bool.{Bool, true, _&&_}
 use mathlib.Core.List.{List, [], _∷_, _++_, map}
@@ -10,6 +11,8 @@ use Rattle.words.specs.Numbers.{bytes, number}
 use Rattle.words.specs.List.{same, flat}
 use Rattle.words.specs.Bytes.{le32, bytesOf, wordAt, wordsAt}
 use Rattle.node.specs.declared.Correction.{Correction}
+use Rattle.node.specs.declared.Key.{Key}
+use Rattle.measure.specs.declared.Terms.{Terms}
 use Rattle.measure.specs.Measure.{isCode}
 use Rattle.content.specs.declared.Set.{Set}
 
@@ -44,40 +47,96 @@ fill l = l ++ replicate (mostElements - length l) 0
 unfoldable pub correctionBytes : Correction → List ℕ
 correctionBytes c = bytesOf (c .seed) ++ (le32 (c .word) ++ (c .flags ∷ []))
 
--- "name (16 bytes, zero after its end), party, measure code, L (2 bytes, little-endian), own mask (L words), the party's share of X's mask, then of Y's (L words each),
--- its c and r words, key seed, 32 corrections of 37 bytes (..), final word": the fields, and how many bytes each has
-unfoldable pub fields : List ℕ → ℕ → Set → List (List ℕ)
-fields name party s =
-    name ∷ (party ∷ []) ∷ (s .terms .code ∷ []) ∷ bytes 2 (s .terms .n) ∷ bytesOf (take (s .terms .n) (s .mask)) ∷ bytesOf (take (s .terms .n) (s .x)) ∷ bytesOf (take (s .terms .n) (s .y)) ∷ le32 (s .c)
-    ∷ le32 (s .r) ∷ bytesOf (s .seed) ∷ flat (map correctionBytes (s .key .corrections)) ∷ le32 (s .key .last) ∷ []
+-- "name (16 bytes, zero after its end), party, measure code, L (2 bytes, little-endian), own mask (L words), the party's
+-- share of X's mask, then of Y's (L words each), its c and r words, key seed, 32 corrections of 37 bytes (..), final
+-- word": each field by its place among them, ..
+abbrev pub nameField : ℕ
+nameField = 0
 
+abbrev pub partyField : ℕ
+partyField = 1
+
+abbrev pub codeField : ℕ
+codeField = 2
+
+abbrev pub lengthField : ℕ
+lengthField = 3
+
+abbrev pub maskField : ℕ
+maskField = 4
+
+abbrev pub xField : ℕ
+xField = 5
+
+abbrev pub yField : ℕ
+yField = 6
+
+abbrev pub cField : ℕ
+cField = 7
+
+abbrev pub rField : ℕ
+rField = 8
+
+abbrev pub seedField : ℕ
+seedField = 9
+
+abbrev pub correctionsField : ℕ
+correctionsField = 10
+
+abbrev pub lastField : ℕ
+lastField = 11
+
+-- .. how many bytes each has, where vectors have n elements, ..
 unfoldable pub widths : ℕ → List ℕ
 widths n = 16 ∷ 1 ∷ 1 ∷ 2 ∷ 4 * n ∷ 4 * n ∷ 4 * n ∷ 4 ∷ 4 ∷ 32 ∷ 32 * 37 ∷ 4 ∷ []
 
--- "That is 1,248 + 12 × L bytes, zero-filled to whole blocks of 484"
+-- .. and which
+unfoldable pub fields : List ℕ → ℕ → Set → List (List ℕ)
+fields name party s =
+    let n : ℕ = s .terms .n in
+    name ∷ (party ∷ []) ∷ (s .terms .code ∷ []) ∷ bytes 2 n ∷ bytesOf (take n (s .mask)) ∷ bytesOf (take n (s .x))
+    ∷ bytesOf (take n (s .y)) ∷ le32 (s .c) ∷ le32 (s .r) ∷ bytesOf (s .seed)
+    ∷ flat (map correctionBytes (s .key .corrections)) ∷ le32 (s .key .last) ∷ []
+
+-- the sum of a list's first k numbers
+unfoldable pub sumFirst : List ℕ → ℕ → ℕ
+sumFirst ws zero = 0
+sumFirst [] (suc k) = 0
+sumFirst (w ∷ ws) (suc k) = w + sumFirst ws k
+
+-- where a field starts, past those before it, and how many bytes it has
+unfoldable pub offset : ℕ → ℕ → ℕ
+offset n f = sumFirst (widths n) f
+
+unfoldable pub width : ℕ → ℕ → ℕ
+width n f = getD (widths n) f 0
+
+-- all of them: "That is 1,248 + 12 × L bytes, zero-filled to whole blocks of 484" (Laws.`size-is`)
 unfoldable pub size : ℕ → ℕ
-size n = 1248 + 12 * n
+size n = sumFirst (widths n) (length (widths n))
 
 unfoldable pub blockCount : ℕ → ℕ
 blockCount n = (size n + textBytes - 1) / textBytes
 
 unfoldable pub plain : List ℕ → ℕ → Set → List ℕ
-plain name party s = flat (fields name party s) ++ replicate (textBytes * blockCount (s .terms .n) - size (s .terms .n)) 0
+plain name party s =
+    let n : ℕ = s .terms .n in
+    flat (fields name party s) ++ replicate (textBytes * blockCount n - size n) 0
 
 -- ---- read back
 
--- pieces of these widths, one after the other
-unfoldable pub cut : List ℕ → List ℕ → List (List ℕ)
-cut [] b = []
-cut (w ∷ ws) b = take w b ∷ cut ws (drop w b)
-
--- L stands in bytes 18 and 19
+-- L, which stands past fields that are as wide for any L
 unfoldable pub lengthIn : List ℕ → ℕ
-lengthIn b = number (part 18 2 b)
+lengthIn b = number (part (offset 0 lengthField) (width 0 lengthField) b)
 
--- field i of plain content, in the order of `fields`
+-- a field of plain content
 unfoldable pub field : List ℕ → ℕ → List ℕ
-field b i = getD (cut (widths (lengthIn b)) b) i []
+field b f =
+    let n : ℕ = lengthIn b in
+    part (offset n f) (width n f) b
+
+unfoldable pub termsIn : List ℕ → Terms
+termsIn b = record { code = getD (field b codeField) 0 0; n = lengthIn b }
 
 unfoldable pub correctionIn : List ℕ → ℕ → Correction
 correctionIn f i =
@@ -88,20 +147,23 @@ unfoldable pub correctionsIn : List ℕ → ℕ → List Correction
 correctionsIn f zero = []
 correctionsIn f (suc i) = correctionsIn f i ++ (correctionIn f i ∷ [])
 
+unfoldable pub keyIn : List ℕ → Key
+keyIn b = record { corrections = correctionsIn (field b correctionsField) 32; last = wordAt (field b lastField) 0 }
+
 -- the set of this number that plain content holds
 unfoldable pub setIn : ℕ → List ℕ → Set
 setIn set b =
     let n : ℕ = lengthIn b in
     record {
       number = set;
-      terms = record { code = getD (field b 2) 0 0; n = n };
-      mask = fill (wordsAt n (field b 4));
-      x = fill (wordsAt n (field b 5));
-      y = fill (wordsAt n (field b 6));
-      c = wordAt (field b 7) 0;
-      r = wordAt (field b 8) 0;
-      seed = wordsAt 8 (field b 9);
-      key = record { corrections = correctionsIn (field b 10) 32; last = wordAt (field b 11) 0 };
+      terms = termsIn b;
+      mask = fill (wordsAt n (field b maskField));
+      x = fill (wordsAt n (field b xField));
+      y = fill (wordsAt n (field b yField));
+      c = wordAt (field b cField) 0;
+      r = wordAt (field b rField) 0;
+      seed = wordsAt 8 (field b seedField);
+      key = keyIn b;
     }
 
 -- no set: all that a set brings is zero, "code and L included"
@@ -138,8 +200,13 @@ zeros (x ∷ l) = eqb x 0 && zeros l
 -- what a half of `count` blocks was opened to, at a box of this padded name and party
 unfoldable pub contentFits : List ℕ → ℕ → ℕ → List ℕ → Bool
 contentFits name party count b =
-    let s : Set = setIn 0 b in
-    same (field b 0) name && (eqb (getD (field b 1) 0 0) party && (isCode (s .terms .code) && (lengthFits (s .terms .n) && (eqb (blockCount (s .terms .n)) count && (flagsFit (s .key .corrections) && zeros (drop (size (s .terms .n)) b))))))
+    let terms : Terms = termsIn b in
+    same (field b nameField) name
+    && (eqb (getD (field b partyField) 0 0) party
+    && (isCode (terms .code)
+    && (lengthFits (terms .n)
+    && (eqb (blockCount (terms .n)) count
+    && (flagsFit (keyIn b .corrections) && zeros (drop (size (terms .n)) b))))))
 
 -- ---- a set as a deal makes it: what lies in the ranges of its fields
 

@@ -16,18 +16,38 @@ use Rattle.node.specs.declared.Correction.{Correction}
 use Rattle.measure.specs.Measure.{isCode}
 use Rattle.measure.specs.Laws.{code-lt}
 use Rattle.content.specs.declared.Set.{Set}
-use Rattle.content.specs.Content.{mostElements, textBytes, mostBlocks, roomBytes, part, fill, correctionBytes, fields, widths, size, blockCount, plain, cut, lengthIn, field, correctionIn, correctionsIn, setIn, noCorrection, lengthFits, flagsFit, zeros, contentFits, Words, Filled, Corrections, FlagBytes, Proper}
-use Rattle.content.specs.Pieces.{offset, length-flat, cut-flat, cut-at, part-flat, take-replicate, wordAt-past, getD-past, length-even, wordsAt-bytesOf, words-back, wordAt-le32}
+use Rattle.content.specs.Content.{mostElements, textBytes, mostBlocks, roomBytes, part, fill, correctionBytes}
+use Rattle.content.specs.Content.{nameField, partyField, codeField, lengthField, maskField, xField, yField, cField, rField, seedField, correctionsField, lastField}
+use Rattle.content.specs.Content.{fields, widths, sumFirst, offset, width, size, blockCount, plain, lengthIn, field, termsIn}
+use Rattle.content.specs.Content.{correctionIn, correctionsIn, keyIn, setIn, noCorrection, lengthFits, flagsFit, zeros, contentFits}
+use Rattle.content.specs.Content.{Words, Filled, Corrections, FlagBytes, Proper}
+use Rattle.content.specs.Pieces.{sumFirst-suc, length-flat, piece-at, part-flat, take-replicate, wordAt-past, getD-past}
+use Rattle.content.specs.Pieces.{length-even, wordsAt-bytesOf, words-back, wordAt-le32}
 
 -- ---- sizes
 
+-- "That is 1,248 + 12 × L bytes"
+pub size-is : (n : ℕ) → size n ≡ 1248 + 12 * n
+unfolding size widths sumFirst
+size-is n = omega arith
+
+-- name, party, code and L stand before the vectors
+pub head-is : (n : ℕ) → offset n maskField ≡ 20
+unfolding offset widths sumFirst
+head-is n = refl
+
+-- a field ends where the next one starts
+pub offset-next : (n f : ℕ) → offset n (suc f) ≡ offset n f + width n f
+unfolding offset width
+offset-next n f = sumFirst-suc (widths n) f
+
 pub blocks-bounds : (n : ℕ) → 1 ≤ n → n ≤ mostElements → (3 ≤ blockCount n) × (blockCount n ≤ mostBlocks)
-unfolding blockCount size
-blocks-bounds n h k = (omega arith, omega arith)
+unfolding blockCount
+blocks-bounds n h k = (omega (arith, size-is n), omega (arith, size-is n))
 
 pub size-le : (n : ℕ) → size n ≤ textBytes * blockCount n
-unfolding blockCount size
-size-le n = omega arith
+unfolding blockCount
+size-le n = omega (arith, size-is n)
 
 pub length-fits : (n : ℕ) → lengthFits n ≡ true → (1 ≤ n) × (n ≤ mostElements)
 unfolding lengthFits
@@ -110,11 +130,13 @@ unfolding zeros
 zeros-replicate zero = refl
 zeros-replicate (suc k) = zeros-replicate k
 
--- ---- L is read from bytes 18 and 19
+-- ---- L is read from two bytes, the last before the vectors
 
-pub lengthIn-bytes : (b : List ℕ) → lengthIn b ≡ getD b 18 0 + 256 * getD b 19 0
-unfolding lengthIn part number
-lengthIn-bytes b = two (drop 18 b) ∙ ap₂ (λ (x y : ℕ). x + 256 * y) (getD-drop 18 b 0 0) (getD-drop 18 b 1 0)
+pub lengthIn-bytes : (b : List ℕ) → lengthIn b ≡ getD b (offset 0 lengthField) 0 + 256 * getD b (offset 0 lengthField + 1) 0
+unfolding lengthIn offset width widths sumFirst part number
+lengthIn-bytes b =
+    let at = offset 0 lengthField in
+    two (drop at b) ∙ ap₂ (λ (x y : ℕ). x + 256 * y) (getD-drop at b 0 0) (getD-drop at b 1 0)
   where
     two : (l : List ℕ) → number (take 2 l) ≡ getD l 0 0 + 256 * getD l 1 0
     two [] = refl
@@ -122,12 +144,13 @@ lengthIn-bytes b = two (drop 18 b) ∙ ap₂ (λ (x y : ℕ). x + 256 * y) (getD
     two (x ∷ y ∷ l) = omega arith
 
 -- so that any list that begins as b does has b's L
-pub lengthIn-take : (k : ℕ) (b : List ℕ) → 20 ≤ k → lengthIn (take k b) ≡ lengthIn b
+pub lengthIn-take : (k : ℕ) (b : List ℕ) → offset 0 maskField ≤ k → lengthIn (take k b) ≡ lengthIn b
+unfolding offset widths sumFirst
 lengthIn-take k b h =
-    lengthIn-bytes (take k b) ∙ ap₂ (λ (x y : ℕ). x + 256 * y) (getD-take k b 18 0 (omega arith)) (getD-take k b 19 0 (omega arith)) ∙ sym (lengthIn-bytes b)
-
-pub lengthIn-agree : (k : ℕ) (a b : List ℕ) → 20 ≤ k → take k a ≡ take k b → lengthIn a ≡ lengthIn b
-lengthIn-agree k a b h e = sym (lengthIn-take k a h) ∙ ap lengthIn e ∙ lengthIn-take k b h
+    let at = offset 0 lengthField in
+    lengthIn-bytes (take k b)
+    ∙ ap₂ (λ (x y : ℕ). x + 256 * y) (getD-take k b at 0 (omega arith)) (getD-take k b (at + 1) 0 (omega arith))
+    ∙ sym (lengthIn-bytes b)
 
 -- ---- plain content
 
@@ -146,8 +169,8 @@ module _ (name : List ℕ) (party : ℕ) (s : Set) (named : length name ≡ 16) 
       λ k. named k ∷ 1 ∷ 1 ∷ 2 ∷ m k ∷ x k ∷ y k ∷ 4 ∷ 4 ∷ e k ∷ c k ∷ 4 ∷ []
 
   pub length-fields : length (flat (fields name party s)) ≡ size (s .terms .n)
-  unfolding size widths offset fields
-  length-fields = length-flat (fields name party s) ∙ ap (λ (ws : List ℕ). offset ws 12) lengths ∙ omega arith
+  unfolding size fields
+  length-fields = length-flat (fields name party s) ∙ ap (λ (ws : List ℕ). sumFirst ws (length ws)) lengths
 
   pub length-plain : length (plain name party s) ≡ textBytes * blockCount (s .terms .n)
   unfolding plain
@@ -170,19 +193,22 @@ module _ (name : List ℕ) (party : ℕ) (s : Set) (named : length name ≡ 16) 
   unfolding plain
   drop-plain = drop-at (flat (fields name party s)) (replicate (textBytes * blockCount (s .terms .n) - size (s .terms .n)) 0) (size (s .terms .n)) length-fields
 
-  cut-plain : cut (widths (s .terms .n)) (plain name party s) ≡ fields name party s
-  unfolding plain
-  cut-plain = cut-flat (widths (s .terms .n)) (fields name party s) (replicate (textBytes * blockCount (s .terms .n) - size (s .terms .n)) 0) lengths
+  -- what stands where a field's bytes do
+  piece-plain : (f : ℕ) → part (offset (s .terms .n) f) (width (s .terms .n) f) (plain name party s) ≡ getD (fields name party s) f []
+  unfolding plain offset width
+  piece-plain f =
+      let n = s .terms .n in
+      let fill : List ℕ = replicate (textBytes * blockCount n - size n) 0 in
+      ap (λ (ws : List ℕ). part (sumFirst ws f) (getD ws f 0) (flat (fields name party s) ++ fill)) (sym lengths)
+      ∙ piece-at (fields name party s) fill f
 
   pub lengthIn-plain : lengthIn (plain name party s) ≡ s .terms .n
-  unfolding lengthIn widths offset fields bytes number
-  lengthIn-plain =
-      let at : part 18 2 (plain name party s) ≡ bytes 2 (s .terms .n) = sym (cut-at (widths (s .terms .n)) (plain name party s) 3) ∙ ap (λ (f : List (List ℕ)). getD f 3 []) cut-plain in
-      ap number at ∙ omega (arith, p .most)
+  unfolding lengthIn offset width widths sumFirst fields bytes number
+  lengthIn-plain = ap number (piece-plain lengthField) ∙ omega (arith, p .most)
 
-  pub field-plain : (i : ℕ) → field (plain name party s) i ≡ getD (fields name party s) i []
+  pub field-plain : (f : ℕ) → field (plain name party s) f ≡ getD (fields name party s) f []
   unfolding field
-  field-plain i = ap (λ (n : ℕ). getD (cut (widths n) (plain name party s)) i []) lengthIn-plain ∙ ap (λ (f : List (List ℕ)). getD f i []) cut-plain
+  field-plain f = ap (λ (n : ℕ). part (offset n f) (width n f) (plain name party s)) lengthIn-plain ∙ piece-plain f
 
   array : (i : ℕ) (a : List ℕ) → getD (fields name party s) i [] ≡ bytesOf (take (s .terms .n) a) → Filled (s .terms .n) a → fill (wordsAt (lengthIn (plain name party s)) (field (plain name party s) i)) ≡ a
   array i a e f = ap₂ (λ (n : ℕ) (b : List ℕ). fill (wordsAt n b)) lengthIn-plain (field-plain i ∙ e) ∙ fill-filled (s .terms .n) a f
@@ -190,35 +216,35 @@ module _ (name : List ℕ) (party : ℕ) (s : Set) (named : length name ≡ 16) 
   word : (i x : ℕ) → getD (fields name party s) i [] ≡ le32 x → x < 2 ^ 32 → wordAt (field (plain name party s) i) 0 ≡ x
   word i x e h = ap (λ (b : List ℕ). wordAt b 0) (field-plain i ∙ e ∙ sym (append-nil (le32 x))) ∙ wordAt-le32 x [] h
 
-  corrections : correctionsIn (field (plain name party s) 10) 32 ≡ s .key .corrections
+  corrections : correctionsIn (field (plain name party s) correctionsField) 32 ≡ s .key .corrections
   unfolding fields
   corrections =
-      ap (λ (b : List ℕ). correctionsIn b 32) (field-plain 10)
+      ap (λ (b : List ℕ). correctionsIn b 32) (field-plain correctionsField)
       ∙ corrections-back (s .key .corrections) (p .corrections-fit) 32 (omega (arith, p .levels))
       ∙ take-all 32 (s .key .corrections) (omega (arith, p .levels))
 
   -- what was laid out is read back
   pub setIn-plain : setIn (s .number) (plain name party s) ≡ s
-  unfolding setIn fields
+  unfolding setIn termsIn keyIn fields
   setIn-plain =
-      let code = ap (λ (b : List ℕ). getD b 0 0) (field-plain 2) in
+      let code = ap (λ (b : List ℕ). getD b 0 0) (field-plain codeField) in
       let n = lengthIn-plain in
-      let mask = array 4 (s .mask) refl (p .masked) in
-      let x = array 5 (s .x) refl (p .x-filled) in
-      let y = array 6 (s .y) refl (p .y-filled) in
-      let c = word 7 (s .c) refl (p .c-fits) in
-      let r = word 8 (s .r) refl (p .r-fits) in
-      let seed = ap (wordsAt 8) (field-plain 9) ∙ words-back 8 (s .seed) (p .seed-fits) in
-      let last = word 11 (s .key .last) refl (p .last-fits) in
+      let mask = array maskField (s .mask) refl (p .masked) in
+      let x = array xField (s .x) refl (p .x-filled) in
+      let y = array yField (s .y) refl (p .y-filled) in
+      let c = word cField (s .c) refl (p .c-fits) in
+      let r = word rField (s .r) refl (p .r-fits) in
+      let seed = ap (wordsAt 8) (field-plain seedField) ∙ words-back 8 (s .seed) (p .seed-fits) in
+      let last = word lastField (s .key .last) refl (p .last-fits) in
       λ k. record { number = s .number; terms = record { code = code k; n = n k }; mask = mask k; x = x k; y = y k; c = c k; r = r k; seed = seed k; key = record { corrections = corrections k; last = last k } }
 
   -- and it fits
   pub fits-plain : contentFits name party (blockCount (s .terms .n)) (plain name party s) ≡ true
-  unfolding contentFits setIn lengthFits fields
+  unfolding contentFits termsIn keyIn lengthFits fields
   fits-plain =
-      let named : same (field (plain name party s) 0) name ≡ true = ap (λ (b : List ℕ). same b name) (field-plain 0) ∙ same-refl name in
-      let owned = eq-eqb (getD (field (plain name party s) 1) 0 0) party (ap (λ (b : List ℕ). getD b 0 0) (field-plain 1)) in
-      let code = ap (λ (b : List ℕ). isCode (getD b 0 0)) (field-plain 2) ∙ p .code-fits in
+      let named : same (field (plain name party s) nameField) name ≡ true = ap (λ (b : List ℕ). same b name) (field-plain nameField) ∙ same-refl name in
+      let owned = eq-eqb (getD (field (plain name party s) partyField) 0 0) party (ap (λ (b : List ℕ). getD b 0 0) (field-plain partyField)) in
+      let code = ap (λ (b : List ℕ). isCode (getD b 0 0)) (field-plain codeField) ∙ p .code-fits in
       let long = ap lengthFits lengthIn-plain ∙ ap₂ _&&_ (le-leb 1 (s .terms .n) (p .some)) (le-leb (s .terms .n) mostElements (p .most)) in
       let count = eq-eqb (blockCount (lengthIn (plain name party s))) (blockCount (s .terms .n)) (ap blockCount lengthIn-plain) in
       let flags = ap flagsFit corrections ∙ flags-fit (s .key .corrections) (p .corrections-fit) in
@@ -237,11 +263,11 @@ flag-bytes s p i h = omega (arith, p .corrections-fit i h .2)
 
 -- where content fits, its L does, and as many blocks as that asks for were opened
 pub fits-length : (name : List ℕ) (party count : ℕ) (b : List ℕ) → contentFits name party count b ≡ true → (lengthFits (lengthIn b) ≡ true) × (blockCount (lengthIn b) ≡ count)
-unfolding contentFits setIn
+unfolding contentFits termsIn
 fits-length name party count b h =
-    let named = both (same (field b 0) name) _ h in
-    let owned = both (eqb (getD (field b 1) 0 0) party) _ (named .1) in
-    let coded = both (isCode (getD (field b 2) 0 0)) _ (owned .1) in
+    let named = both (same (field b nameField) name) _ h in
+    let owned = both (eqb (getD (field b partyField) 0 0) party) _ (named .1) in
+    let coded = both (isCode (getD (field b codeField) 0 0)) _ (owned .1) in
     let range = both (lengthFits (lengthIn b)) _ (coded .1) in
     (range .0, eqb-true (blockCount (lengthIn b)) count (both (eqb (blockCount (lengthIn b)) count) _ (range .1) .0))
 

@@ -4,10 +4,10 @@ use mathlib.Core.List.{List, [], _∷_, _++_, map, append-assoc, append-nil}
 use Prim.Native.Nat.{ℕ, zero, suc, _+_, _*_, _-_, _^_, _<_, _≤_}
 use native.Mathlib.Omega.{arith}
 use lib.ListN.{length, getD, take, drop, length-append, length-drop, length-replicate, List·getD-append, replicate, replicate-append-replicate}
-use lib.Seq.{take-append-seam, drop-append-seam, drop-drop, getD-append-add, getD-take, getD-drop, take-at, drop-at, length-take-le}
+use lib.Seq.{take-append-seam, drop-append-add, drop-drop, getD-append-add, getD-take, getD-drop, take-at, drop-at, length-take-le}
 use Rattle.words.specs.List.{tab, tab-ext, tab-getD, flat}
 use Rattle.words.specs.Bytes.{le32, bytesOf, wordAt, wordsAt, length-bytesOf, wordAt-bytesOf}
-use Rattle.content.specs.Content.{part, cut, Words}
+use Rattle.content.specs.Content.{part, sumFirst, Words}
 
 -- within a list the default does not matter
 pub getD-any {ℓ} : {A : Type ℓ} (l : List A) (i : ℕ) (d e : A) → i < length l → getD l i d ≡ getD l i e
@@ -26,37 +26,32 @@ length-part l at n h = length-take-le n (drop at l) (omega (arith, length-drop a
 
 -- ---- pieces
 
--- the sum of the first k widths
-unfoldable pub offset : List ℕ → ℕ → ℕ
-offset ws zero = 0
-offset [] (suc k) = 0
-offset (w ∷ ws) (suc k) = w + offset ws k
-
-pub length-flat : (fs : List (List ℕ)) → length (flat fs) ≡ offset (map length fs) (length fs)
-unfolding flat offset
+pub length-flat : (fs : List (List ℕ)) → length (flat fs) ≡ sumFirst (map length fs) (length fs)
+unfolding flat sumFirst
 length-flat [] = refl
 length-flat (f ∷ fs) = length-append f (flat fs) ∙ ap (λ (k : ℕ). length f + k) (length-flat fs)
+
+pub sumFirst-suc : (ws : List ℕ) (k : ℕ) → sumFirst ws (suc k) ≡ sumFirst ws k + getD ws k 0
+unfolding sumFirst
+sumFirst-suc [] zero = refl
+sumFirst-suc [] (suc k) = refl
+sumFirst-suc (w ∷ ws) zero = omega arith
+sumFirst-suc (w ∷ ws) (suc k) = omega (arith, sumFirst-suc ws k)
 
 pub flat-append : (p q : List (List ℕ)) → flat (p ++ q) ≡ flat p ++ flat q
 unfolding flat
 flat-append [] q = refl
 flat-append (f ∷ p) q = ap (λ (l : List ℕ). f ++ l) (flat-append p q) ∙ sym (append-assoc f (flat p) (flat q))
 
--- what was put together from pieces falls into them again
-pub cut-flat : (ws : List ℕ) (fs : List (List ℕ)) (rest : List ℕ) → map length fs ≡ ws → cut ws (flat fs ++ rest) ≡ fs
-unfolding cut flat
-cut-flat ws fs rest h = subst (λ (v : List ℕ). cut v (flat fs ++ rest) ≡ fs) h (go fs)
-  where
-    go : (fs : List (List ℕ)) → cut (map length fs) (flat fs ++ rest) ≡ fs
-    go [] = refl
-    go (f ∷ fs) = rw (append-assoc f (flat fs) rest, take-append-seam f (flat fs ++ rest), drop-append-seam f (flat fs ++ rest)) (ap (λ (l : List (List ℕ)). f ∷ l) (go fs))
-
--- piece k stands past the first k widths
-pub cut-at : (ws b : List ℕ) (k : ℕ) → getD (cut ws b) k [] ≡ part (offset ws k) (getD ws k 0) b
-unfolding cut part offset
-cut-at [] b k = refl
-cut-at (w ∷ ws) b zero = refl
-cut-at (w ∷ ws) b (suc k) = cut-at ws (drop w b) k ∙ ap (take (getD ws k 0)) (drop-drop (offset ws k) w b)
+-- piece k of what was put together from pieces stands past the first k
+pub piece-at : (fs : List (List ℕ)) (rest : List ℕ) (k : ℕ)
+    → part (sumFirst (map length fs) k) (getD (map length fs) k 0) (flat fs ++ rest) ≡ getD fs k []
+unfolding part flat sumFirst
+piece-at [] rest k = refl
+piece-at (f ∷ fs) rest zero = rw (append-assoc f (flat fs) rest) (take-append-seam f (flat fs ++ rest))
+piece-at (f ∷ fs) rest (suc k) =
+    let past : ℕ = sumFirst (map length fs) k in
+    rw (append-assoc f (flat fs) rest, drop-append-add f (flat fs ++ rest) past) (piece-at fs rest k)
 
 -- piece i of those that all have w elements
 pub part-flat : (w : ℕ) (fs : List (List ℕ)) (i : ℕ) → ((k : ℕ) → k < length fs → length (getD fs k []) ≡ w) → i < length fs → part (w * i) w (flat fs) ≡ getD fs i []

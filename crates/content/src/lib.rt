@@ -2,7 +2,8 @@
 // writes its plain bytes and `reading` reads them.
 ghost use mathlib.Core.Path.{_≡_};
 ghost use Prim.Native.Nat.{_≤_};
-ghost use Rattle.content.specs.Content.{blockCount, noCorrection, noSet};
+ghost use Rattle.content.specs.Content.{xField, yField, cField, rField, seedField, correctionsField, lastField};
+ghost use Rattle.content.specs.Content.{offset, size, blockCount, noCorrection, noSet};
 use measure::MOST_ELEMENTS;
 use measure::Terms;
 use node::Correction;
@@ -69,10 +70,94 @@ pub fn no_set() -> Set
     }
 }
 
+// ---- where the fields of plain content stand, each past the one before it. Vectors have n elements,
+// and n is one that two bytes can hold.
+
+// Name, party, measure code and L: the bytes before the vectors, of which the own mask is the first.
+pub const PARTY_AT: usize = 16;
+
+pub const CODE_AT: usize = PARTY_AT + 1;
+
+pub const LENGTH_AT: usize = CODE_AT + 1;
+
+pub const HEAD: usize = LENGTH_AT + 2;
+
+// c, r, the key seed, the corrections and the final word: the bytes past the vectors, counted from c.
+pub const R_IN_TAIL: usize = 4;
+
+pub const SEED_IN_TAIL: usize = R_IN_TAIL + 4;
+
+pub const CORRECTIONS_IN_TAIL: usize = SEED_IN_TAIL + 32;
+
+pub const LAST_IN_TAIL: usize = CORRECTIONS_IN_TAIL + 32 * 37;
+
+pub const TAIL: usize = LAST_IN_TAIL + 4;
+
+// The share of X's mask.
+pub fn x_at(n: usize) -> usize
+    requires { ⌜ n ≤ 65535 ⌝ }
+    ensures { λ r. ⌜ r ≡ offset n xField ⌝ }
+{
+    HEAD + 4 * n
+}
+
+// The share of Y's mask.
+pub fn y_at(n: usize) -> usize
+    requires { ⌜ n ≤ 65535 ⌝ }
+    ensures { λ r. ⌜ r ≡ offset n yField ⌝ }
+{
+    x_at(n) + 4 * n
+}
+
+pub fn c_at(n: usize) -> usize
+    requires { ⌜ n ≤ 65535 ⌝ }
+    ensures { λ r. ⌜ r ≡ offset n cField ⌝ }
+{
+    y_at(n) + 4 * n
+}
+
+pub fn r_at(n: usize) -> usize
+    requires { ⌜ n ≤ 65535 ⌝ }
+    ensures { λ r. ⌜ r ≡ offset n rField ⌝ }
+{
+    c_at(n) + R_IN_TAIL
+}
+
+// The key seed.
+pub fn seed_at(n: usize) -> usize
+    requires { ⌜ n ≤ 65535 ⌝ }
+    ensures { λ r. ⌜ r ≡ offset n seedField ⌝ }
+{
+    c_at(n) + SEED_IN_TAIL
+}
+
+pub fn corrections_at(n: usize) -> usize
+    requires { ⌜ n ≤ 65535 ⌝ }
+    ensures { λ r. ⌜ r ≡ offset n correctionsField ⌝ }
+{
+    c_at(n) + CORRECTIONS_IN_TAIL
+}
+
+// The final word.
+pub fn last_at(n: usize) -> usize
+    requires { ⌜ n ≤ 65535 ⌝ }
+    ensures { λ r. ⌜ r ≡ offset n lastField ⌝ }
+{
+    c_at(n) + LAST_IN_TAIL
+}
+
+// The bytes of all fields.
+pub fn size_of(n: usize) -> usize
+    requires { ⌜ n ≤ 65535 ⌝ }
+    ensures { λ r. ⌜ r ≡ size n ⌝ }
+{
+    c_at(n) + TAIL
+}
+
 // How many blocks the content of a set of length n fills.
 pub fn blocks_of(n: usize) -> usize
     requires { ⌜ n ≤ 65535 ⌝ }
     ensures { λ r. ⌜ r ≡ blockCount n ⌝ }
 {
-    (1248 + 12 * n + TEXT - 1) / TEXT
+    (size_of(n) + TEXT - 1) / TEXT
 }

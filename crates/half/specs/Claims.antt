@@ -14,9 +14,9 @@ use Rattle.words.specs.Numbers.{number}
 use Rattle.messages.specs.Messages.{unless}
 use Rattle.messages.specs.Laws.{passed}
 use Rattle.content.specs.declared.Set.{Set}
-use Rattle.content.specs.Content.{part, blockCount, plain, lengthIn, contentFits, Proper}
+use Rattle.content.specs.Content.{textBytes, part, blockCount, plain, lengthIn, contentFits, Proper}
 use Rattle.content.specs.Pieces.{part-is, length-part}
-use Rattle.content.specs.Laws.{fits-length, blocks-bounds, length-plain, lengthIn-plain, lengthIn-take, setIn-plain, fits-plain}
+use Rattle.content.specs.Laws.{head-is, fits-length, blocks-bounds, length-plain, lengthIn-plain, lengthIn-take, setIn-plain, fits-plain}
 use Rattle.half.specs.Half.{block, firstBlocks, half, blockAt, setNumber, blockFits, firstFit, openedBlocks, wholeBlocks, whyNotOpened, whyNot, openedSet}
 use Rattle.half.specs.Laws.{length-blocks, block-at, set-of-block, index-of-block, are-fit, are-opened}
 
@@ -182,7 +182,8 @@ module _ (key name : List ℕ) (party : ℕ) (named : length name ≡ 16) where
           let fewer : k ≤ blockCount (deal .terms .n) = omega (arith, all-its (k - 1) last .0) in
           let enough : 484 * k ≤ length text = omega (arith, length-plain name party deal named proper) in
           let opened : openedBlocks key h k ≡ take (484 * k) text = are-opened key (deal .number) text h k enough (λ i l. all-its i l .1) in
-          let n : lengthIn (openedBlocks key h k) ≡ deal .terms .n = ap lengthIn opened ∙ lengthIn-take (484 * k) text (omega (arith, t .three)) ∙ lengthIn-plain name party deal named proper in
+          let n : lengthIn (openedBlocks key h k) ≡ deal .terms .n =
+          ap lengthIn opened ∙ lengthIn-take (textBytes * k) text (omega (arith, head-is 0, t .three)) ∙ lengthIn-plain name party deal named proper in
           let e = fits-length name party k (openedBlocks key h k) (t .content) .1 in
           sym (sym (ap blockCount n) ∙ e)
 

@@ -14,7 +14,8 @@ use Rattle.measure.specs.Measure.{isCode}
 use Rattle.measure.specs.Laws.{code-lt}
 use Rattle.messages.specs.Laws.{passed, taken}
 use Rattle.content.specs.declared.Set.{Set}
-use Rattle.content.specs.Content.{mostElements, size, blockCount, field, setIn, noSet, lengthFits, flagsFit, zeros, contentFits, FlagBytes, Proper}
+use Rattle.content.specs.Content.{mostElements, nameField, partyField, size, blockCount, field, termsIn, keyIn, setIn, noSet}
+use Rattle.content.specs.Content.{lengthFits, flagsFit, zeros, contentFits, FlagBytes, Proper}
 use Rattle.dealing.specs.Dealing.{Deal, dealtSet}
 use Rattle.dealing.specs.Laws.{proper}
 use Rattle.opening.specs.declared.Examined.{Examined}
@@ -38,13 +39,13 @@ flag-bytes (c ∷ cs) h zero l = omega (arith, ltb-true (c .flags) 4 (both (ltb 
 flag-bytes (c ∷ cs) h (suc i) l = flag-bytes cs (both (ltb (c .flags) 4) (flagsFit cs) h .1) i (omega arith)
 
 fits-laid : (name : List ℕ) (party count number : ℕ) (b : List ℕ) → contentFits name party count b ≡ true → Laid (setIn number b)
-unfolding contentFits setIn lengthFits
+unfolding contentFits setIn termsIn keyIn lengthFits
 fits-laid name party count number b h =
     let s : Set = setIn number b in
     let n = s .terms .n in
     let flags = flagsFit (s .key .corrections) in
-    let t = tests (same (field b 0) name) (eqb (getD (field b 1) 0 0) party) (isCode (s .terms .code)) (lengthFits n)
-    (eqb (blockCount n) count) flags (zeros (drop (size n) b)) h in
+    let t = tests (same (field b nameField) name) (eqb (getD (field b partyField) 0 0) party) (isCode (s .terms .code))
+    (lengthFits n) (eqb (blockCount n) count) flags (zeros (drop (size n) b)) h in
     let long = both (leb 1 n) (leb n mostElements) (t .1) .1 in
     (omega (arith, code-lt (s .terms .code) (t .0)), leb-true n mostElements long, flag-bytes (s .key .corrections) (t .2))
   where

@@ -13,8 +13,9 @@ use Rattle.words.specs.Bytes.{le32, bytesOf, length-bytesOf}
 use Rattle.node.specs.declared.Correction.{Correction}
 use Rattle.node.specs.Node.{none}
 use Rattle.content.specs.declared.Set.{Set}
-use Rattle.content.specs.Content.{mostElements, roomBytes, correctionBytes, fields, size, noCorrection, FlagBytes}
-use Rattle.content.specs.Pieces.{getD-any, flat-append}
+use Rattle.content.specs.Content.{mostElements, roomBytes, correctionBytes, noCorrection, FlagBytes}
+use Rattle.content.specs.Content.{xField, yField, cField, fields, widths, sumFirst, offset, size}
+use Rattle.content.specs.Pieces.{getD-any, length-flat, flat-append}
 
 -- one piece more
 pub next : (p q s t u : List ℕ) (at : ℕ) → length p ≡ at → t ≡ over 0 p s → u ≡ over at q t → u ≡ over 0 (p ++ q) s
@@ -24,9 +25,9 @@ next p q s t u at l e f = over-next p q s t u 0 at l e (rw (zero-add at) f)
 pub whole : (p s u : List ℕ) (n : ℕ) → length p ≡ n → length s ≡ n → u ≡ over 0 p s → u ≡ p
 whole p s u n l k e = e ∙ over-all p s (l ∙ sym k)
 
-pub head-law : (name z h u : List ℕ) (party code n : ℕ) → length name ≡ 16 → length z ≡ 20 → h ≡ over 0 name z → u ≡ over 16 (party ∷ code ∷ bytes 2 n) h
-    → u ≡ name ++ (party ∷ code ∷ bytes 2 n)
-unfolding bytes
+pub head-law : (name z h u : List ℕ) (party code n : ℕ) → length name ≡ 16 → length z ≡ 20 → h ≡ over 0 name z
+    → u ≡ over 16 (party ∷ code ∷ bytes 2 n) h → u ≡ flat (name ∷ (party ∷ []) ∷ (code ∷ []) ∷ bytes 2 n ∷ [])
+unfolding bytes flat
 head-law name z h u party code n l k e f =
     let q : List ℕ = party ∷ code ∷ bytes 2 n in
     whole (name ++ q) z u 20 (length-append name q ∙ omega arith) k (next name q z h u 16 l e f)
@@ -66,58 +67,84 @@ front-next cs i at s t u b h l e k is f =
 pub front-all : (cs : List Correction) (i : ℕ) → length cs ≡ i → front cs i ≡ flat (map correctionBytes cs)
 front-all cs i h = ap (λ (l : List Correction). flat (map correctionBytes l)) (take-all i cs (omega arith))
 
--- ---- five pieces
+-- ---- pieces one after the other
 
-pub five : (a b c d e z t₁ t₂ t₃ t₄ u : List ℕ) (o₁ o₂ o₃ o₄ : ℕ) → length a ≡ o₁ → o₁ + length b ≡ o₂ → o₂ + length c ≡ o₃ → o₃ + length d ≡ o₄
-    → t₁ ≡ over 0 a z → t₂ ≡ over o₁ b t₁ → t₃ ≡ over o₂ c t₂ → t₄ ≡ over o₃ d t₃ → u ≡ over o₄ e t₄ → u ≡ over 0 (a ++ (b ++ (c ++ (d ++ e)))) z
-five a b c d e z t₁ t₂ t₃ t₄ u o₁ o₂ o₃ o₄ l₁ l₂ l₃ l₄ e₁ e₂ e₃ e₄ e₅ =
-    let two = a ++ b in
-    let three = two ++ c in
-    let four = three ++ d in
-    let k₂ : length two ≡ o₂ = length-append a b ∙ omega arith in
-    let k₃ : length three ≡ o₃ = length-append two c ∙ omega arith in
-    let k₄ : length four ≡ o₄ = length-append three d ∙ omega arith in
-    next four e z t₄ u o₄ k₄ (next three d z t₃ t₄ o₃ k₃ (next two c z t₂ t₃ o₂ k₂ (next a b z t₁ t₂ o₁ l₁ e₁ e₂) e₃) e₄) e₅
-    ∙ ap (λ (l : List ℕ). over 0 l z) (append-assoc three d e ∙ append-assoc two c (d ++ e) ∙ append-assoc a b (c ++ (d ++ e)))
+-- these stand over the start of z
+abbrev pub Stand : List (List ℕ) → List ℕ → List ℕ → Type 0
+Stand ps z t = t ≡ over 0 (flat ps) z
 
-pub tail-law : (c r last : ℕ) (seed cs z t₁ t₂ t₃ t₄ u : List ℕ) → length seed ≡ 8 → length cs ≡ 1184 → length z ≡ 1228
-    → t₁ ≡ over 0 (le32 c) z → t₂ ≡ over 4 (le32 r) t₁ → t₃ ≡ over 8 (bytesOf seed) t₂ → t₄ ≡ over 40 cs t₃ → u ≡ over 1224 (le32 last) t₄
-    → u ≡ le32 c ++ (le32 r ++ (bytesOf seed ++ (cs ++ le32 last)))
-unfolding le32
+stand-one : (p z t : List ℕ) → t ≡ over 0 p z → Stand (p ∷ []) z t
+unfolding flat
+stand-one p z t e = e ∙ ap (λ (l : List ℕ). over 0 l z) (sym (append-nil p))
+
+-- one more, past their end
+stand-next : (ps : List (List ℕ)) (q z t u : List ℕ) (at : ℕ) → sumFirst (map length ps) (length ps) ≡ at → Stand ps z t
+    → u ≡ over at q t → Stand (ps ++ (q ∷ [])) z u
+unfolding flat
+stand-next ps q z t u at l e f =
+    next (flat ps) q z t u at (length-flat ps ∙ l) e f
+    ∙ ap (λ (x : List ℕ). over 0 x z) (ap (λ (x : List ℕ). flat ps ++ x) (sym (append-nil q)) ∙ sym (flat-append ps (q ∷ [])))
+
+-- all that follows the vectors
+pub tail-law : (c r last : ℕ) (seed cs z t₁ t₂ t₃ t₄ u : List ℕ) → length seed ≡ 8 → length cs ≡ 32 * 37 → length z ≡ 1228
+    → t₁ ≡ over 0 (le32 c) z → t₂ ≡ over 4 (le32 r) t₁ → t₃ ≡ over 8 (bytesOf seed) t₂ → t₄ ≡ over 40 cs t₃
+    → u ≡ over 1224 (le32 last) t₄ → u ≡ flat (le32 c ∷ le32 r ∷ bytesOf seed ∷ cs ∷ le32 last ∷ [])
+unfolding le32 sumFirst
 tail-law c r last seed cs z t₁ t₂ t₃ t₄ u ls lc lz e₁ e₂ e₃ e₄ e₅ =
-    let k : length (bytesOf seed) ≡ 32 = length-bytesOf seed ∙ omega arith in
-    let m = length-append (bytesOf seed) (cs ++ le32 last) in
-    let n = length-append cs (le32 last) in
-    whole (le32 c ++ (le32 r ++ (bytesOf seed ++ (cs ++ le32 last)))) z u 1228 (omega arith) lz
-    (five (le32 c) (le32 r) (bytesOf seed) cs (le32 last) z t₁ t₂ t₃ t₄ u 4 8 40 1224 refl refl (omega arith) (omega arith) e₁ e₂ e₃ e₄ e₅)
+    let s = bytesOf seed in
+    let k : length s ≡ 32 = length-bytesOf seed ∙ omega arith in
+    let p₁ = stand-one (le32 c) z t₁ e₁ in
+    let p₂ = stand-next (le32 c ∷ []) (le32 r) z t₁ t₂ 4 refl p₁ e₂ in
+    let p₃ = stand-next (le32 c ∷ le32 r ∷ []) s z t₂ t₃ 8 refl p₂ e₃ in
+    let p₄ = stand-next (le32 c ∷ le32 r ∷ s ∷ []) cs z t₃ t₄ 40 (omega arith) p₃ e₄ in
+    let p₅ = stand-next (le32 c ∷ le32 r ∷ s ∷ cs ∷ []) (le32 last) z t₄ u 1224 (omega arith) p₄ e₅ in
+    let all = length-flat (le32 c ∷ le32 r ∷ s ∷ cs ∷ le32 last ∷ []) in
+    whole (flat (le32 c ∷ le32 r ∷ s ∷ cs ∷ le32 last ∷ [])) z u 1228 (omega arith) lz p₅
 
-pub joined-law : (n : ℕ) (h mask x y t z t₁ t₂ t₃ t₄ u : List ℕ) → n ≤ mostElements → length h ≡ 20 → length mask ≡ mostElements → length x ≡ mostElements → length y ≡ mostElements → length t ≡ 1228 → z ≡ replicate roomBytes 0
-    → t₁ ≡ over 0 h z → t₂ ≡ over 20 (bytesOf (take n mask)) t₁ → t₃ ≡ over (20 + 4 * n) (bytesOf (take n x)) t₂ → t₄ ≡ over (20 + 8 * n) (bytesOf (take n y)) t₃ → u ≡ over (20 + 12 * n) t t₄
-    → u ≡ h ++ (bytesOf (take n mask) ++ (bytesOf (take n x) ++ (bytesOf (take n y) ++ t))) ++ replicate (roomBytes - size n) 0
-unfolding size
-joined-law n h mask x y t z t₁ t₂ t₃ t₄ u le lh lm lx ly lt ez e₁ e₂ e₃ e₄ e₅ =
-    let m = bytesOf (take n mask) in
-    let v = bytesOf (take n x) in
-    let w = bytesOf (take n y) in
-    let km : length m ≡ 4 * n = vector mask lm in
-    let kx : length v ≡ 4 * n = vector x lx in
-    let ky : length w ≡ 4 * n = vector y ly in
-    let all = length-append h (m ++ (v ++ (w ++ t))) ∙ ap (λ (k : ℕ). length h + k) (length-append m (v ++ (w ++ t)) ∙ ap (λ (k : ℕ). length m + k) (length-append v (w ++ t) ∙ ap (λ (k : ℕ). length v + k) (length-append w t))) in
-    five h m v w t z t₁ t₂ t₃ t₄ u 20 (20 + 4 * n) (20 + 8 * n) (20 + 12 * n) lh (omega arith) (omega arith) (omega arith) e₁ e₂ e₃ e₄ e₅
-    ∙ over-zeros (h ++ (m ++ (v ++ (w ++ t)))) z (1248 + 12 * n) roomBytes (omega arith) (omega arith) ez
-  where
-    vector : (a : List ℕ) → length a ≡ mostElements → length (bytesOf (take n a)) ≡ 4 * n
-    vector a l = length-bytesOf (take n a) ∙ ap (λ (k : ℕ). 4 * k) (length-take-le n a (omega arith))
+-- the three vectors between a head and a tail, each where its offset says
+module _ (n : ℕ) (h mask x y t z t₁ t₂ t₃ t₄ u : List ℕ) (le : n ≤ mostElements) (lh : length h ≡ 20)
+    (lm : length mask ≡ mostElements) (lx : length x ≡ mostElements) (ly : length y ≡ mostElements) (lt : length t ≡ 1228)
+    (ez : z ≡ replicate roomBytes 0) where
+  abbrev own : List ℕ
+  own = bytesOf (take n mask)
+
+  abbrev of-x : List ℕ
+  of-x = bytesOf (take n x)
+
+  abbrev of-y : List ℕ
+  of-y = bytesOf (take n y)
+
+  vector : (a : List ℕ) → length a ≡ mostElements → length (bytesOf (take n a)) ≡ 4 * n
+  vector a l = length-bytesOf (take n a) ∙ ap (λ (k : ℕ). 4 * k) (length-take-le n a (omega arith))
+
+  pub joined-law : (xAt yAt cAt : ℕ) → xAt ≡ offset n xField → yAt ≡ offset n yField → cAt ≡ offset n cField
+      → t₁ ≡ over 0 h z → t₂ ≡ over 20 own t₁ → t₃ ≡ over xAt of-x t₂ → t₄ ≡ over yAt of-y t₃ → u ≡ over cAt t t₄
+      → u ≡ flat (h ∷ own ∷ of-x ∷ of-y ∷ t ∷ []) ++ replicate (roomBytes - size n) 0
+  unfolding offset size widths sumFirst
+  joined-law xAt yAt cAt ex ey ec e₁ e₂ e₃ e₄ e₅ =
+      let km = vector mask lm in
+      let kx = vector x lx in
+      let ky = vector y ly in
+      let p₁ = stand-one h z t₁ e₁ in
+      let p₂ = stand-next (h ∷ []) own z t₁ t₂ 20 (omega arith) p₁ e₂ in
+      let p₃ = stand-next (h ∷ own ∷ []) of-x z t₂ t₃ xAt (omega arith) p₂ e₃ in
+      let p₄ = stand-next (h ∷ own ∷ of-x ∷ []) of-y z t₃ t₄ yAt (omega arith) p₃ e₄ in
+      let p₅ = stand-next (h ∷ own ∷ of-x ∷ of-y ∷ []) t z t₄ u cAt (omega arith) p₄ e₅ in
+      let all = length-flat (h ∷ own ∷ of-x ∷ of-y ∷ t ∷ []) in
+      p₅ ∙ over-zeros (flat (h ∷ own ∷ of-x ∷ of-y ∷ t ∷ [])) z (size n) roomBytes (omega arith) (omega arith) ez
 
 -- all fields of a set
-pub fields-law : (name : List ℕ) (party : ℕ) (s : Set) (h t u rest : List ℕ) → h ≡ name ++ (party ∷ s .terms .code ∷ bytes 2 (s .terms .n))
-    → t ≡ le32 (s .c) ++ (le32 (s .r) ++ (bytesOf (s .seed) ++ (flat (map correctionBytes (s .key .corrections)) ++ le32 (s .key .last))))
-    → u ≡ h ++ (bytesOf (take (s .terms .n) (s .mask)) ++ (bytesOf (take (s .terms .n) (s .x)) ++ (bytesOf (take (s .terms .n) (s .y)) ++ t))) ++ rest
+pub fields-law : (name : List ℕ) (party : ℕ) (s : Set) (h t u rest : List ℕ)
+    → h ≡ flat (name ∷ (party ∷ []) ∷ (s .terms .code ∷ []) ∷ bytes 2 (s .terms .n) ∷ [])
+    → t ≡ flat (le32 (s .c) ∷ le32 (s .r) ∷ bytesOf (s .seed) ∷ flat (map correctionBytes (s .key .corrections)) ∷ le32 (s .key .last) ∷ [])
+    → u ≡ flat (h ∷ bytesOf (take (s .terms .n) (s .mask)) ∷ bytesOf (take (s .terms .n) (s .x)) ∷ bytesOf (take (s .terms .n) (s .y)) ∷ t ∷ []) ++ rest
     → u ≡ flat (fields name party s) ++ rest
 unfolding fields flat
 fields-law name party s h t u rest eh et eu =
-    let front : List ℕ = party ∷ s .terms .code ∷ bytes 2 (s .terms .n) in
-    let from : List ℕ → List ℕ = λ t. bytesOf (take (s .terms .n) (s .mask)) ++ (bytesOf (take (s .terms .n) (s .x)) ++ (bytesOf (take (s .terms .n) (s .y)) ++ t)) in
-    let to : List ℕ → List ℕ = λ l. le32 (s .c) ++ (le32 (s .r) ++ (bytesOf (s .seed) ++ (flat (map correctionBytes (s .key .corrections)) ++ l))) in
-    let last = le32 (s .key .last) in
-    eu ∙ ap₂ (λ (a b : List ℕ). a ++ from b ++ rest) eh et ∙ ap (λ (l : List ℕ). l ++ rest) (append-assoc name front (from (to last)) ∙ ap (λ (l : List ℕ). name ++ (front ++ from (to l))) (sym (append-nil last)))
+    let n = s .terms .n in
+    let before : List (List ℕ) = name ∷ (party ∷ []) ∷ (s .terms .code ∷ []) ∷ bytes 2 n ∷ [] in
+    let vectors : List ℕ → List ℕ = λ l. bytesOf (take n (s .mask)) ++ (bytesOf (take n (s .x)) ++ (bytesOf (take n (s .y)) ++ l)) in
+    let past : List (List ℕ) = le32 (s .c) ∷ le32 (s .r) ∷ bytesOf (s .seed) ∷ flat (map correctionBytes (s .key .corrections)) ∷ le32 (s .key .last) ∷ [] in
+    eu ∙ ap₂ (λ (a b : List ℕ). (a ++ vectors (b ++ [])) ++ rest) eh et
+    ∙ ap (λ (l : List ℕ). (flat before ++ vectors l) ++ rest) (append-nil (flat past))
+    ∙ ap (λ (l : List ℕ). l ++ rest) (sym (flat-append before (bytesOf (take n (s .mask)) ∷ bytesOf (take n (s .x)) ∷ bytesOf (take n (s .y)) ∷ past)))

@@ -7,23 +7,32 @@ ghost use Rattle.words.specs.Numbers.{bytes};
 ghost use Rattle.words.specs.List.{over, flat};
 ghost use Rattle.words.specs.Bytes.{le32, bytesOf};
 ghost use Rattle.content.specs.Content.{mostElements, roomBytes, correctionBytes, fields, size, FlagBytes};
+use content::CODE_AT;
+use content::CORRECTIONS_IN_TAIL;
+use content::HEAD;
+use content::LAST_IN_TAIL;
+use content::LENGTH_AT;
+use content::PARTY_AT;
+use content::R_IN_TAIL;
 use content::ROOM;
+use content::SEED_IN_TAIL;
 use content::Set;
+use content::TAIL;
 use measure::MOST_ELEMENTS;
 use measure::Terms;
 use node::Correction;
 
 // Name, party, measure code and L.
-fn head(name: [u8; 16], party: u32, terms: Terms) -> [u8; 20]
+fn head(name: [u8; 16], party: u32, terms: Terms) -> [u8; HEAD]
     requires { ⌜ (party < 256) × (terms .code < 256) ⌝ }
-    ensures { λ r. ⌜ r ≡ name ++ (party ∷ terms .code ∷ bytes 2 (terms .n)) ⌝ }
+    ensures { λ r. ⌜ r ≡ flat (name ∷ (party ∷ []) ∷ (terms .code ∷ []) ∷ bytes 2 (terms .n) ∷ []) ⌝ }
 {
-    let mut h = [0u8; 20];
+    let mut h = [0u8; HEAD];
     slices::copy(&mut h, 0, &name);
-    h[16] = party as u8;
-    h[17] = terms.code as u8;
-    h[18] = (terms.n % 256) as u8;
-    h[19] = (terms.n / 256 % 256) as u8;
+    h[PARTY_AT] = party as u8;
+    h[CODE_AT] = terms.code as u8;
+    h[LENGTH_AT] = (terms.n % 256) as u8;
+    h[LENGTH_AT + 1] = (terms.n / 256 % 256) as u8;
     h
 }
 
@@ -57,16 +66,16 @@ fn store_corrections(out: &mut [u8], at: usize, cs: [Correction; 32])
 }
 
 // What follows the three vectors: c, r, the key seed, the corrections and the final word.
-fn tail(c: u32, r: u32, seed: [u32; 8], cs: [Correction; 32], last: u32) -> [u8; 1228]
+fn tail(c: u32, r: u32, seed: [u32; 8], cs: [Correction; 32], last: u32) -> [u8; TAIL]
     requires { ⌜ FlagBytes cs ⌝ }
-    ensures { λ t. ⌜ t ≡ le32 c ++ (le32 r ++ (bytesOf seed ++ (flat (map correctionBytes cs) ++ le32 last))) ⌝ }
+    ensures { λ t. ⌜ t ≡ flat (le32 c ∷ le32 r ∷ bytesOf seed ∷ flat (map correctionBytes cs) ∷ le32 last ∷ []) ⌝ }
 {
-    let mut t = [0u8; 1228];
+    let mut t = [0u8; TAIL];
     slices::store(&mut t, 0, c);
-    slices::store(&mut t, 4, r);
-    slices::store_all(&mut t, 8, &seed);
-    store_corrections(&mut t, 40, cs);
-    slices::store(&mut t, 1224, last);
+    slices::store(&mut t, R_IN_TAIL, r);
+    slices::store_all(&mut t, SEED_IN_TAIL, &seed);
+    store_corrections(&mut t, CORRECTIONS_IN_TAIL, cs);
+    slices::store(&mut t, LAST_IN_TAIL, last);
     t
 }
 
@@ -80,22 +89,23 @@ fn store_first(out: &mut [u8], at: usize, n: usize, w: [u32; MOST_ELEMENTS])
 
 // A head, the first n words of three vectors and a tail, and zeros up to the most blocks.
 fn joined(
-    h: [u8; 20],
+    h: [u8; HEAD],
     n: usize,
     mask: [u32; MOST_ELEMENTS],
     x: [u32; MOST_ELEMENTS],
     y: [u32; MOST_ELEMENTS],
-    t: [u8; 1228],
+    t: [u8; TAIL],
 ) -> [u8; ROOM]
     requires { ⌜ n ≤ mostElements ⌝ }
-    ensures { λ r. ⌜ r ≡ h ++ (bytesOf (take n mask) ++ (bytesOf (take n x) ++ (bytesOf (take n y) ++ t))) ++ replicate (roomBytes - size n) 0 ⌝ }
+    ensures { λ r. ⌜ r ≡ flat (h ∷ bytesOf (take n mask) ∷ bytesOf (take n x) ∷ bytesOf (take n y) ∷ t ∷ [])
+        ++ replicate (roomBytes - size n) 0 ⌝ }
 {
     let mut out = [0u8; ROOM];
     slices::copy(&mut out, 0, &h);
-    store_first(&mut out, 20, n, mask);
-    store_first(&mut out, 20 + 4 * n, n, x);
-    store_first(&mut out, 20 + 8 * n, n, y);
-    slices::copy(&mut out, 20 + 12 * n, &t);
+    store_first(&mut out, HEAD, n, mask);
+    store_first(&mut out, content::x_at(n), n, x);
+    store_first(&mut out, content::y_at(n), n, y);
+    slices::copy(&mut out, content::c_at(n), &t);
     out
 }
 

@@ -12,8 +12,10 @@ use lib.Seq.{take-suc, take-all}
 use Rattle.words.specs.List.{same}
 use Rattle.node.specs.declared.Correction.{Correction}
 use Rattle.measure.specs.Measure.{isCode}
-use Rattle.content.specs.Content.{mostElements, widths, size, blockCount, lengthIn, field, correctionIn, correctionsIn, setIn, lengthFits, flagsFit, zeros, contentFits}
-use Rattle.content.specs.Pieces.{offset, getD-part}
+use Rattle.measure.specs.declared.Terms.{Terms}
+use Rattle.content.specs.Content.{mostElements, nameField, partyField, correctionsField, lastField, widths, sumFirst, offset, width, size}
+use Rattle.content.specs.Content.{blockCount, lengthIn, field, termsIn, correctionIn, correctionsIn, keyIn, lengthFits, flagsFit, zeros, contentFits}
+use Rattle.content.specs.Pieces.{getD-part}
 use Rattle.reading.proofs.Read.{between, byte-at}
 
 flagsFit-snoc : (l : List Correction) (c : Correction) → flagsFit (l ++ (c ∷ [])) ≡ flagsFit l && ltb (c .flags) 4
@@ -46,12 +48,32 @@ refused x y z e = sym (ap (λ (b : Bool). x && (y && (z && b))) e ∙ ap (λ (b 
 regroup : (x y z f w : Bool) → (((x && y) && z) && f) && w ≡ x && (y && (z && (f && w)))
 regroup x y z f w = and-assoc (x && y && z) f w ∙ and-assoc (x && y) z (f && w) ∙ and-assoc x y (z && (f && w))
 
-module _ (name : List ℕ) (party count : ℕ) (b : List ℕ) (n : ℕ) (is : n ≡ lengthIn b) where
+module _ (name : List ℕ) (party count : ℕ) (b : List ℕ) (terms : Terms) (et : terms ≡ termsIn b) where
+  abbrev n : ℕ
+  n = terms .n
+
+  abbrev named? : Bool
+  named? = same (field b nameField) name
+
+  abbrev owned? : Bool
+  owned? = eqb (getD (field b partyField) 0 0) party
+
+  abbrev flags? : Bool
+  flags? = flagsFit (keyIn b .corrections)
+
+  -- the test, at these terms
+  fits-at : contentFits name party count b
+      ≡ named? && (owned? && (isCode (terms .code) && (lengthFits n && (eqb (blockCount n) count && (flags? && zeros (drop (size n) b))))))
+  unfolding contentFits
+  fits-at =
+      ap (λ (t : Terms). named? && (owned? && (isCode (t .code) && (lengthFits (t .n)
+      && (eqb (blockCount (t .n)) count && (flags? && zeros (drop (size (t .n)) b))))))) (sym et)
+
   out-of-range : lengthFits n ≡ false → false ≡ contentFits name party count b
-  unfolding contentFits setIn
   out-of-range e =
-      refused (same (field b 0) name) (eqb (getD (field b 1) 0 0) party) (isCode (getD (field b 2) 0 0))
-      (ap (λ (l : Bool). l && (eqb (blockCount (lengthIn b)) count && (flagsFit (correctionsIn (field b 10) 32) && zeros (drop (size (lengthIn b)) b)))) (ap lengthFits (sym is) ∙ e))
+      refused named? owned? (isCode (terms .code))
+      (ap (λ (l : Bool). l && (eqb (blockCount n) count && (flags? && zeros (drop (size n) b)))) e)
+      ∙ sym fits-at
 
   pub too-short : n < 1 → false ≡ contentFits name party count b
   unfolding lengthFits
@@ -63,26 +85,28 @@ module _ (name : List ℕ) (party count : ℕ) (b : List ℕ) (n : ℕ) (is : n 
 
   -- L asks for another number of blocks
   pub other-count : (k : ℕ) → k ≡ blockCount n → (k ≡ count → ⊥) → false ≡ contentFits name party count b
-  unfolding contentFits setIn
   other-count k e h =
-      refused (same (field b 0) name) (eqb (getD (field b 1) 0 0) party) (isCode (getD (field b 2) 0 0))
-      (ap (λ (l : Bool). lengthFits (lengthIn b) && (l && (flagsFit (correctionsIn (field b 10) 32) && zeros (drop (size (lengthIn b)) b))))
-      (ap (λ (m : ℕ). eqb m count) (ap blockCount (sym is) ∙ sym e) ∙ ne-eqb k count h)
-      ∙ and-false (lengthFits (lengthIn b)))
+      refused named? owned? (isCode (terms .code))
+      (ap (λ (l : Bool). lengthFits n && (l && (flags? && zeros (drop (size n) b)))) (ap (λ (m : ℕ). eqb m count) (sym e) ∙ ne-eqb k count h)
+      ∙ and-false (lengthFits n))
+      ∙ sym fits-at
 
-  pub fits-law : (k owner code : ℕ) (named coded flags filled : Bool) → 1 ≤ n → n ≤ mostElements → k ≡ blockCount n → k ≡ count
-      → named ≡ same (take 16 b) name → owner ≡ getD b 16 0 → code ≡ getD b 17 0 → coded ≡ isCode code
-      → flags ≡ flagsFit (correctionsIn (take (1244 + 12 * n - (60 + 12 * n)) (drop (60 + 12 * n) b)) 32) → filled ≡ zeros (take (length b - (1248 + 12 * n)) (drop (1248 + 12 * n) b))
+  -- all that is tested where L and the count fit, each where its field stands
+  pub fits-law : (k owner csAt lastAt end : ℕ) (named coded flags filled : Bool) → 1 ≤ n → n ≤ mostElements → k ≡ blockCount n → k ≡ count
+      → csAt ≡ offset n correctionsField → lastAt ≡ offset n lastField → end ≡ size n
+      → named ≡ same (take 16 b) name → owner ≡ getD b 16 0 → coded ≡ isCode (terms .code)
+      → flags ≡ flagsFit (correctionsIn (take (lastAt - csAt) (drop csAt b)) 32) → filled ≡ zeros (take (length b - end) (drop end b))
       → (((named && eqb owner party) && coded) && flags) && filled ≡ contentFits name party count b
-  unfolding contentFits setIn lengthFits size widths offset
-  fits-law k owner code named coded flags filled h l ek e e₀ e₁ e₂ e₃ e₄ e₅ =
-      let long : leb 1 (lengthIn b) && leb (lengthIn b) mostElements ≡ true = ap₂ _&&_ (le-leb 1 (lengthIn b) (omega arith)) (le-leb (lengthIn b) mostElements (omega arith)) in
-      let many : eqb (blockCount (lengthIn b)) count ≡ true = eq-eqb (blockCount (lengthIn b)) count (ap blockCount (sym is) ∙ sym ek ∙ e) in
-      let p₀ = e₀ ∙ ap (λ (f : List ℕ). same f name) (between b 0 0 16 refl refl) in
-      let p₁ = ap (λ (x : ℕ). eqb x party) (e₁ ∙ byte-at b 1 16 refl refl) in
-      let p₂ = e₃ ∙ ap isCode (e₂ ∙ byte-at b 2 17 refl refl) in
-      let p₄ = e₄ ∙ ap (λ (f : List ℕ). flagsFit (correctionsIn f 32)) (between b 10 (60 + 12 * n) (1244 + 12 * n) (omega arith) (omega arith)) in
-      let all = take-all (length b - (1248 + 12 * n)) (drop (1248 + 12 * n) b) (omega (arith, length-drop (1248 + 12 * n) b)) in
-      let p₅ = e₅ ∙ ap zeros all ∙ ap (λ (m : ℕ). zeros (drop (1248 + 12 * m) b)) is in
+  unfolding lengthFits termsIn keyIn offset width widths sumFirst
+  fits-law k owner csAt lastAt end named coded flags filled h l ek e ec el ee e₀ e₁ e₂ e₃ e₄ =
+      let long : n ≡ lengthIn b = ap (λ (t : Terms). t .n) et in
+      let range : leb 1 n && leb n mostElements ≡ true = ap₂ _&&_ (le-leb 1 n h) (le-leb n mostElements l) in
+      let many : eqb (blockCount n) count ≡ true = eq-eqb (blockCount n) count (sym ek ∙ e) in
+      let p₀ = e₀ ∙ ap (λ (f : List ℕ). same f name) (between b n long nameField 0 16 refl refl) in
+      let p₁ = ap (λ (x : ℕ). eqb x party) (e₁ ∙ byte-at b n long partyField 16 refl refl) in
+      let p₃ = e₃ ∙ ap (λ (f : List ℕ). flagsFit (correctionsIn f 32)) (between b n long correctionsField csAt lastAt ec el) in
+      let all = take-all (length b - end) (drop end b) (omega (arith, length-drop end b)) in
+      let p₄ = e₄ ∙ ap zeros all ∙ ap (λ (m : ℕ). zeros (drop m b)) ee in
       regroup named (eqb owner party) coded flags filled
-      ∙ ap₂ _&&_ p₀ (ap₂ _&&_ p₁ (ap₂ _&&_ p₂ (ap₂ _&&_ (sym long) (ap₂ _&&_ (sym many) (ap₂ _&&_ p₄ p₅)))))
+      ∙ ap₂ _&&_ p₀ (ap₂ _&&_ p₁ (ap₂ _&&_ e₂ (ap₂ _&&_ (sym range) (ap₂ _&&_ (sym many) (ap₂ _&&_ p₃ p₄)))))
+      ∙ sym fits-at

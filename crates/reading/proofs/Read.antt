@@ -9,11 +9,15 @@ use lib.Seq.{drop-cons, set-at, append-snoc}
 use Rattle.words.specs.List.{tab, length-tab, tab-more}
 use Rattle.words.specs.Bytes.{wordAt, wordsAt}
 use Rattle.node.specs.declared.Correction.{Correction}
+use Rattle.node.specs.declared.Key.{Key}
 use Rattle.node.specs.Node.{none}
+use Rattle.measure.specs.declared.Terms.{Terms}
 use Rattle.content.specs.declared.Set.{Set}
-use Rattle.content.specs.Content.{mostElements, part, fill, widths, lengthIn, field, correctionIn, correctionsIn, setIn}
-use Rattle.content.specs.Laws.{fill-rest}
-use Rattle.content.specs.Pieces.{offset, cut-at, getD-part, wordAt-part, wordsAt-part}
+use Rattle.content.specs.Content.{mostElements, part, fill, lengthIn, field, termsIn, correctionIn, correctionsIn, keyIn, setIn}
+use Rattle.content.specs.Content.{codeField, maskField, xField, yField, cField, rField, seedField, correctionsField, lastField}
+use Rattle.content.specs.Content.{widths, sumFirst, offset, width}
+use Rattle.content.specs.Laws.{head-is, offset-next, fill-rest}
+use Rattle.content.specs.Pieces.{getD-part, wordAt-part, wordsAt-part}
 
 pub vector-law : (f w z : List ℕ) (n : ℕ) → n ≤ mostElements → z ≡ replicate mostElements 0 → w ≡ tab (λ i. wordAt f (4 * i)) n ++ drop n z → w ≡ fill (wordsAt n f)
 unfolding wordsAt
@@ -54,49 +58,90 @@ pub vector-more : (f w z : List ℕ) (i x : ℕ) → i < length z → w ≡ tab 
     → set w i x ≡ tab (λ k. wordAt f (4 * k)) (i + 1) ++ drop (i + 1) z
 vector-more f w z i x h e is = ap₂ (λ (l : List ℕ) (y : ℕ). set l i y) e is ∙ tab-more (λ k. wordAt f (4 * k)) i z h
 
--- a field is a part
-pub field-at : (b : List ℕ) (k at : ℕ) → offset (widths (lengthIn b)) k ≡ at → field b k ≡ part at (getD (widths (lengthIn b)) k 0) b
-unfolding field
-field-at b k at e = cut-at (widths (lengthIn b)) b k ∙ ap (λ (o : ℕ). part o (getD (widths (lengthIn b)) k 0) b) e
+-- ---- a field is read where its offset says, n being the L of content b
 
--- the bytes from `at` to `end`
-pub between : (b : List ℕ) (k at end : ℕ) → offset (widths (lengthIn b)) k ≡ at → end - at ≡ getD (widths (lengthIn b)) k 0 → take (end - at) (drop at b) ≡ field b k
-unfolding part
-between b k at end e w = ap (λ (i : ℕ). take i (drop at b)) w ∙ sym (field-at b k at e)
+module _ (b : List ℕ) (n : ℕ) (en : n ≡ lengthIn b) where
+  abbrev L : ℕ
+  L = lengthIn b
 
-word-at : (b : List ℕ) (k at : ℕ) → offset (widths (lengthIn b)) k ≡ at → getD (widths (lengthIn b)) k 0 ≡ 4 → wordAt b at ≡ wordAt (field b k) 0
-word-at b k at e w =
-    let f = field-at b k at e ∙ ap (λ (i : ℕ). part at i b) w in
-    let z : at + 0 ≡ at = omega arith in
-    sym (ap (λ (l : List ℕ). wordAt l 0) f ∙ wordAt-part at 4 b 0 (omega arith) ∙ ap (wordAt b) z)
+  field-at : (f at : ℕ) → at ≡ offset n f → field b f ≡ part at (width L f) b
+  unfolding field
+  field-at f at e = ap (λ (i : ℕ). part i (width L f) b) (ap (λ (m : ℕ). offset m f) (sym en) ∙ sym e)
 
-pub byte-at : (b : List ℕ) (k at : ℕ) → offset (widths (lengthIn b)) k ≡ at → getD (widths (lengthIn b)) k 0 ≡ 1 → getD b at 0 ≡ getD (field b k) 0 0
-byte-at b k at e w =
-    let f = field-at b k at e ∙ ap (λ (i : ℕ). part at i b) w in
-    let z : at + 0 ≡ at = omega arith in
-    sym (ap (λ (l : List ℕ). getD l 0 0) f ∙ getD-part at 1 b 0 (omega arith) ∙ ap (λ (i : ℕ). getD b i 0) z)
+  -- the bytes up to the next field
+  pub between : (f at end : ℕ) → at ≡ offset n f → end ≡ offset n (suc f) → take (end - at) (drop at b) ≡ field b f
+  unfolding part
+  between f at end e e′ =
+      let wide : end - at ≡ width L f = omega (arith, offset-next n f, ap (λ (m : ℕ). width m f) en) in
+      ap (λ (i : ℕ). take i (drop at b)) wide ∙ sym (field-at f at e)
 
-pub set-law : (set : ℕ) (b : List ℕ) (n code c r last : ℕ) (mask x y seed : List ℕ) (cs : List Correction) → n ≡ lengthIn b → code ≡ getD b 17 0
-    → mask ≡ fill (wordsAt n (take (20 + 4 * n - 20) (drop 20 b)))
-    → x ≡ fill (wordsAt n (take (20 + 8 * n - (20 + 4 * n)) (drop (20 + 4 * n) b)))
-    → y ≡ fill (wordsAt n (take (20 + 12 * n - (20 + 8 * n)) (drop (20 + 8 * n) b)))
-    → c ≡ wordAt b (20 + 12 * n) → r ≡ wordAt b (20 + 12 * n + 4)
-    → seed ≡ wordsAt 8 (take (20 + 12 * n + 40 - (20 + 12 * n + 8)) (drop (20 + 12 * n + 8) b))
-    → cs ≡ correctionsIn (take (20 + 12 * n + 1224 - (20 + 12 * n + 40)) (drop (20 + 12 * n + 40) b)) 32 → last ≡ wordAt b (20 + 12 * n + 1224)
-    → _≡_ {A = Set} (record { number = set; terms = record { code = code; n = n }; mask = mask; x = x; y = y; c = c; r = r; seed = seed; key = record { corrections = cs; last = last } }) (setIn set b)
-unfolding setIn widths offset
-set-law set b n code c r last mask x y seed cs en ecode em ex ey ec er es ek el =
-    let o : ℕ → ℕ = offset (widths (lengthIn b)) in
-    let pcode = ecode ∙ byte-at b 2 17 refl refl in
-    let pm = em ∙ vector 4 20 (20 + 4 * n) (omega arith) (omega arith) in
-    let px = ex ∙ vector 5 (20 + 4 * n) (20 + 8 * n) (omega arith) (omega arith) in
-    let py = ey ∙ vector 6 (20 + 8 * n) (20 + 12 * n) (omega arith) (omega arith) in
-    let pc = ec ∙ word-at b 7 (20 + 12 * n) (omega arith) refl in
-    let pr = er ∙ word-at b 8 (20 + 12 * n + 4) (omega arith) refl in
-    let ps = es ∙ ap (wordsAt 8) (between b 9 (20 + 12 * n + 8) (20 + 12 * n + 40) (omega arith) (omega arith)) in
-    let pk = ek ∙ ap (λ (f : List ℕ). correctionsIn f 32) (between b 10 (20 + 12 * n + 40) (20 + 12 * n + 1224) (omega arith) (omega arith)) in
-    let pl = el ∙ word-at b 11 (20 + 12 * n + 1224) (omega arith) refl in
-    λ k. record { number = set; terms = record { code = pcode k; n = en k }; mask = pm k; x = px k; y = py k; c = pc k; r = pr k; seed = ps k; key = record { corrections = pk k; last = pl k } }
-  where
-    vector : (k at end : ℕ) → offset (widths (lengthIn b)) k ≡ at → end - at ≡ getD (widths (lengthIn b)) k 0 → fill (wordsAt n (take (end - at) (drop at b))) ≡ fill (wordsAt (lengthIn b) (field b k))
-    vector k at end e w = ap₂ (λ (m : ℕ) (f : List ℕ). fill (wordsAt m f)) en (between b k at end e w)
+  pub vector-at : (f at end : ℕ) (v : List ℕ) → at ≡ offset n f → end ≡ offset n (suc f)
+      → v ≡ fill (wordsAt n (take (end - at) (drop at b))) → v ≡ fill (wordsAt L (field b f))
+  vector-at f at end v e e′ ev = ev ∙ ap₂ (λ (m : ℕ) (l : List ℕ). fill (wordsAt m l)) en (between f at end e e′)
+
+  pub word-at : (f at : ℕ) → at ≡ offset n f → width L f ≡ 4 → wordAt b at ≡ wordAt (field b f) 0
+  word-at f at e w =
+      let here = field-at f at e ∙ ap (λ (i : ℕ). part at i b) w in
+      let start : at + 0 ≡ at = omega arith in
+      sym (ap (λ (l : List ℕ). wordAt l 0) here ∙ wordAt-part at 4 b 0 (omega arith) ∙ ap (wordAt b) start)
+
+  pub byte-at : (f at : ℕ) → at ≡ offset n f → width L f ≡ 1 → getD b at 0 ≡ getD (field b f) 0 0
+  byte-at f at e w =
+      let here = field-at f at e ∙ ap (λ (i : ℕ). part at i b) w in
+      let start : at + 0 ≡ at = omega arith in
+      sym (ap (λ (l : List ℕ). getD l 0 0) here ∙ getD-part at 1 b 0 (omega arith) ∙ ap (λ (i : ℕ). getD b i 0) start)
+
+  -- the key
+  pub key-law : (csAt lastAt last : ℕ) (cs : List Correction) → csAt ≡ offset n correctionsField → lastAt ≡ offset n lastField
+      → cs ≡ correctionsIn (take (lastAt - csAt) (drop csAt b)) 32 → last ≡ wordAt b lastAt
+      → _≡_ {A = Key} (record { corrections = cs; last = last }) (keyIn b)
+  unfolding keyIn width widths
+  key-law csAt lastAt last cs ec el es ew =
+      let corrections = es ∙ ap (λ (l : List ℕ). correctionsIn l 32) (between correctionsField csAt lastAt ec el) in
+      let final = ew ∙ word-at lastField lastAt el refl in
+      λ k. record { corrections = corrections k; last = final k }
+
+  -- the code and L
+  pub terms-law : (code : ℕ) → code ≡ getD b 17 0 → _≡_ {A = Terms} (record { code = code; n = n }) (termsIn b)
+  unfolding termsIn offset width widths sumFirst
+  terms-law code e =
+      let coded = e ∙ byte-at codeField 17 refl refl in
+      λ k. record { code = coded k; n = en k }
+
+-- the set: each of its fields where it stands
+module _ (set : ℕ) (b : List ℕ) (terms : Terms) (et : terms ≡ termsIn b) (xAt yAt cAt rAt seedAt csAt : ℕ)
+    (ex : xAt ≡ offset (terms .n) xField) (ey : yAt ≡ offset (terms .n) yField) (ec : cAt ≡ offset (terms .n) cField)
+    (er : rAt ≡ offset (terms .n) rField) (es : seedAt ≡ offset (terms .n) seedField)
+    (ek : csAt ≡ offset (terms .n) correctionsField) where
+  abbrev n : ℕ
+  n = terms .n
+
+  long : n ≡ lengthIn b
+  unfolding termsIn
+  long = ap (λ (t : Terms). t .n) et
+
+  pub set-law : (c r : ℕ) (mask x y seed : List ℕ) (key : Key)
+      → mask ≡ fill (wordsAt n (take (xAt - 20) (drop 20 b))) → x ≡ fill (wordsAt n (take (yAt - xAt) (drop xAt b)))
+      → y ≡ fill (wordsAt n (take (cAt - yAt) (drop yAt b))) → c ≡ wordAt b cAt → r ≡ wordAt b rAt
+      → seed ≡ wordsAt 8 (take (csAt - seedAt) (drop seedAt b)) → key ≡ keyIn b
+      → _≡_ {A = Set}
+      (record { number = set; terms = terms; mask = mask; x = x; y = y; c = c; r = r; seed = seed; key = key }) (setIn set b)
+  unfolding setIn width widths
+  set-law c r mask x y seed key em e-x e-y e-c e-r e-s e-k =
+      let own = vector-at b n long maskField 20 xAt mask (sym (head-is n)) ex em in
+      let of-x = vector-at b n long xField xAt yAt x ex ey e-x in
+      let of-y = vector-at b n long yField yAt cAt y ey ec e-y in
+      let c-word = e-c ∙ word-at b n long cField cAt ec refl in
+      let r-word = e-r ∙ word-at b n long rField rAt er refl in
+      let seeded = e-s ∙ ap (wordsAt 8) (between b n long seedField seedAt csAt es ek) in
+      λ k. record {
+        number = set;
+        terms = et k;
+        mask = own k;
+        x = of-x k;
+        y = of-y k;
+        c = c-word k;
+        r = r-word k;
+        seed = seeded k;
+        key = e-k k;
+      }

@@ -3,7 +3,11 @@ ghost use mathlib.Core.Path.{_≡_};
 ghost use Prim.Native.Nat.{_*_, _<_, _≤_};
 ghost use lib.ListN.{length, getD};
 ghost use Rattle.words.specs.Bytes.{wordsAt};
-ghost use Rattle.content.specs.Content.{mostElements, textBytes, mostBlocks, size, fill, lengthIn, correctionIn, correctionsIn, setIn, flagsFit, zeros, contentFits};
+ghost use Rattle.content.specs.Content.{mostElements, textBytes, mostBlocks, maskField, offset, size, fill, lengthIn, termsIn, correctionIn, correctionsIn, keyIn, setIn, flagsFit, zeros, contentFits};
+use content::CODE_AT;
+use content::HEAD;
+use content::LENGTH_AT;
+use content::PARTY_AT;
 use content::Set;
 use measure::MOST_ELEMENTS;
 use measure::Terms;
@@ -17,12 +21,23 @@ fn byte(b: &[u8], at: usize) -> u32
     b[at] as u32
 }
 
-// L, from bytes 18 and 19.
+// L, from its two bytes.
 fn length_in(b: &[u8]) -> usize
-    requires { ⌜ 20 ≤ length (now b) ⌝ }
+    requires { ⌜ offset 0 maskField ≤ length (now b) ⌝ }
     ensures { λ r. ⌜ (r ≡ lengthIn (now (b .entry))) × (r < 65536) ⌝ }
 {
-    (byte(b, 18) + 256 * byte(b, 19)) as usize
+    (byte(b, LENGTH_AT) + 256 * byte(b, LENGTH_AT + 1)) as usize
+}
+
+// Measure code and L.
+fn terms_in(b: &[u8]) -> Terms
+    requires { ⌜ offset 0 maskField ≤ length (now b) ⌝ }
+    ensures { λ r. ⌜ (r ≡ termsIn (now (b .entry))) × (r .n ≡ lengthIn (now (b .entry))) × (r .n < 65536) ⌝ }
+{
+    Terms {
+        code: byte(b, CODE_AT),
+        n: length_in(b),
+    }
 }
 
 // The first n words of f, and zeros past them.
@@ -76,36 +91,41 @@ fn corrections_in(f: &[u8]) -> [Correction; 32]
     cs
 }
 
+// The comparison key of plain content whose vectors have n elements.
+fn key_in(b: &[u8], n: usize) -> Key
+    requires { ⌜ (n ≡ lengthIn (now b)) × (n ≤ mostElements) × (size n ≤ length (now b)) ⌝ }
+    ensures { λ r. ⌜ r ≡ keyIn (now (b .entry)) ⌝ }
+{
+    let corrections_at = content::corrections_at(n);
+    let last_at = content::last_at(n);
+    Key {
+        corrections: corrections_in(&b[corrections_at..last_at]),
+        last: slices::load(b, last_at),
+    }
+}
+
 // The set of this number that plain content holds.
 pub fn read_set(number: u64, b: &[u8]) -> Set
     requires { ⌜ (lengthIn (now b) ≤ mostElements) × (size (lengthIn (now b)) ≤ length (now b)) ⌝ }
     ensures { λ r. ⌜ r ≡ setIn number (now (b .entry)) ⌝ }
 {
-    let n = length_in(b);
-    let x_at = 20 + 4 * n;
-    let y_at = 20 + 8 * n;
-    let c_at = 20 + 12 * n;
-    let seed_at = c_at + 8;
-    let key_at = c_at + 40;
-    let last_at = c_at + 1224;
-    let key = Key {
-        corrections: corrections_in(&b[key_at..last_at]),
-        last: slices::load(b, last_at),
-    };
-    let terms = Terms {
-        code: byte(b, 17),
-        n,
-    };
+    let terms = terms_in(b);
+    let n = terms.n;
+    let x_at = content::x_at(n);
+    let y_at = content::y_at(n);
+    let c_at = content::c_at(n);
+    let seed_at = content::seed_at(n);
+    let corrections_at = content::corrections_at(n);
     Set {
         number,
         terms,
-        mask: vector(&b[20..x_at], n),
+        mask: vector(&b[HEAD..x_at], n),
         x: vector(&b[x_at..y_at], n),
         y: vector(&b[y_at..c_at], n),
         c: slices::load(b, c_at),
-        r: slices::load(b, c_at + 4),
-        seed: seed_in(&b[seed_at..key_at]),
-        key,
+        r: slices::load(b, content::r_at(n)),
+        seed: seed_in(&b[seed_at..corrections_at]),
+        key: key_in(b, n),
     }
 }
 
@@ -141,7 +161,8 @@ pub fn content_fits(name: [u8; 16], party: u32, count: usize, b: &[u8]) -> bool
     requires { ⌜ (length (now b) ≡ textBytes * count) × (3 ≤ count) × (count ≤ mostBlocks) ⌝ }
     ensures { λ r. ⌜ r ≡ contentFits name party count (now (b .entry)) ⌝ }
 {
-    let n = length_in(b);
+    let terms = terms_in(b);
+    let n = terms.n;
     if n < 1 {
         return false;
     }
@@ -151,12 +172,12 @@ pub fn content_fits(name: [u8; 16], party: u32, count: usize, b: &[u8]) -> bool
     if content::blocks_of(n) != count {
         return false;
     }
-    let key_at = 60 + 12 * n;
-    let last_at = 1244 + 12 * n;
-    let end = 1248 + 12 * n;
-    let named = slices::equal(&b[..16], &name);
-    let owned = byte(b, 16) == party;
-    let code = measure::is_code(byte(b, 17));
-    let flags = flags_fit(&b[key_at..last_at]);
+    let corrections_at = content::corrections_at(n);
+    let last_at = content::last_at(n);
+    let end = content::size_of(n);
+    let named = slices::equal(&b[..PARTY_AT], &name);
+    let owned = byte(b, PARTY_AT) == party;
+    let code = measure::is_code(terms.code);
+    let flags = flags_fit(&b[corrections_at..last_at]);
     named & owned & code & flags & all_zero(&b[end..])
 }

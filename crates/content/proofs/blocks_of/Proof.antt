@@ -1,24 +1,22 @@
-use mathlib.Core.Path.{refl}
-use Rattle.content.specs.Content.{blockCount, size}
+use native.Mathlib.Omega.{arith}
+use Rattle.content.specs.Content.{blockCount}
+use Rattle.content.specs.Laws.{size-is}
 use borrow.Author.Needs.{needs}
 use Rattle.content.proofs.blocks_of.Statement.{statement}
 use Rattle.content.proofs.blocks_of.Tie as tie
 
-mul-result : tie.Need-mul-result
-mul-result c = search needs
+size-of-requires : tie.Need-size-of-requires
+size-of-requires c κs = search needs
 
 add-result : tie.Need-add-result
-add-result c = search needs
-
-add-result-2 : tie.Need-add-result-2
-add-result-2 c = search needs
+add-result c = omega (arith, size-is (c .before .args .n))
 
 sub-result : tie.Need-sub-result
 sub-result c = search needs
 
 returns : tie.Need-returns
-unfolding blockCount size
-returns c = refl
+unfolding blockCount
+returns c = omega (arith, c .size-of .ensures)
 
 pub blocks-of-spec : {M : Type 1} → statement M
-blocks-of-spec = tie.close (tie.spec mul-result add-result add-result-2 sub-result returns)
+blocks-of-spec = tie.close (tie.spec size-of-requires add-result sub-result returns)

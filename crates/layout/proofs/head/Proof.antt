@@ -36,6 +36,9 @@ array-write-h-3 c = search needs
 cast-h-4 : tie.Need-cast-h-4
 cast-h-4 c = search needs
 
+add-h : tie.Need-add-h
+add-h c = search needs
+
 array-write-h-4 : tie.Need-array-write-h-4
 array-write-h-4 c = search needs
 
@@ -60,5 +63,6 @@ head-spec =
     cast-h-3
     array-write-h-3
     cast-h-4
+    add-h
     array-write-h-4
     returns)

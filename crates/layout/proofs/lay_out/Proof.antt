@@ -16,8 +16,8 @@ returns : tie.Need-returns
 returns c =
     let at-tail = c .before in
     let at-head = at-tail .before in
-    let at-key = at-head .before .before .before in
-    let start = at-key .before .before .before .before .before in
+    let at-seed = at-head .before .before .before .before in
+    let start = at-seed .before .before .before .before in
     fields-law (start .args .name) (start .args .party) (start .args .s) _ _ _ _ (at-head .head .ensures) (at-tail .tail .ensures) (c .joined .ensures)
 
 pub lay-out-spec : {M : Type 1} → statement M

@@ -40,8 +40,17 @@ store-requires-3 c κs = search needs
 
 returns : tie.Need-returns
 returns c =
-    tail-law _ _ _ (c .before .before .before .before .before .before .before .before .before .before .before .before .before .before .before .before .args .t3) _ _ _ _ _ _ _ (search needs) (c .before .before .before .before .store-corrections .ensures .1) (length-replicate {A = ℕ} 1228 0)
-    (c .before .before .before .before .before .before .before .before .before .before .before .before .before .before .store .ensures) (c .before .before .before .before .before .before .before .before .before .before .before .store2 .ensures) (c .before .before .before .before .before .before .before .store-all .ensures) (c .before .before .before .before .store-corrections .ensures .0) (c .before .store3 .ensures)
+    let at-last = c .before in
+    let at-corrections = at-last .before .before .before in
+    let at-seed = at-corrections .before .before .before in
+    let at-r = at-seed .before .before .before .before in
+    let at-c = at-r .before .before .before in
+    let start = at-c .before .before in
+    -- how many elements the seed's array has, as owning it tells: it lies too far back for a search
+    let long-seed = start .good .1 .1 .0 .1 .0 .1 in
+    tail-law _ _ _ (start .args .t3) _ _ _ _ _ _ _ long-seed (at-corrections .store-corrections .ensures .1)
+    (length-replicate {A = ℕ} 1228 0) (at-c .store .ensures) (at-r .store2 .ensures) (at-seed .store-all .ensures)
+    (at-corrections .store-corrections .ensures .0) (at-last .store3 .ensures)
 
 pub tail-spec : {M : Type 1} → statement M
 tail-spec =

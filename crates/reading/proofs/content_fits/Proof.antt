@@ -1,47 +1,54 @@
 use mathlib.Core.Path.{sym}
-use native.Mathlib.Omega.{arith}
 use lib.Seq.{length-take-le}
-use Rattle.content.specs.Content.{blockCount, size}
+use Rattle.content.specs.Content.{offset, size, blockCount, widths, sumFirst}
 use Rattle.reading.proofs.Checked.{too-short, too-long, other-count, fits-law}
 use borrow.Author.Needs.{needs}
 use Rattle.reading.proofs.content_fits.Statement.{statement}
 use Rattle.reading.proofs.content_fits.Tie as tie
 
-length-in-requires : tie.Need-length-in-requires
-length-in-requires c κs = search needs
+terms-in-requires : tie.Need-terms-in-requires
+unfolding offset widths sumFirst
+terms-in-requires c κs = search needs
 
 returns : tie.Need-returns
-returns c = too-short (c .before .before .before .args .t1) (c .before .before .before .args .party) (c .before .before .before .args .count) (c .before .before .before .args .b .now) (c .before .length-in .result) (c .before .length-in .ensures .0) (search needs)
+returns c =
+    let at-terms = c .before in
+    let start = at-terms .before .before in
+    too-short (start .args .t1) (start .args .party) (start .args .count) (start .args .b .now) (at-terms .terms-in .result)
+    (at-terms .terms-in .ensures .0) (search needs)
 
 returns-2 : tie.Need-returns-2
-returns-2 c = too-long (c .before .before .before .before .args .t1) (c .before .before .before .before .args .party) (c .before .before .before .before .args .count) (c .before .before .before .before .args .b .now) (c .before .before .length-in .result) (c .before .before .length-in .ensures .0) (search needs)
+returns-2 c =
+    let at-terms = c .before .before in
+    let start = at-terms .before .before in
+    too-long (start .args .t1) (start .args .party) (start .args .count) (start .args .b .now) (at-terms .terms-in .result)
+    (at-terms .terms-in .ensures .0) (search needs)
 
 blocks-of-requires : tie.Need-blocks-of-requires
 blocks-of-requires c κs = search needs
 
 returns-3 : tie.Need-returns-3
-returns-3 c = other-count (c .before .before .before .before .before .before .args .t1) (c .before .before .before .before .before .before .args .party) (c .before .before .before .before .before .before .args .count) (c .before .before .before .before .before .before .args .b .now) (c .before .before .before .before .length-in .result) (c .before .before .before .before .length-in .ensures .0) _ (c .before .blocks-of .ensures) (λ e. omega arith)
+returns-3 c =
+    let at-blocks = c .before in
+    let at-terms = at-blocks .before .before .before in
+    let start = at-terms .before .before in
+    other-count (start .args .t1) (start .args .party) (start .args .count) (start .args .b .now) (at-terms .terms-in .result)
+    (at-terms .terms-in .ensures .0) _ (at-blocks .blocks-of .ensures) (search needs)
 
-mul-key-at : tie.Need-mul-key-at
-mul-key-at c = search needs
+corrections-at-requires : tie.Need-corrections-at-requires
+corrections-at-requires c κs = search needs
 
-add-key-at : tie.Need-add-key-at
-add-key-at c = search needs
+last-at-requires : tie.Need-last-at-requires
+last-at-requires c κs = search needs
 
-mul-last-at : tie.Need-mul-last-at
-mul-last-at c = search needs
-
-add-last-at : tie.Need-add-last-at
-add-last-at c = search needs
-
-mul-end : tie.Need-mul-end
-mul-end c = search needs
-
-add-end : tie.Need-add-end
-add-end c = search needs
+size-of-requires : tie.Need-size-of-requires
+size-of-requires c κs = search needs
 
 slice-aggregate-equal : tie.Need-slice-aggregate-equal
-slice-aggregate-equal c = sym (length-take-le 16 (c .before .before .before .before .before .before .before .args .b .now) (search needs))
+slice-aggregate-equal c =
+    let at-if3 = c .before .before .before .before in
+    let at-terms = at-if3 .before .before .before .before in
+    sym (length-take-le 16 (at-terms .before .before .args .b .now) (search needs))
 
 slice-aggregate-equal-2 : tie.Need-slice-aggregate-equal-2
 slice-aggregate-equal-2 c = search needs
@@ -52,31 +59,31 @@ equal-requires c κs = search needs
 byte-requires : tie.Need-byte-requires
 byte-requires c κs = search needs
 
-byte-requires-2 : tie.Need-byte-requires-2
-byte-requires-2 c κs = search needs
-
 is-code-requires : tie.Need-is-code-requires
 is-code-requires c κs = search needs
 
 sub-flags-fit : tie.Need-sub-flags-fit
+unfolding offset widths sumFirst
 sub-flags-fit c = search needs
 
 part-flags-fit-start : tie.Need-part-flags-fit-start
+unfolding offset widths sumFirst
 part-flags-fit-start c = search needs
 
 part-flags-fit-end : tie.Need-part-flags-fit-end
-unfolding blockCount size
+unfolding blockCount size offset widths sumFirst
 part-flags-fit-end c = search needs
 
 flags-fit-requires : tie.Need-flags-fit-requires
+unfolding offset widths sumFirst
 flags-fit-requires c κs = search needs
 
 sub-all-zero : tie.Need-sub-all-zero
-unfolding blockCount size
+unfolding blockCount size offset widths sumFirst
 sub-all-zero c = search needs
 
 part-all-zero-start : tie.Need-part-all-zero-start
-unfolding blockCount size
+unfolding blockCount size offset widths sumFirst
 part-all-zero-start c = search needs
 
 part-all-zero-end : tie.Need-part-all-zero-end
@@ -87,29 +94,38 @@ all-zero-requires c κs = search needs
 
 returns-4 : tie.Need-returns-4
 returns-4 c =
-    fits-law (c .before .before .before .before .before .before .before .before .before .before .before .before .before .before .before .before .args .t1) (c .before .before .before .before .before .before .before .before .before .before .before .before .before .before .before .before .args .party) (c .before .before .before .before .before .before .before .before .before .before .before .before .before .before .before .before .args .count) (c .before .before .before .before .before .before .before .before .before .before .before .before .before .before .before .before .args .b .now) (c .before .before .before .before .before .before .before .before .before .before .before .before .before .before .length-in .result) (c .before .before .before .before .before .before .before .before .before .before .before .before .before .before .length-in .ensures .0) _ _ _ _ _ _ _ (search needs) (search needs) (c .before .before .before .before .before .before .before .before .before .before .before .blocks-of .ensures) (search needs)
-    (c .before .before .before .before .before .before .before .equal .ensures) (c .before .before .before .before .before .before .byte .ensures .0) (c .before .before .before .before .before .byte2 .ensures .0) (c .before .before .before .before .is-code .ensures) (c .before .before .flags-fit .ensures) (c .all-zero .ensures)
+    let at-flags = c .before .before in
+    let at-code = at-flags .before .before in
+    let at-byte = at-code .before in
+    let at-equal = at-byte .before in
+    let at-size = at-equal .before .before .before in
+    let at-last-at = at-size .before in
+    let at-corrections-at = at-last-at .before in
+    let at-blocks = at-corrections-at .before .before in
+    let at-terms = at-blocks .before .before .before in
+    let start = at-terms .before .before in
+    fits-law (start .args .t1) (start .args .party) (start .args .count) (start .args .b .now) (at-terms .terms-in .result)
+    (at-terms .terms-in .ensures .0) _ _ _ _ _ _ _ _ _ (search needs) (search needs) (at-blocks .blocks-of .ensures) (search needs)
+    (at-corrections-at .corrections-at .ensures) (at-last-at .last-at .ensures) (at-size .size-of .ensures)
+    (at-equal .equal .ensures) (at-byte .byte .ensures .0) (at-code .is-code .ensures) (at-flags .flags-fit .ensures)
+    (c .all-zero .ensures)
 
 pub content-fits-spec : {M : Type 1} → statement M
 content-fits-spec =
     tie.close
     (tie.spec
-    length-in-requires
+    terms-in-requires
     returns
     returns-2
     blocks-of-requires
     returns-3
-    mul-key-at
-    add-key-at
-    mul-last-at
-    add-last-at
-    mul-end
-    add-end
+    corrections-at-requires
+    last-at-requires
+    size-of-requires
     slice-aggregate-equal
     slice-aggregate-equal-2
     equal-requires
     byte-requires
-    byte-requires-2
     is-code-requires
     sub-flags-fit
     part-flags-fit-start

@@ -1,159 +1,139 @@
-use Rattle.content.specs.Content.{size}
+use Rattle.content.specs.Content.{offset, size, widths, sumFirst}
 use Rattle.reading.proofs.Read.{set-law}
 use borrow.Author.Needs.{needs}
 use Rattle.reading.proofs.read_set.Statement.{statement}
 use Rattle.reading.proofs.read_set.Tie as tie
 
-length-in-requires : tie.Need-length-in-requires
-unfolding size
-length-in-requires c κs = search needs
+terms-in-requires : tie.Need-terms-in-requires
+unfolding size offset widths sumFirst
+terms-in-requires c κs = search needs
 
-mul-x-at : tie.Need-mul-x-at
-mul-x-at c = search needs
+x-at-requires : tie.Need-x-at-requires
+x-at-requires c κs = search needs
 
-add-x-at : tie.Need-add-x-at
-add-x-at c = search needs
+y-at-requires : tie.Need-y-at-requires
+y-at-requires c κs = search needs
 
-mul-y-at : tie.Need-mul-y-at
-mul-y-at c = search needs
+c-at-requires : tie.Need-c-at-requires
+c-at-requires c κs = search needs
 
-add-y-at : tie.Need-add-y-at
-add-y-at c = search needs
+seed-at-requires : tie.Need-seed-at-requires
+seed-at-requires c κs = search needs
 
-mul-c-at : tie.Need-mul-c-at
-mul-c-at c = search needs
-
-add-c-at : tie.Need-add-c-at
-add-c-at c = search needs
-
-add-seed-at : tie.Need-add-seed-at
-add-seed-at c = search needs
-
-add-key-at : tie.Need-add-key-at
-add-key-at c = search needs
-
-add-last-at : tie.Need-add-last-at
-add-last-at c = search needs
-
-sub-corrections-in : tie.Need-sub-corrections-in
-sub-corrections-in c = search needs
-
-part-corrections-in-start : tie.Need-part-corrections-in-start
-part-corrections-in-start c = search needs
-
-part-corrections-in-end : tie.Need-part-corrections-in-end
-unfolding size
-part-corrections-in-end c = search needs
-
-corrections-in-requires : tie.Need-corrections-in-requires
-corrections-in-requires c κs = search needs
-
-load-requires : tie.Need-load-requires
-unfolding size
-load-requires c κs = search needs
-
-byte-requires : tie.Need-byte-requires
-unfolding size
-byte-requires c κs = search needs
+corrections-at-requires : tie.Need-corrections-at-requires
+corrections-at-requires c κs = search needs
 
 sub-vector : tie.Need-sub-vector
+unfolding offset widths sumFirst
 sub-vector c = search needs
 
 part-vector-start : tie.Need-part-vector-start
+unfolding offset widths sumFirst
 part-vector-start c = search needs
 
 part-vector-end : tie.Need-part-vector-end
-unfolding size
+unfolding size offset widths sumFirst
 part-vector-end c = search needs
 
 vector-requires : tie.Need-vector-requires
+unfolding offset widths sumFirst
 vector-requires c κs = search needs
 
 sub-vector-2 : tie.Need-sub-vector-2
+unfolding offset widths sumFirst
 sub-vector-2 c = search needs
 
 part-vector-start-2 : tie.Need-part-vector-start-2
+unfolding offset widths sumFirst
 part-vector-start-2 c = search needs
 
 part-vector-end-2 : tie.Need-part-vector-end-2
-unfolding size
+unfolding size offset widths sumFirst
 part-vector-end-2 c = search needs
 
 vector-requires-2 : tie.Need-vector-requires-2
+unfolding offset widths sumFirst
 vector-requires-2 c κs = search needs
 
 sub-vector-3 : tie.Need-sub-vector-3
+unfolding offset widths sumFirst
 sub-vector-3 c = search needs
 
 part-vector-start-3 : tie.Need-part-vector-start-3
+unfolding offset widths sumFirst
 part-vector-start-3 c = search needs
 
 part-vector-end-3 : tie.Need-part-vector-end-3
-unfolding size
+unfolding size offset widths sumFirst
 part-vector-end-3 c = search needs
 
 vector-requires-3 : tie.Need-vector-requires-3
+unfolding offset widths sumFirst
 vector-requires-3 c κs = search needs
 
+load-requires : tie.Need-load-requires
+unfolding size offset widths sumFirst
+load-requires c κs = search needs
+
+r-at-requires : tie.Need-r-at-requires
+r-at-requires c κs = search needs
+
 load-requires-2 : tie.Need-load-requires-2
-unfolding size
+unfolding size offset widths sumFirst
 load-requires-2 c κs = search needs
 
-add-load : tie.Need-add-load
-add-load c = search needs
-
-load-requires-3 : tie.Need-load-requires-3
-unfolding size
-load-requires-3 c κs = search needs
-
 sub-seed-in : tie.Need-sub-seed-in
+unfolding offset widths sumFirst
 sub-seed-in c = search needs
 
 part-seed-in-start : tie.Need-part-seed-in-start
+unfolding offset widths sumFirst
 part-seed-in-start c = search needs
 
 part-seed-in-end : tie.Need-part-seed-in-end
-unfolding size
+unfolding size offset widths sumFirst
 part-seed-in-end c = search needs
 
 seed-in-requires : tie.Need-seed-in-requires
+unfolding offset widths sumFirst
 seed-in-requires c κs = search needs
+
+key-in-requires : tie.Need-key-in-requires
+unfolding size widths sumFirst
+key-in-requires c κs = search needs
 
 returns : tie.Need-returns
 returns c =
-    let at-load3 = c .before .before in
-    let at-load2 = at-load3 .before in
-    let at-vector3 = at-load2 .before in
-    let at-vector2 = at-vector3 .before .before in
-    let at-vector = at-vector2 .before .before in
-    let at-byte = at-vector .before .before in
-    let at-load = at-byte .before in
-    let at-corrections-in = at-load .before in
-    let at-length-in = at-corrections-in .before .before in
-    let start = at-length-in .before .before in
-    set-law _ (start .args .b .now) _ _ _ _ _ _ _ _ _ _ (at-length-in .length-in .ensures .0) (at-byte .byte .ensures .0)
-    (at-vector .vector .ensures) (at-vector2 .vector2 .ensures) (at-vector3 .vector3 .ensures) (at-load2 .load2 .ensures) (at-load3 .load3 .ensures) (c .seed-in .ensures) (at-corrections-in .corrections-in .ensures) (at-load .load .ensures)
+    let at-seed = c .before in
+    let at-r = at-seed .before .before in
+    let at-r-at = at-r .before in
+    let at-c = at-r-at .before in
+    let at-y = at-c .before in
+    let at-x = at-y .before .before in
+    let at-mask = at-x .before .before in
+    let at-corrections-at = at-mask .before .before in
+    let at-seed-at = at-corrections-at .before in
+    let at-c-at = at-seed-at .before in
+    let at-y-at = at-c-at .before in
+    let at-x-at = at-y-at .before in
+    let at-terms = at-x-at .before in
+    let start = at-terms .before .before in
+    set-law (start .args .number) (start .args .b .now) (at-terms .terms-in .result) (at-terms .terms-in .ensures .0) _ _ _ _ _ _
+    (at-x-at .x-at .ensures) (at-y-at .y-at .ensures) (at-c-at .c-at .ensures) (at-r-at .r-at .ensures)
+    (at-seed-at .seed-at .ensures) (at-corrections-at .corrections-at .ensures) _ _ _ _ _ _ _
+    (at-mask .vector .ensures) (at-x .vector2 .ensures) (at-y .vector3 .ensures) (at-c .load .ensures) (at-r .load2 .ensures)
+    (at-seed .seed-in .ensures) (c .key-in .ensures)
 
 pub read-set-spec : {M : Type 1} → statement M
 read-set-spec =
     tie.close
     (tie.spec
-    length-in-requires
-    mul-x-at
-    add-x-at
-    mul-y-at
-    add-y-at
-    mul-c-at
-    add-c-at
-    add-seed-at
-    add-key-at
-    add-last-at
-    sub-corrections-in
-    part-corrections-in-start
-    part-corrections-in-end
-    corrections-in-requires
-    load-requires
-    byte-requires
+    terms-in-requires
+    x-at-requires
+    y-at-requires
+    c-at-requires
+    seed-at-requires
+    corrections-at-requires
     sub-vector
     part-vector-start
     part-vector-end
@@ -166,11 +146,12 @@ read-set-spec =
     part-vector-start-3
     part-vector-end-3
     vector-requires-3
+    load-requires
+    r-at-requires
     load-requires-2
-    add-load
-    load-requires-3
     sub-seed-in
     part-seed-in-start
     part-seed-in-end
     seed-in-requires
+    key-in-requires
     returns)
