@@ -6,7 +6,7 @@ use lib.Dec.{eqb, leb, ltb}
 use lib.ListN.{length}
 use Rattle.words.specs.Numbers.{bytes, number}
 use Rattle.aead.specs.Aead.{cipher, tagFor, opens}
-use Rattle.messages.specs.Messages.{unless}
+use Rattle.messages.specs.Messages.{wrongLength, wrongNumber, badBlock, badContent, unless}
 use Rattle.content.specs.declared.Set.{Set}
 use Rattle.content.specs.Content.{blockBytes, textBytes, mostBlocks, part, blockCount, plain, setIn, contentFits}
 
@@ -61,11 +61,13 @@ wholeBlocks h = eqb (length h % blockBytes) 0 && (leb 3 (length h / blockBytes) 
 unfoldable pub whyNotOpened : List ℕ → List ℕ → ℕ → List ℕ → ℕ
 whyNotOpened key name party h =
     let count : ℕ = length h / blockBytes in
-    unless (firstFit key h count) 10 (unless (contentFits name party count (openedBlocks key h count)) 11 0)
+    unless (firstFit key h count) badBlock
+    (unless (contentFits name party count (openedBlocks key h count)) badContent 0)
 
 -- why a half is turned down where the box's last number is `last`
 unfoldable pub whyNot : List ℕ → List ℕ → ℕ → ℕ → List ℕ → ℕ
-whyNot key name party last h = unless (wholeBlocks h) 4 (unless (ltb last (setNumber h)) 7 (whyNotOpened key name party h))
+whyNot key name party last h =
+    unless (wholeBlocks h) wrongLength (unless (ltb last (setNumber h)) wrongNumber (whyNotOpened key name party h))
 
 -- the set that it opens to
 unfoldable pub openedSet : List ℕ → List ℕ → Set

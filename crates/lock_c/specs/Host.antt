@@ -4,7 +4,7 @@ use mathlib.Core.List.{List}
 use Prim.Native.Nat.{ℕ, _+_}
 use lib.ListN.{replicate}
 use Rattle.messages.specs.declared.Label.{Label}
-use Rattle.messages.specs.Messages.{ifTaken, isName}
+use Rattle.messages.specs.Messages.{wrongLength, ifTaken, isName}
 use Rattle.lock.specs.declared.LockAnswer.{LockAnswer}
 use Rattle.lock.specs.Lock.{join}
 
@@ -16,11 +16,15 @@ label kind sender number = record { kind = kind; sender = sender; number = numbe
 unfoldable pub answerOn : List ℕ → ℕ → Label → List ℕ → ℕ → Label → List ℕ → ℕ → LockAnswer
 answerOn name last l0 name0 answer0 l1 name1 answer1 =
     cond (isName name) (join (record { name = name; last = last }) l0 name0 answer0 l1 name1 answer1)
-    (record { why = 4; lock = record { name = replicate 16 0; last = last }; bit = 0 })
+    (record { why = wrongLength; lock = record { name = replicate 16 0; last = last }; bit = 0 })
+
+-- "100 plus the refusal number"
+abbrev pub refusedFrom : ℕ
+refusedFrom = 100
 
 unfoldable pub cJoin : List ℕ → ℕ → Label → List ℕ → ℕ → Label → List ℕ → ℕ → ℕ
 cJoin name last l0 name0 answer0 l1 name1 answer1 =
-    let a : LockAnswer = answerOn name last l0 name0 answer0 l1 name1 answer1 in ifTaken (a .why) (a .bit) (100 + a .why)
+    let a : LockAnswer = answerOn name last l0 name0 answer0 l1 name1 answer1 in ifTaken (a .why) (a .bit) (refusedFrom + a .why)
 
 unfoldable pub cLast : List ℕ → ℕ → Label → List ℕ → ℕ → Label → List ℕ → ℕ → ℕ
 cLast name last l0 name0 answer0 l1 name1 answer1 = answerOn name last l0 name0 answer0 l1 name1 answer1 .lock .last

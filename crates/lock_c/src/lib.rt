@@ -6,6 +6,10 @@ ghost use Rattle.lock_c.specs.Host.{label, answerOn, cJoin, cLast};
 use lock::Lock;
 use lock::LockAnswer;
 use messages::Label;
+use messages::NAME;
+
+// A refused join answers this and the refusal's number.
+const REFUSED: u32 = 100;
 
 // What a join on the host's name and number answers. A name that is not 16 bytes long is refused.
 fn answer_on(
@@ -20,11 +24,11 @@ fn answer_on(
 ) -> LockAnswer
     ensures { λ r. ⌜ r ≡ answerOn (now (name .entry)) last label0 (now (name0 .entry)) answer0 label1 (now (name1 .entry)) answer1 ⌝ }
 {
-    if name.len() != 16 {
+    if name.len() != NAME {
         return LockAnswer {
-            why: 4,
+            why: messages::WRONG_LENGTH,
             lock: Lock {
-                name: [0; 16],
+                name: [0; NAME],
                 last,
             },
             bit: 0,
@@ -66,7 +70,7 @@ pub extern "C" fn lock_join(
         number: number1,
     };
     let a = answer_on(name, last, label0, name0, answer0, label1, name1, answer1);
-    if a.why == 0 { a.bit } else { 100 + a.why }
+    if a.why == 0 { a.bit } else { REFUSED + a.why }
 }
 
 // The lock's last number after that join: the joined one, or where it was refused the one handed in.

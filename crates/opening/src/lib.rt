@@ -16,6 +16,7 @@ use content::ROOM;
 use content::Set;
 use content::TAG_AT;
 use content::TEXT;
+use messages::NAME;
 
 fn joined(low: u32, high: u32) -> u64
     ensures { λ r. ⌜ r ≡ low + high * 2 ^ 32 ⌝ }
@@ -132,7 +133,7 @@ fn refused(why: u32) -> Examined
 // Opens whole blocks into `text`.
 fn open_whole(
     key: &[u8; 32],
-    name: [u8; 16],
+    name: [u8; NAME],
     party: u32,
     number: u64,
     h: &[u8],
@@ -143,10 +144,10 @@ fn open_whole(
 {
     let count = h.len() / BLOCK;
     if !open_blocks(key, number, count, h, text) {
-        return refused(10);
+        return refused(messages::BAD_BLOCK);
     }
     if !reading::content_fits(name, party, count, text) {
-        return refused(11);
+        return refused(messages::BAD_CONTENT);
     }
     Examined {
         why: 0,
@@ -157,7 +158,7 @@ fn open_whole(
 // The same, with room for any half.
 fn open_within(
     key: &[u8; 32],
-    name: [u8; 16],
+    name: [u8; NAME],
     party: u32,
     number: u64,
     h: &[u8],
@@ -173,15 +174,15 @@ fn open_within(
 
 // Examines a half for a box of this key, padded name and party whose last number is `last`. Any
 // bytes may be handed in, and nothing is committed.
-pub fn examine(key: &[u8; 32], name: [u8; 16], party: u32, last: u64, h: &[u8]) -> Examined
+pub fn examine(key: &[u8; 32], name: [u8; NAME], party: u32, last: u64, h: &[u8]) -> Examined
     ensures { λ r. ⌜ r ≡ examined (now (key .entry)) name party last (now (h .entry)) ⌝ }
 {
     if !is_whole(h.len()) {
-        return refused(4);
+        return refused(messages::WRONG_LENGTH);
     }
     let number = load_number(h);
     if !(last < number) {
-        return refused(7);
+        return refused(messages::WRONG_NUMBER);
     }
     open_within(key, name, party, number, h, [0; ROOM])
 }
