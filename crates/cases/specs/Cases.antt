@@ -12,7 +12,9 @@ use Rattle.algebra.specs.Sum.{sum, sumℤ}
 use Rattle.algebra.specs.Bit.{only, less}
 use Rattle.algebra.specs.Word as W
 use Rattle.words.specs.List.{tab, same}
-use Rattle.measure.specs.Measure.{row, scalarProduct, squaredEuclid, hamming, element, own, measure, reached, word}
+use Rattle.measure.specs.declared.Terms.{Terms}
+use Rattle.measure.specs.Measure.{row, scalarProduct, squaredEuclid, hamming, element, own, cross, measure}
+use Rattle.measure.specs.Measure.{sign, difference, reached, word, ordinaryWidth}
 use Rattle.share.specs.Share.{plus, idealGate}
 use Rattle.content.specs.Content.{widths, sumFirst, size, blockCount}
 
@@ -32,18 +34,25 @@ pub data Line : Type 0 where
 unfoldable pub sameℤ : ℤ → ℤ → Bool
 sameℤ a b = leZ a b && leZ b a
 
+-- the terms of a set under this code, for vectors as long as this one
+unfoldable pub termsOf : ℕ → List ℤ → Terms
+termsOf code x = record { code = code; n = length x }
+
 -- the third summand of a measure: k × (sum of X_i × Y_i)
-unfoldable pub crossed : ℕ → ℕ → List ℕ → List ℕ → ℤ
-crossed code n x y = row code .k *ℤ sumℤ (λ i. element x i *ℤ element y i) n
+unfoldable pub crossed : Terms → List ℕ → List ℕ → ℤ
+crossed terms x y = row (terms .code) .k *ℤ cross terms x y
 
 -- whether a line holds
 unfoldable pub holds : Line → Bool
 holds (measured code x y ownX ownY cross m) =
-    sameℤ (own code (length x) (map word x)) ownX && sameℤ (own code (length x) (map word y)) ownY
-    && sameℤ (crossed code (length x) (map word x) (map word y)) cross && sameℤ (measure code (length x) (map word x) (map word y)) m
-holds (reaches code x y t b) = Bool·beq (reached code (measure code (length x) (map word x) (map word y)) t) b
+    let terms : Terms = termsOf code x in
+    sameℤ (own terms (map word x)) ownX && sameℤ (own terms (map word y)) ownY
+    && sameℤ (crossed terms (map word x) (map word y)) cross && sameℤ (measure terms (map word x) (map word y)) m
+holds (reaches code x y t b) =
+    let terms : Terms = termsOf code x in
+    Bool·beq (reached terms (measure terms (map word x) (map word y)) t) b
 holds (masked x m r) = same (plus 1 (word x ∷ []) (m ∷ [])) (r ∷ [])
-holds (gated r d z g) = eqb (add (word d) r) z && eqb (idealGate r z) g
+holds (gated r d z g) = eqb (add (word d) r) z && eqb (idealGate ordinaryWidth r z) g
 holds (filled n b) = eqb (blockCount n) b
 
 unfoldable pub table : List Line
@@ -81,5 +90,7 @@ all [] = true
 all (l ∷ t) = holds l && all t
 
 pub the-cases : all table ≡ true
-unfolding all table holds sameℤ crossed widths sumFirst size blockCount idealGate measure own element reached row scalarProduct squaredEuclid hamming word plus tab same sum sumℤ add sub W.neg W.signed only less
+unfolding all table holds termsOf sameℤ crossed widths sumFirst size blockCount idealGate measure own cross element
+    sign difference reached row scalarProduct squaredEuclid hamming word
+    plus tab same sum sumℤ add sub W.neg W.signed only less
 the-cases = refl

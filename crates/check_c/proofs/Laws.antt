@@ -6,9 +6,10 @@ use Prim.Native.Nat.{ℕ, _<_, _≤_}
 use lib.ListN.{length}
 use borrow.Author.Tests.{le-leb, lt-leb}
 use Rattle.words.specs.List.{over}
+use Rattle.measure.specs.declared.Terms.{Terms}
 use Rattle.measure.specs.Measure.{ownWord}
 use Rattle.share.specs.Share.{plus, share, boxWord}
-use Rattle.check_c.specs.Check.{maskFits, maskedOver, wordFits, wordOrZero}
+use Rattle.check_c.specs.Check.{maskFits, maskedOver, wordFits, termsOf, wordOrZero}
 
 -- ---- the mask
 
@@ -46,8 +47,9 @@ module _ (code party c r : ℕ) (v mx my sx sy : List ℕ) where
   sy-short h i j k = rw (le-leb (length v) (length mx) h, le-leb (length v) (length my) i, le-leb (length v) (length sx) j, lt-leb (length v) (length sy) k) refl
 
   pub word-fits : (s own w : ℕ) → length v ≤ length mx → length v ≤ length my → length v ≤ length sx → length v ≤ length sy
-      → s ≡ share party (length v) c mx my sx sy → own ≡ ownWord code (length v) v → w ≡ boxWord code s own r → w ≡ wordOrZero code party c r v mx my sx sy
+      → s ≡ share party (length v) c mx my sx sy → own ≡ ownWord (termsOf code v) v
+      → w ≡ boxWord (termsOf code v) s own r → w ≡ wordOrZero code party c r v mx my sx sy
   unfolding wordOrZero wordFits
   word-fits s own w h i j k es eo ew =
       rw (le-leb (length v) (length mx) h, le-leb (length v) (length my) i, le-leb (length v) (length sx) j, le-leb (length v) (length sy) k)
-      (ew ∙ ap₂ (λ a b. boxWord code a b r) es eo)
+      (ew ∙ ap₂ (λ a b. boxWord (termsOf code v) a b r) es eo)

@@ -1,5 +1,5 @@
--- What the C functions of a check do with slices of any lengths: the vector's length counts, and where another slice is shorter nothing is computed.
--- Assumes nothing.
+-- What the C functions of a check do with slices of any lengths: the vector's length counts, and where another slice is
+-- shorter nothing is computed. Assumes nothing.
 use mathlib.Core.Bool.{Bool, cond, _&&_}
 use mathlib.Core.List.{List}
 use Prim.Native.Nat.{ℕ}
@@ -7,6 +7,7 @@ use lib.Dec.{leb}
 use lib.ListN.{length}
 use Rattle.words.specs.List.{over}
 use Rattle.share.specs.Share.{plus, share, boxWord}
+use Rattle.measure.specs.declared.Terms.{Terms}
 use Rattle.measure.specs.Measure.{ownWord}
 
 -- whether a mask and a place for the answer are as long as a vector
@@ -21,7 +22,12 @@ maskedOver v m out = cond (maskFits v m out) (over 0 (plus (length v) v m) out) 
 unfoldable pub wordFits : List ℕ → List ℕ → List ℕ → List ℕ → List ℕ → Bool
 wordFits v mx my sx sy = leb (length v) (length mx) && (leb (length v) (length my) && (leb (length v) (length sx) && leb (length v) (length sy)))
 
+-- the terms of a set under this code, for vectors as long as v
+unfoldable pub termsOf : ℕ → List ℕ → Terms
+termsOf code v = record { code = code; n = length v }
+
 -- call 3: the word of the party whose vector is v, else 0
 unfoldable pub wordOrZero : ℕ → ℕ → ℕ → ℕ → List ℕ → List ℕ → List ℕ → List ℕ → List ℕ → ℕ
 wordOrZero code party c r v mx my sx sy =
-    cond (wordFits v mx my sx sy) (boxWord code (share party (length v) c mx my sx sy) (ownWord code (length v) v) r) 0
+    let terms : Terms = termsOf code v in
+    cond (wordFits v mx my sx sy) (boxWord terms (share party (length v) c mx my sx sy) (ownWord terms v) r) 0

@@ -4,8 +4,11 @@
 // struct by value. No function asks anything of its caller.
 ghost use mathlib.Core.Path.{_≡_};
 ghost use Rattle.node.specs.Node.{keyFor, valueAt};
+ghost use Rattle.measure.specs.Measure.{ordinaryWidth};
 ghost use Rattle.share.specs.Share.{answer as answerOf};
 ghost use Rattle.check_c.specs.Check.{maskFits, maskedOver, wordOrZero};
+use measure::ORDINARY_WIDTH;
+use measure::Terms;
 use node::Key;
 
 // The key for a point, from the key seeds of party 0 and 1.
@@ -24,12 +27,12 @@ pub extern "C" fn check_value(key: Key, seed: &[u32; 8], party: u32, u: u32) -> 
     walk::value(key, *seed, party, u)
 }
 
-// The party's answer, from the sum of both words.
+// The party's answer in an ordinary set, from the sum of both words.
 #[no_mangle]
 pub extern "C" fn check_answer(key: Key, seed: &[u32; 8], party: u32, z: u32) -> u32
-    ensures { λ r. ⌜ r ≡ answerOf party key (now (seed .entry)) z ⌝ }
+    ensures { λ r. ⌜ r ≡ answerOf ordinaryWidth party key (now (seed .entry)) z ⌝ }
 {
-    answers::answer(party, key, *seed, z)
+    answers::answer(ORDINARY_WIDTH, party, key, *seed, z)
 }
 
 // The vector v under the mask m, from the start of out. Where m or out is shorter than v it answers
@@ -79,6 +82,7 @@ pub extern "C" fn check_word(
     if sy.len() < n {
         return 0;
     }
+    let terms = Terms { code, n };
     let s = share::share_of(party, n, c, mx, my, sx, sy);
-    answers::word(code, s, own_term::own(code, v), r)
+    answers::word(terms, s, own_term::own(terms, v), r)
 }

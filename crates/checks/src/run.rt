@@ -5,10 +5,11 @@ ghost use lib.ListN.{length};
 use crate::Dealt;
 use crate::bad_line;
 use crate::deal;
+use measure::MOST_ELEMENTS;
+use measure::ORDINARY_WIDTH;
+use measure::Terms;
 use script::ROOM;
 use script::word_at;
-
-const LENGTH: usize = 512;
 
 // The shares of both masks, one after the other: x0, x1, y0, y1.
 const MASKS: usize = 2048;
@@ -61,10 +62,10 @@ struct Two(u32, u32);
 // The sum of the two shares of a vector's mask, and the vector masked: its first and last word.
 fn mask(
     n: usize,
-    v: &[u32; LENGTH],
+    v: &[u32; MOST_ELEMENTS],
     shares: &[u32],
-    sum: &mut [u32; LENGTH],
-    masked: &mut [u32; LENGTH],
+    sum: &mut [u32; MOST_ELEMENTS],
+    masked: &mut [u32; MOST_ELEMENTS],
 ) -> Two
     requires { ⌜ (0 < n) × (n ≤ 512) × (2 * n ≤ length (now shares)) ⌝ }
 {
@@ -73,55 +74,57 @@ fn mask(
     Two(masked[0], masked[n - 1])
 }
 
-fn own(code: u32, n: usize, v: &[u32]) -> u32
-    requires { ⌜ n ≤ length (now v) ⌝ }
-{
-    own_term::own(code, &v[..n])
-}
-
 // Words 0 and 1.
 fn words_of(
     d: Numbers,
-    n: usize,
+    terms: Terms,
     own: Two,
     c1: u32,
     masks: &[u32],
-    mx: &[u32; LENGTH],
-    my: &[u32; LENGTH],
+    mx: &[u32; MOST_ELEMENTS],
+    my: &[u32; MOST_ELEMENTS],
 ) -> Two
-    requires { ⌜ (n ≤ 512) × (4 * n ≤ length (now masks)) ⌝ }
+    requires { ⌜ (terms .n ≤ 512) × (4 * terms .n ≤ length (now masks)) ⌝ }
 {
+    let n = terms.n;
     let y0 = 2 * n;
     let y1 = 3 * n;
     let share0 = share::share_of(0, n, d.c0, mx, my, masks, &masks[y0..]);
     let share1 = share::share_of(1, n, c1, mx, my, &masks[n..], &masks[y1..]);
-    let r1 = share::other_r(d.r, d.t, d.r0);
+    let r1 = share::other_r(terms, d.r, d.t, d.r0);
     Two(
-        answers::word(d.code, share0, own.0, d.r0),
-        answers::word(d.code, share1, own.1, r1),
+        answers::word(terms, share0, own.0, d.r0),
+        answers::word(terms, share1, own.1, r1),
     )
 }
 
-fn other_c(n: usize, x: &[u32; LENGTH], y: &[u32; LENGTH], c0: u32) -> u32
+fn other_c(n: usize, x: &[u32; MOST_ELEMENTS], y: &[u32; MOST_ELEMENTS], c0: u32) -> u32
     requires { ⌜ n ≤ 512 ⌝ }
 {
     share::other_c(n, x, y, c0)
 }
 
 // The first and the last word of both masked vectors, and words 0 and 1.
-fn two_words(d: Numbers, n: usize, x: &[u32; LENGTH], y: &[u32; LENGTH], masks: &[u32]) -> [u32; 6]
+fn two_words(
+    d: Numbers,
+    n: usize,
+    x: &[u32; MOST_ELEMENTS],
+    y: &[u32; MOST_ELEMENTS],
+    masks: &[u32],
+) -> [u32; 6]
     requires { ⌜ (0 < n) × (n ≤ 512) × (4 * n ≤ length (now masks)) ⌝ }
 {
-    let mut x_mask = [0u32; LENGTH];
-    let mut y_mask = [0u32; LENGTH];
-    let mut mx = [0u32; LENGTH];
-    let mut my = [0u32; LENGTH];
+    let mut x_mask = [0u32; MOST_ELEMENTS];
+    let mut y_mask = [0u32; MOST_ELEMENTS];
+    let mut mx = [0u32; MOST_ELEMENTS];
+    let mut my = [0u32; MOST_ELEMENTS];
     let y0 = 2 * n;
     let ex = mask(n, x, masks, &mut x_mask, &mut mx);
     let ey = mask(n, y, &masks[y0..], &mut y_mask, &mut my);
     let c1 = other_c(n, &x_mask, &y_mask, d.c0);
-    let own = Two(own(d.code, n, x), own(d.code, n, y));
-    let w = words_of(d, n, own, c1, masks, &mx, &my);
+    let terms = Terms { code: d.code, n };
+    let own = Two(own_term::own(terms, x), own_term::own(terms, y));
+    let w = words_of(d, terms, own, c1, masks, &mx, &my);
     [ex.0, ex.1, ey.0, ey.1, w.0, w.1]
 }
 
@@ -130,8 +133,8 @@ fn answers(d: Dealt, z: u32) -> [u32; 4] {
     let key = d.key;
     let seed0 = d.seed0;
     let seed1 = d.seed1;
-    let a0 = answers::answer(0, key, seed0, z);
-    let a1 = answers::answer(1, key, seed1, z);
+    let a0 = answers::answer(ORDINARY_WIDTH, 0, key, seed0, z);
+    let a1 = answers::answer(ORDINARY_WIDTH, 1, key, seed1, z);
     [z, a0, a1, words::add(a0, a1)]
 }
 
@@ -147,15 +150,15 @@ fn put_run(line: &[u8], out: &mut [u8; ROOM], at: usize, w: [u32; 6]) -> usize {
 
 // run CODE T X Y MASKS C0 R R0 SEED0 SEED1
 pub fn check(line: &[u8], out: &mut [u8; ROOM], at: usize) -> usize {
-    let mut x = [0u32; LENGTH];
-    let mut y = [0u32; LENGTH];
+    let mut x = [0u32; MOST_ELEMENTS];
+    let mut y = [0u32; MOST_ELEMENTS];
     let mut masks = [0u32; MASKS];
     let n = read_vector(line, 3, &mut x);
     let m = read_vector(line, 4, &mut y);
     let k = read_vector(line, 5, &mut masks);
     let d = read_numbers(line);
     if 0 < n {
-        if n <= LENGTH {
+        if n <= MOST_ELEMENTS {
             if d.ok & (m == n) & (k == 4 * n) {
                 return put_run(line, out, at, two_words(d, n, &x, &y, &masks));
             }

@@ -1,4 +1,4 @@
--- The rows of the table as code makes them: the range test on words, every element of a slice, and the own term. Assumes nothing.
+-- The rows of the table as code makes them: the range test on words, and every element of a slice. Assumes nothing.
 use mathlib.Core.Path.{_≡_, refl, sym, ap, ap₂, _∙_}
 use mathlib.Core.Bool.{Bool, _&&_, and-true, and-assoc}
 use mathlib.Core.List.{List, [], _∷_}
@@ -10,6 +10,7 @@ use lib.IntN.{ℤ}
 use lib.ListN.{length, take, getD}
 use lib.Seq.{take-all}
 use Rattle.algebra.specs.Word.{add, signed}
+use Rattle.measure.specs.declared.Terms.{Terms}
 use Rattle.measure.specs.Measure.{scalarProduct, squaredEuclid, hamming, row, within, inRange, allInRange, thresholdFits}
 use Rattle.measure.proofs.Signed.{signed-order}
 
@@ -29,29 +30,37 @@ row-2 (suc zero) n m = absurd (m refl)
 row-2 (suc (suc code)) n m = refl
 
 pub within-words : (w low high : ℕ) → w < 2 ^ 32 → low < 2 ^ 32 → high < 2 ^ 32
-    → leb (add low (2 ^ 31)) (add w (2 ^ 31)) && leb (add w (2 ^ 31)) (add high (2 ^ 31)) ≡ within (signed low) (signed high) (signed w)
+    → leb (add low (2 ^ 31)) (add w (2 ^ 31)) && leb (add w (2 ^ 31)) (add high (2 ^ 31))
+    ≡ within (signed low) (signed high) (signed w)
 unfolding within
 within-words w low high lw ll lh = ap₂ _&&_ (signed-order low w ll lw) (signed-order w high lw lh)
 
-pub element-range : (code w low high : ℕ) (r : Bool) → signed low ≡ row code .low → signed high ≡ row code .high
-    → r ≡ within (signed low) (signed high) (signed w) → r ≡ inRange code w
-unfolding inRange
-element-range code w low high r l h e = e ∙ ap₂ (λ (a b : ℤ). within a b (signed w)) l h
+module _ (terms : Terms) where
+  pub element-range : (w low high : ℕ) (r : Bool) → signed low ≡ row (terms .code) .low
+      → signed high ≡ row (terms .code) .high → r ≡ within (signed low) (signed high) (signed w)
+      → r ≡ inRange terms w
+  unfolding inRange
+  element-range w low high r l h e = e ∙ ap₂ (λ (a b : ℤ). within a b (signed w)) l h
 
-pub threshold-range : (code t least most : ℕ) (r : Bool) → signed least ≡ row code .least → signed most ≡ row code .most
-    → r ≡ within (signed least) (signed most) (signed t) → r ≡ thresholdFits code t
-unfolding thresholdFits
-threshold-range code t least most r l m e = e ∙ ap₂ (λ (a b : ℤ). within a b (signed t)) l m
+  pub threshold-range : (t least most : ℕ) (r : Bool) → signed least ≡ row (terms .code) .least
+      → signed most ≡ row (terms .code) .most → r ≡ within (signed least) (signed most) (signed t)
+      → r ≡ thresholdFits terms t
+  unfolding thresholdFits
+  threshold-range t least most r l m e = e ∙ ap₂ (λ (a b : ℤ). within a b (signed t)) l m
 
--- one element more
-pub all-more : (code : ℕ) (v : List ℕ) (i : ℕ) → i < length v → allInRange code (take (i + 1) v) ≡ allInRange code (take i v) && inRange code (getD v i 0)
-unfolding allInRange
-all-more code v i h = rw (add-one i) (go v i h)
-  where
-    go : (v : List ℕ) (i : ℕ) → i < length v → allInRange code (take (suc i) v) ≡ allInRange code (take i v) && inRange code (getD v i 0)
-    go [] i h = absurd (omega arith)
-    go (w ∷ v) zero h = and-true (inRange code w)
-    go (w ∷ v) (suc i) h = ap (λ (c : Bool). inRange code w && c) (go v i (omega arith)) ∙ sym (and-assoc (inRange code w) (allInRange code (take i v)) (inRange code (getD v i 0)))
+  -- one element more
+  pub all-more : (v : List ℕ) (i : ℕ) → i < length v
+      → allInRange terms (take (i + 1) v) ≡ allInRange terms (take i v) && inRange terms (getD v i 0)
+  unfolding allInRange
+  all-more v i h = rw (add-one i) (go v i h)
+    where
+      go : (v : List ℕ) (i : ℕ) → i < length v
+          → allInRange terms (take (suc i) v) ≡ allInRange terms (take i v) && inRange terms (getD v i 0)
+      go [] i h = absurd (omega arith)
+      go (w ∷ v) zero h = and-true (inRange terms w)
+      go (w ∷ v) (suc i) h =
+          ap (λ (c : Bool). inRange terms w && c) (go v i (omega arith))
+          ∙ sym (and-assoc (inRange terms w) (allInRange terms (take i v)) (inRange terms (getD v i 0)))
 
-pub all-whole : (code : ℕ) (v : List ℕ) (i : ℕ) → i ≡ length v → allInRange code (take i v) ≡ allInRange code v
-all-whole code v i h = ap (allInRange code) (take-all i v (omega arith))
+  pub all-whole : (v : List ℕ) (i : ℕ) → i ≡ length v → allInRange terms (take i v) ≡ allInRange terms v
+  all-whole v i h = ap (allInRange terms) (take-all i v (omega arith))

@@ -1,16 +1,24 @@
--- The three measures (01, "Measures"): the table, the whole number that a code, a length and two vectors have, and the words that a box computes.
--- Elements and thresholds are words: a negative number stands for itself plus 2^32. Assumes nothing.
+-- The three measures (01, "Measures"): the table, the whole number that a set's terms and two vectors have, and the
+-- words that a box computes. Elements and thresholds are words: a negative number stands for itself plus 2^32. The
+-- terms are what both boxes know of a set: its measure's code, and L as `n`. Assumes nothing.
 use mathlib.Core.Bool.{Bool, true, false, cond, _&&_}
 use mathlib.Core.List.{List, [], _∷_}
 use Prim.Native.Nat.{ℕ, zero, suc, _*_, _-_, _%_, _^_}
-use lib.Dec.{ltb}
-use lib.IntN.{ℤ, pos, negsuc, negℤ, _+ℤ_, _*ℤ_}
+use lib.Dec.{ltb, leb}
+use lib.IntN.{ℤ, pos, negsuc, negℤ, _+ℤ_, _-ℤ_, _*ℤ_}
 use lib.ListN.{getD}
 use lib.Signed.{leZ}
 use Rattle.algebra.specs.Word.{neg, mul, signed}
 use Rattle.algebra.specs.Sum.{sum, sumℤ}
+use Rattle.measure.specs.declared.Terms.{Terms}
 
--- 01's table, a row for each code. `squares`: own is the sum of squares, else 0. An element lies from `low` to `high`, a threshold from `least` to `most`.
+-- the most elements that a vector has under any measure: the places of every array of a vector's words
+abbrev pub mostElements : ℕ
+mostElements = 512
+
+-- 01's table, a row for each code. `squares`: own is the sum of squares, else 0. An element lies from `low` to `high`,
+-- a threshold from `least` to `most`. A vector has at most `longest` elements. `sign`: 1 where a set opens measure - T,
+-- and -1 where it opens T - measure.
 pub record Row : Type 0 where
   pub squares : Bool
   pub k : ℤ
@@ -18,17 +26,34 @@ pub record Row : Type 0 where
   pub high : ℤ
   pub least : ℤ
   pub most : ℤ
+  pub longest : ℕ
+  pub sign : ℤ
+
+-- the columns in the order of 01's table, then the length's and the sign's
+abbrev columns : Bool → ℤ → ℤ → ℤ → ℤ → ℤ → ℕ → ℤ → Row
+columns squares k low high least most longest sign =
+    record {
+      squares = squares;
+      k = k;
+      low = low;
+      high = high;
+      least = least;
+      most = most;
+      longest = longest;
+      sign = sign;
+    }
 
 unfoldable pub scalarProduct : Row
-scalarProduct = record { squares = false; k = pos 1; low = negℤ (pos 1024); high = pos 1023; least = negℤ (pos (2 ^ 30)); most = pos (2 ^ 30) }
+scalarProduct = columns false (pos 1) (negℤ (pos 1024)) (pos 1023) (negℤ (pos (2 ^ 30))) (pos (2 ^ 30)) 512 (pos 1)
 
 unfoldable pub squaredEuclid : Row
-squaredEuclid = record { squares = true; k = negℤ (pos 2); low = negℤ (pos 1024); high = pos 1023; least = pos 0; most = pos (2 ^ 31 - 1) }
+squaredEuclid = columns true (negℤ (pos 2)) (negℤ (pos 1024)) (pos 1023) (pos 0) (pos (2 ^ 31 - 1)) 512 (pos 1)
 
 unfoldable pub hamming : Row
-hamming = record { squares = true; k = negℤ (pos 2); low = pos 0; high = pos 1; least = pos 0; most = pos 513 }
+hamming = columns true (negℤ (pos 2)) (pos 0) (pos 1) (pos 0) (pos 513) 512 (pos 1)
 
--- 01's table, column "code". A code above 2 reads as 2: such a code is refused before anything is read here (01, "When a call is turned down", 2).
+-- 01's table, column "code". A code above 2 reads as 2: such a code is refused before anything is read here (01, "When
+-- a call is turned down", 2).
 unfoldable pub row : ℕ → Row
 row zero = scalarProduct
 row (suc zero) = squaredEuclid
@@ -38,37 +63,54 @@ row (suc (suc code)) = hamming
 unfoldable pub isCode : ℕ → Bool
 isCode code = ltb code 3
 
+-- "Let L be the vector length, 1 to 512"
+unfoldable pub lengthFits : Terms → Bool
+lengthFits terms = leb 1 (terms .n) && leb (terms .n) (row (terms .code) .longest)
+
 -- X_i as a whole number
 unfoldable pub element : List ℕ → ℕ → ℤ
 element v i = signed (getD v i 0)
 
--- own(X) over the first n places (01's table, column "own")
-unfoldable pub own : ℕ → ℕ → List ℕ → ℤ
-own code n v = cond (row code .squares) (sumℤ (λ i. element v i *ℤ element v i) n) (pos 0)
+-- own(X) over the first L places (01's table, column "own")
+unfoldable pub own : Terms → List ℕ → ℤ
+own terms v = cond (row (terms .code) .squares) (sumℤ (λ i. element v i *ℤ element v i) (terms .n)) (pos 0)
+
+-- the "sum of X_i × Y_i"
+unfoldable pub cross : Terms → List ℕ → List ℕ → ℤ
+cross terms x y = sumℤ (λ i. element x i *ℤ element y i) (terms .n)
 
 -- "Measure = own(X) + own(Y) + k × (sum of X_i × Y_i)"
-unfoldable pub measure : ℕ → ℕ → List ℕ → List ℕ → ℤ
-measure code n x y = own code n x +ℤ own code n y +ℤ row code .k *ℤ sumℤ (λ i. element x i *ℤ element y i) n
+unfoldable pub measure : Terms → List ℕ → List ℕ → ℤ
+measure terms x y = own terms x +ℤ own terms y +ℤ row (terms .code) .k *ℤ cross terms x y
 
--- "Reached means measure ≥ T, for all three": code, measure, T
-unfoldable pub reached : ℕ → ℤ → ℤ → Bool
-reached code m t = leZ t m
+-- the sign that a set's sum is opened by
+unfoldable pub sign : Terms → ℤ
+sign terms = row (terms .code) .sign
+
+-- what the two boxes open, under r: measure - T, or T - measure where the sign is -1. Terms, measure, T
+unfoldable pub difference : Terms → ℤ → ℤ → ℤ
+difference terms m t = sign terms *ℤ (m -ℤ t)
+
+-- whether the threshold is reached: what they open is not below 0. By the sign 1 that is "Reached means measure ≥ T,
+-- for all three" (Laws.`reached-plain`). Terms, measure, T
+unfoldable pub reached : Terms → ℤ → ℤ → Bool
+reached terms m t = leZ (pos 0) (difference terms m t)
 
 -- whether z lies from low to high
 unfoldable pub within : ℤ → ℤ → ℤ → Bool
 within low high z = leZ low z && leZ z high
 
--- 01's table, column "elements": code, word
-unfoldable pub inRange : ℕ → ℕ → Bool
-inRange code w = within (row code .low) (row code .high) (signed w)
+-- 01's table, column "elements": terms, word
+unfoldable pub inRange : Terms → ℕ → Bool
+inRange terms w = within (row (terms .code) .low) (row (terms .code) .high) (signed w)
 
-unfoldable pub allInRange : ℕ → List ℕ → Bool
-allInRange code [] = true
-allInRange code (w ∷ v) = inRange code w && allInRange code v
+unfoldable pub allInRange : Terms → List ℕ → Bool
+allInRange terms [] = true
+allInRange terms (w ∷ v) = inRange terms w && allInRange terms v
 
--- 01's table, column "threshold T": code, word
-unfoldable pub thresholdFits : ℕ → ℕ → Bool
-thresholdFits code t = within (row code .least) (row code .most) (signed t)
+-- 01's table, column "threshold T": terms, word
+unfoldable pub thresholdFits : Terms → ℕ → Bool
+thresholdFits terms t = within (row (terms .code) .least) (row (terms .code) .most) (signed t)
 
 -- ---- as words (01, "Measures": "word sums, differences and products are taken modulo 2^32")
 
@@ -77,13 +119,27 @@ unfoldable pub word : ℤ → ℕ
 word (pos n) = n % 2 ^ 32
 word (negsuc n) = neg (suc n)
 
-unfoldable pub kWord : ℕ → ℕ
-kWord code = word (row code .k)
+unfoldable pub kWord : Terms → ℕ
+kWord terms = word (row (terms .code) .k)
 
-unfoldable pub ownWord : ℕ → ℕ → List ℕ → ℕ
-ownWord code n v = cond (row code .squares) (sum (λ i. mul (getD v i 0) (getD v i 0)) n) 0
+unfoldable pub signWord : Terms → ℕ
+signWord terms = word (sign terms)
 
--- the table of squares: n of them, from that of i on. The checker computes this list and holds the constant to it, entry by entry.
+unfoldable pub ownWord : Terms → List ℕ → ℕ
+ownWord terms v = cond (row (terms .code) .squares) (sum (λ i. mul (getD v i 0) (getD v i 0)) (terms .n)) 0
+
+-- what a party carries into the product and puts under its mask: its vector as it is, at both parties. The sum of the
+-- products of what the two carry is `cross` (Laws.`cross≈`). Terms, party, vector
+unfoldable pub carried : Terms → ℕ → List ℕ → List ℕ
+carried terms party v = v
+
+-- the width of the interval that an ordinary set answers for: what it opens lies from 0 to this if the threshold is
+-- reached
+abbrev pub ordinaryWidth : ℕ
+ordinaryWidth = 2 ^ 31 - 1
+
+-- the table of squares: n of them, from that of i on. The checker computes this list and holds the constant to it,
+-- entry by entry
 unfoldable pub squaresFrom : ℕ → ℕ → List ℕ
 squaresFrom i zero = []
 squaresFrom i (suc n) = i * i ∷ squaresFrom (suc i) n

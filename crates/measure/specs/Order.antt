@@ -22,13 +22,13 @@ sub-test a b = go (ltb a b) refl
     go true e = sym (lt-leb b a (ltb-true a b e))
     go false e = leb·zero (a - b) ∙ sym (le-leb b a (ltb-false a b e))
 
-pub difference : (m t : ℤ) → leZ (pos 0) (m -ℤ t) ≡ leZ t m
-difference (pos a) (pos zero) = leb·zero (a + 0) ∙ sym (leb·zero a)
-difference (pos a) (pos (suc b)) = sub-test a (suc b)
-difference (pos a) (negsuc b) = leb·zero (a + suc b)
-difference (negsuc a) (pos zero) = sub-test 0 (suc a) ∙ leb·suc-zero a
-difference (negsuc a) (pos (suc b)) = refl
-difference (negsuc a) (negsuc b) = sub-test (suc b) (suc a) ∙ leb·suc-suc a b
+pub above-zero : (m t : ℤ) → leZ (pos 0) (m -ℤ t) ≡ leZ t m
+above-zero (pos a) (pos zero) = leb·zero (a + 0) ∙ sym (leb·zero a)
+above-zero (pos a) (pos (suc b)) = sub-test a (suc b)
+above-zero (pos a) (negsuc b) = leb·zero (a + suc b)
+above-zero (negsuc a) (pos zero) = sub-test 0 (suc a) ∙ leb·suc-zero a
+above-zero (negsuc a) (pos (suc b)) = refl
+above-zero (negsuc a) (negsuc b) = sub-test (suc b) (suc a) ∙ leb·suc-suc a b
 
 -- ---- a ≤ b, with what lies between
 
@@ -37,7 +37,7 @@ pub record Le (a b : ℤ) : Type 0 where
   pub is : b ≡ a +ℤ pos gap
 
 pub of-test : (a b : ℤ) → leZ a b ≡ true → Le a b
-of-test a b h = go (b -ℤ a) refl (difference b a ∙ h)
+of-test a b h = go (b -ℤ a) refl (above-zero b a ∙ h)
   where
     back : (a b : ℤ) → b ≡ a +ℤ (b -ℤ a)
     back a b = ringℤ (a ∷ b ∷ []) (search reifyℤ depth 20 fits 5000) refl
@@ -47,7 +47,10 @@ of-test a b h = go (b -ℤ a) refl (difference b a ∙ h)
     go (negsuc d) e t = neither t
 
 pub to-test : {a b : ℤ} → Le a b → leZ a b ≡ true
-to-test {a} {b} l = sym (difference b a) ∙ ap (leZ (pos 0)) (ap (λ (z : ℤ). z -ℤ a) (l .is) ∙ left a (pos (l .gap))) ∙ leb·zero (l .gap)
+to-test {a} {b} l =
+    sym (above-zero b a)
+    ∙ ap (leZ (pos 0)) (ap (λ (z : ℤ). z -ℤ a) (l .is) ∙ left a (pos (l .gap)))
+    ∙ leb·zero (l .gap)
   where
     left : (a g : ℤ) → a +ℤ g -ℤ a ≡ g
     left a g = ringℤ (a ∷ g ∷ []) (search reifyℤ depth 20 fits 5000) refl
@@ -112,11 +115,13 @@ module _ (h x y : ℤ) (below : Le (negℤ h) x) (above : Le x h) (below′ : Le
   at-least h x y = ringℤ (h ∷ x ∷ y ∷ []) (search reifyℤ depth 20 fits 5000) refl
 
   pub product-most : Le (x *ℤ y) (h *ℤ h)
-  product-most = of-test (x *ℤ y) (h *ℤ h) (sym (difference (h *ℤ h) (x *ℤ y)) ∙ two (h *ℤ h -ℤ x *ℤ y) (above .gap) (below′ .gap) (below .gap) (above′ .gap)
+  product-most = of-test (x *ℤ y) (h *ℤ h) (sym (above-zero (h *ℤ h) (x *ℤ y))
+      ∙ two (h *ℤ h -ℤ x *ℤ y) (above .gap) (below′ .gap) (below .gap) (above′ .gap)
       (at-most h x y ∙ sym (ap₂ _+ℤ_ (ap₂ _*ℤ_ (up h x _ (above .is)) (up y (negℤ h) _ (below′ .is))) (ap₂ _*ℤ_ (up x (negℤ h) _ (below .is)) (up h y _ (above′ .is))))))
 
   pub product-least : Le (negℤ (h *ℤ h)) (x *ℤ y)
-  product-least = of-test (negℤ (h *ℤ h)) (x *ℤ y) (sym (difference (x *ℤ y) (negℤ (h *ℤ h))) ∙ two (x *ℤ y -ℤ negℤ (h *ℤ h)) (above .gap) (above′ .gap) (below .gap) (below′ .gap)
+  product-least = of-test (negℤ (h *ℤ h)) (x *ℤ y) (sym (above-zero (x *ℤ y) (negℤ (h *ℤ h)))
+      ∙ two (x *ℤ y -ℤ negℤ (h *ℤ h)) (above .gap) (above′ .gap) (below .gap) (below′ .gap)
       (at-least h x y ∙ sym (ap₂ _+ℤ_ (ap₂ _*ℤ_ (up h x _ (above .is)) (up h y _ (above′ .is))) (ap₂ _*ℤ_ (up x (negℤ h) _ (below .is)) (up y (negℤ h) _ (below′ .is))))))
 
 -- ---- sums

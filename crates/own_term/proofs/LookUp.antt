@@ -8,11 +8,12 @@ use native.Mathlib.Omega.{arith}
 use borrow.Author.Tests.{ltb-true, ltb-false}
 use lib.Dec.{ltb}
 use lib.IntN.{natAbs}
-use lib.ListN.{length, getD}
+use lib.ListN.{getD}
 use Rattle.algebra.specs.Mod.{m-eq}
 use Rattle.algebra.specs.Ring.{ring}
 use Rattle.algebra.specs.Sum.{sum}
 use Rattle.algebra.specs.Word.{mul, neg, signed, _≈_, words, mul-lt, same-word}
+use Rattle.measure.specs.declared.Terms.{Terms}
 use Rattle.measure.specs.Measure.{row, ownWord, squaresFrom}
 use Rattle.measure.specs.Laws.{signed-low, signed-high}
 
@@ -59,10 +60,14 @@ small-square x m r k e l h =
     let fits : m * m ≡ m * m % 2 ^ 32 = omega arith in
     h ∙ fits ∙ square-sign x m k e
 
-pub own-squares : (code : ℕ) (v : List ℕ) (b : Bool) (r : ℕ) → b ≡ true → b ≡ row code .squares → r ≡ sum (λ i. mul (getD v i 0) (getD v i 0)) (length v) → r ≡ ownWord code (length v) v
-unfolding ownWord
-own-squares code v b r t e h = h ∙ ap (λ (c : Bool). cond c (sum (λ i. mul (getD v i 0) (getD v i 0)) (length v)) 0) (sym t ∙ e)
+module _ (terms : Terms) (v : List ℕ) where
+  pub own-squares : (b : Bool) (r : ℕ) → b ≡ true → b ≡ row (terms .code) .squares
+      → r ≡ sum (λ i. mul (getD v i 0) (getD v i 0)) (terms .n) → r ≡ ownWord terms v
+  unfolding ownWord
+  own-squares b r t e h =
+      h ∙ ap (λ (c : Bool). cond c (sum (λ i. mul (getD v i 0) (getD v i 0)) (terms .n)) 0) (sym t ∙ e)
 
-pub own-none : (code : ℕ) (v : List ℕ) (b : Bool) → b ≡ false → b ≡ row code .squares → 0 ≡ ownWord code (length v) v
-unfolding ownWord
-own-none code v b f e = ap (λ (c : Bool). cond c (sum (λ i. mul (getD v i 0) (getD v i 0)) (length v)) 0) (sym f ∙ e)
+  pub own-none : (b : Bool) → b ≡ false → b ≡ row (terms .code) .squares → 0 ≡ ownWord terms v
+  unfolding ownWord
+  own-none b f e =
+      ap (λ (c : Bool). cond c (sum (λ i. mul (getD v i 0) (getD v i 0)) (terms .n)) 0) (sym f ∙ e)

@@ -1,11 +1,13 @@
 // A box's own term of a measure (01, "Measures"): the sum of its elements' squares, looked up in a
 // table whose every entry is proved.
 ghost use mathlib.Core.Path.{_≡_};
+ghost use Prim.Native.Nat.{_≤_};
 ghost use lib.ListN.{length, getD};
 ghost use lib.IntN.{natAbs};
 ghost use Rattle.algebra.specs.Word.{mul as mulOf, signed};
 ghost use Rattle.algebra.specs.Sum.{sum};
 ghost use Rattle.measure.specs.Measure.{ownWord, squaresFrom};
+use measure::Terms;
 
 mod squares;
 
@@ -34,24 +36,28 @@ fn square(t: &[u32; 1025], x: u32) -> u32
     }
 }
 
-// The table is set up once, before the loop: each use of a constant array copies it.
-fn sum_of_squares(v: &[u32]) -> u32
-    ensures { λ r. ⌜ r ≡ sum (λ i. mulOf (getD (now (v .entry)) i 0) (getD (now (v .entry)) i 0)) (length (now (v .entry))) ⌝ }
+// The sum of the squares of the first n elements. The table is set up once, before the loop: each use
+// of a constant array copies it.
+fn sum_of_squares(n: usize, v: &[u32]) -> u32
+    requires { ⌜ n ≤ length (now v) ⌝ }
+    ensures { λ r. ⌜ r ≡ sum (λ i. mulOf (getD (now (v .entry)) i 0) (getD (now (v .entry)) i 0)) n ⌝ }
 {
     let table = squares::SQUARES;
     let mut total: u32 = 0;
     let mut i: usize = 0;
-    while i < v.len() {
+    while i < n {
         total = words::add(total, square(&table, v[i]));
         i += 1;
     }
     total
 }
 
-// The own term of a vector.
-pub fn own(code: u32, v: &[u32]) -> u32
-    ensures { λ r. ⌜ r ≡ ownWord code (length (now (v .entry))) (now (v .entry)) ⌝ }
+// The own term of the vector whose elements stand at the start of v.
+pub fn own(terms: Terms, v: &[u32]) -> u32
+    requires { ⌜ terms .n ≤ length (now v) ⌝ }
+    ensures { λ r. ⌜ r ≡ ownWord terms (now (v .entry)) ⌝ }
 {
-    let row = measure::row_of(code);
-    if row.squares { sum_of_squares(v) } else { 0 }
+    let n = terms.n;
+    let row = measure::row_of(terms.code);
+    if row.squares { sum_of_squares(n, v) } else { 0 }
 }

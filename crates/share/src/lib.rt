@@ -5,7 +5,7 @@ ghost use lib.ListN.{length};
 ghost use Prim.Native.Nat.{_≤_};
 ghost use Rattle.words.specs.List.{over};
 ghost use Rattle.share.specs.Share.{plus, inner as innerOf, otherC, otherR, share as shareOf};
-use node::Key;
+use measure::Terms;
 
 // The first n words of a and of b, added element by element, from the start of out: an element and
 // its mask, or the two shares of a mask.
@@ -43,10 +43,10 @@ pub fn other_c(n: usize, x: &[u32], y: &[u32], c0: u32) -> u32
 }
 
 // Party 1's r word, from r, the threshold and party 0's.
-pub fn other_r(r: u32, t: u32, r0: u32) -> u32
-    ensures { λ x. ⌜ x ≡ otherR r t r0 ⌝ }
+pub fn other_r(terms: Terms, r: u32, t: u32, r0: u32) -> u32
+    ensures { λ x. ⌜ x ≡ otherR terms r t r0 ⌝ }
 {
-    words::sub(words::sub(r, t), r0)
+    words::sub(words::sub(r, words::mul(measure::sign(terms), t)), r0)
 }
 
 // A party's share of the product, from the masked vectors mx and my and its shares sx and sy of the

@@ -1,5 +1,6 @@
 use Rattle.check_c.proofs.Laws.{mx-short, my-short, sx-short, sy-short, word-fits}
 use borrow.Author.Needs.{needs}
+use Rattle.check_c.specs.Check.{termsOf}
 use Rattle.check_c.proofs.check_word.Statement.{statement}
 use Rattle.check_c.proofs.check_word.Tie as tie
 
@@ -25,8 +26,18 @@ word-requires : tie.Need-word-requires
 word-requires c κs = search needs
 
 returns-5 : tie.Need-returns-5
+unfolding termsOf
 returns-5 c =
-    word-fits _ _ _ _ _ _ _ _ _ _ _ _ (search needs) (search needs) (search needs) (search needs) (c .before .before .share-of .ensures) (c .before .own .ensures) (c .word .ensures)
+    let at-own = c .before in
+    let at-share = at-own .before in
+    word-fits _ _ _ _ _ _ _ _ _ _ _ _
+    (search needs)
+    (search needs)
+    (search needs)
+    (search needs)
+    (at-share .share-of .ensures)
+    (at-own .own .ensures)
+    (c .word .ensures)
 
 pub check-word-spec : {M : Type 1} → statement M
 check-word-spec =

@@ -10,10 +10,10 @@ use Rattle.measure.proofs.all_in_range.Statement.{statement}
 use Rattle.measure.proofs.all_in_range.Tie as tie
 
 abbrev Inv-loop : tie.InvT-loop
-Inv-loop code v all₀ at₀ all at = (all ≡ allInRange code (take at v)) × (at ≤ length v)
+Inv-loop terms v all₀ at₀ all at = (all ≡ allInRange terms (take at v)) × (at ≤ length v)
 
 abbrev μ-loop : tie.MeasureT-loop
-μ-loop code v all₀ at₀ all at = length v - at
+μ-loop terms v all₀ at₀ all at = length v - at
 
 loop-holds : tie.Need-loop-holds Inv-loop μ-loop
 unfolding allInRange
@@ -38,7 +38,8 @@ loop-again : tie.Need-loop-again Inv-loop μ-loop
 loop-again c =
     let at-loop = c .before .before .before in
     let args = at-loop .before .before .args in
-    (ap₂ _&&_ (at-loop .loop .inv .0) (c .in-range .ensures) ∙ sym (all-more (args .code) (args .v .now) (at-loop .loop .at) (omega arith)), search needs)
+    let more = all-more (args .terms) (args .v .now) (at-loop .loop .at) (omega arith) in
+    (ap₂ _&&_ (at-loop .loop .inv .0) (c .in-range .ensures) ∙ sym more, search needs)
 
 returns : tie.Need-returns Inv-loop μ-loop
 returns c =

@@ -1,4 +1,5 @@
 use borrow.Author.Needs.{needs}
+use Rattle.measure.specs.Measure.{kWord}
 use Rattle.measure.proofs.k.Statement.{statement}
 use Rattle.measure.proofs.k.Tie as tie
 
@@ -6,6 +7,7 @@ row-of-requires : tie.Need-row-of-requires
 row-of-requires c κs = search needs
 
 returns : tie.Need-returns
+unfolding kWord
 returns c = c .row-of .ensures .1
 
 pub k-spec : {M : Type 1} → statement M

@@ -2,7 +2,7 @@ use borrow.Author.Needs.{needs}
 use mathlib.Core.Path.{_≡_, refl, sym, ap₂, _∙_}
 use Prim.Native.Nat.{_≤_, _-_}
 use native.Mathlib.Omega.{arith}
-use lib.ListN.{length, getD}
+use lib.ListN.{getD}
 use Rattle.algebra.specs.Word.{add, mul}
 use Rattle.algebra.specs.Sum.{sum, sum-more}
 use Rattle.measure.specs.Measure.{squaresFrom}
@@ -10,10 +10,10 @@ use Rattle.own_term.proofs.sum_of_squares.Statement.{statement}
 use Rattle.own_term.proofs.sum_of_squares.Tie as tie
 
 abbrev Inv-loop : tie.InvT-loop
-Inv-loop v table total₀ i₀ total i = (total ≡ sum (λ i. mul (getD v i 0) (getD v i 0)) i) × (i ≤ length v)
+Inv-loop n v table total₀ i₀ total i = (total ≡ sum (λ i. mul (getD v i 0) (getD v i 0)) i) × (i ≤ n)
 
 abbrev μ-loop : tie.MeasureT-loop
-μ-loop v table total₀ i₀ total i = length v - i
+μ-loop n v table total₀ i₀ total i = n - i
 
 loop-holds : tie.Need-loop-holds Inv-loop μ-loop
 unfolding sum
@@ -45,7 +45,7 @@ loop-again c =
 
 returns : tie.Need-returns Inv-loop μ-loop
 returns c =
-    let all : c .before .loop .i ≡ length (c .before .before .before .args .v .now) = omega arith in
+    let all : c .before .loop .i ≡ c .before .before .before .args .n = omega arith in
     rw all at (c .before .loop .inv .0)
 
 pub sum-of-squares-spec : {M : Type 1} → statement M

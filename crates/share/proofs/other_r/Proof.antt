@@ -1,9 +1,15 @@
 use mathlib.Core.Path.{_∙_, ap}
-use Rattle.algebra.specs.Word.{sub}
+use Rattle.algebra.specs.Word.{sub, mul}
 use Rattle.share.specs.Share.{otherR}
 use borrow.Author.Needs.{needs}
 use Rattle.share.proofs.other_r.Statement.{statement}
 use Rattle.share.proofs.other_r.Tie as tie
+
+sign-requires : tie.Need-sign-requires
+sign-requires c κs = search needs
+
+mul-requires : tie.Need-mul-requires
+mul-requires c κs = search needs
 
 sub-requires : tie.Need-sub-requires
 sub-requires c κs = search needs
@@ -13,7 +19,14 @@ sub-requires-2 c κs = search needs
 
 returns : tie.Need-returns
 unfolding otherR
-returns c = c .sub2 .ensures ∙ ap (λ y. sub y (c .before .before .args .r0)) (c .before .sub .ensures)
+returns c =
+    let at-sub = c .before in
+    let at-mul = at-sub .before in
+    let at-sign = at-mul .before in
+    let args = at-sign .before .args in
+    c .sub2 .ensures
+    ∙ ap (λ x. sub x (args .r0)) (at-sub .sub .ensures
+    ∙ ap (sub (args .r)) (at-mul .mul .ensures ∙ ap (λ g. mul g (args .t)) (at-sign .sign .ensures)))
 
 pub other-r-spec : {M : Type 1} → statement M
-other-r-spec = tie.close (tie.spec sub-requires sub-requires-2 returns)
+other-r-spec = tie.close (tie.spec sign-requires mul-requires sub-requires sub-requires-2 returns)
