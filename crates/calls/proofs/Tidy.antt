@@ -11,7 +11,7 @@ use Rattle.words.specs.List.{tab, length-tab}
 use Rattle.words.specs.Bytes.{wordsAt}
 use Rattle.share.specs.Share.{plus}
 use Rattle.messages.specs.Messages.{ifTaken}
-use Rattle.content.specs.Content.{fill, setIn, noSet}
+use Rattle.content.specs.Content.{fill, setIn, termsIn, noSet}
 use Rattle.half.specs.Half.{openedSet}
 use Rattle.messages.specs.declared.Identity.{Identity}
 use Rattle.party.specs.declared.Party.{Party}
@@ -40,10 +40,10 @@ fill-past f n i h =
 tidy-idle : (who : Identity) (last : ℕ) → Tidy (idle who last)
 unfolding idle noCheck noSet
 tidy-idle who last =
-    record { none-open = λ e. (refl, refl, refl, refl); past-length = λ i h. (zeros-at 512 i, zeros-at 512 i, zeros-at 512 i, zeros-at 512 i) }
+    record { none-open = λ e. refl; past-length = λ i h. (zeros-at 512 i, zeros-at 512 i, zeros-at 512 i, zeros-at 512 i) }
 
 tidy-loaded : (s : Party) (key h : List ℕ) → Tidy (loaded s (openedSet key h))
-unfolding loaded opened openedSet setIn wordsAt
+unfolding loaded opened openedSet setIn termsIn wordsAt
 tidy-loaded s key h =
     record { none-open = λ e. absurd (omega arith); past-length = λ i l. (fill-past _ _ i l, fill-past _ _ i l, fill-past _ _ i l, zeros-at 512 i) }
 

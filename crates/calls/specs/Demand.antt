@@ -10,7 +10,7 @@ use lib.ListN.{length}
 use Rattle.algebra.specs.Word.{signed}
 use Rattle.measure.specs.declared.Terms.{Terms}
 use Rattle.measure.specs.Measure.{measure, reached, isCode, lengthFits, allInRange, thresholdFits}
-use Rattle.messages.specs.Messages.{padded}
+use Rattle.messages.specs.Messages.{vectorKind, wordKind, answerKind, padded}
 use Rattle.dealing.specs.Dealing.{Deal}
 use Rattle.dealer.specs.Dealer.{halfSize}
 use Rattle.calls.specs.Lists.{Box, camera, office, partyOf, other, sameBox, put, World, Starts, Started, beginning, Message, Call, deal, load, mask, take, finish, drop, join, Body, vector, word, answer, Event, dealt, loaded, sent, dropped, joined, refused, step, after, events, In, SentVector, SentWord, SentAnswer, history, Admissible}
@@ -189,11 +189,15 @@ module _ (door : List ℕ) (d : Deal) (v : Box → List ℕ) where
   Ready g h (deal e out0 out1) = (g .begun ≡ false) × (e ≡ d) × (halfSize (d .terms .n) ≤ length out0) × (halfSize (d .terms .n) ≤ length out1)
   Ready g h (load b half) = (g .made b ≡ 0) × (f : Box → List ℕ) × In (dealt d f) h × (half ≡ f b)
   Ready g h (mask b x out) = (g .made b ≡ 1) × (x ≡ v b) × (d .terms .n ≤ length out)
-  Ready g h (take b m) = (g .made b ≡ 2) × Labelled door 0 (other b) (d .number) m × SentVector h (other b) (d .number) (m .content)
-  Ready g h (finish b m) = (g .made b ≡ 3) × Labelled door 1 (other b) (d .number) m × SentWord h (other b) (d .number) (m .content)
+  Ready g h (take b m) =
+      (g .made b ≡ 2) × Labelled door vectorKind (other b) (d .number) m
+      × SentVector h (other b) (d .number) (m .content)
+  Ready g h (finish b m) =
+      (g .made b ≡ 3) × Labelled door wordKind (other b) (d .number) m
+      × SentWord h (other b) (d .number) (m .content)
   Ready g h (drop b) = ⊥
   Ready g h (join m n) =
-      (g .ended ≡ false) × Labelled door 2 camera (d .number) m × SentAnswer h camera (d .number) (m .content) × Labelled door 2 office (d .number) n
+      (g .ended ≡ false) × Labelled door answerKind camera (d .number) m × SentAnswer h camera (d .number) (m .content) × Labelled door answerKind office (d .number) n
       × SentAnswer h office (d .number) (n .content)
 
   -- its calls so far: "mixed at most with calls that change no state", and with any that are turned down, of which 01 says

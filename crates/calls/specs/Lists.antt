@@ -6,7 +6,7 @@ use mathlib.Core.List.{List, [], _∷_}
 use Prim.Native.Nat.{ℕ, _/_, _^_, _<_}
 use lib.ListN.{length}
 use Rattle.messages.specs.declared.Label.{Label}
-use Rattle.messages.specs.Messages.{ifTaken, padded}
+use Rattle.messages.specs.Messages.{vectorKind, wordKind, answerKind, ifTaken, padded}
 use Rattle.content.specs.Content.{part}
 use Rattle.half.specs.Half.{blockAt, setNumber}
 use Rattle.dealer.specs.declared.Dealer.{Dealer}
@@ -216,10 +216,10 @@ abbrev pub Admits : List ℕ → List Event → Call → Type 0
 Admits door e (deal d out0 out1) = Unit {0}
 Admits door e (load b h) = (i : ℕ) → i < length h / 512 → Written e b (blockAt h i)
 Admits door e (mask b v out) = Unit {0}
-Admits door e (take b m) = Sent door 0 (SentVector e) m
-Admits door e (finish b m) = Sent door 1 (SentWord e) m
+Admits door e (take b m) = Sent door vectorKind (SentVector e) m
+Admits door e (finish b m) = Sent door wordKind (SentWord e) m
 Admits door e (drop b) = Unit {0}
-Admits door e (join m n) = Sent door 2 (SentAnswer e) m × Sent door 2 (SentAnswer e) n
+Admits door e (join m n) = Sent door answerKind (SentAnswer e) m × Sent door answerKind (SentAnswer e) n
 
 module _ (s : Starts) where
   abbrev pub history : List Call → List Event

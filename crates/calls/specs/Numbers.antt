@@ -5,6 +5,8 @@ use mathlib.Core.List.{List, [], _∷_, map}
 use mathlib.Core.Logic.{_↔_}
 use Prim.Native.Nat.{ℕ, _<_, _≤_}
 use lib.ListN.{length}
+use Rattle.messages.specs.Messages.{outOfTurn}
+use Rattle.party.specs.Party.{idlePhase}
 use Rattle.calls.specs.Lists.{Box, World, Starts, Started, beginning, Call, drop, Event, dropped, refused}
 use Rattle.calls.specs.Lists.{step, after, history}
 use Rattle.calls.specs.Demand.{dealsIn, loadsBy, joinsIn, collect, newest, lastDealt, lastLoaded, lastJoined}
@@ -26,10 +28,10 @@ pub record Numbers (s : Starts) (h : List Event) (w : World) : Type 0 where
   pub joins-rise : Rise (s .lockFloor) (collect joinsIn h)
   -- a box has one set open or none, and at phase 0 none
   pub one-open : (b : Box) → openSets b h ≤ 1
-  pub none-open : (b : Box) → (w .box b .check .phase ≡ 0) ↔ (openSets b h ≡ 0)
+  pub none-open : (b : Box) → (w .box b .check .phase ≡ idlePhase) ↔ (openSets b h ≡ 0)
   -- "Drop ends the open set", and is refused 3 "with no open set"
   pub drop-taken : (b : Box) → 1 ≤ openSets b h → step w (drop b) .event ≡ dropped b
-  pub drop-refused : (b : Box) → openSets b h ≡ 0 → step w (drop b) .event ≡ refused 3
+  pub drop-refused : (b : Box) → openSets b h ≡ 0 → step w (drop b) .event ≡ refused outOfTurn
   -- at most one masked vector and one word a number and box: a number is spent at its load, whatever the half held
   pub no-reuse : (b : Box) (n : ℕ) → (length (vectors b n h) ≤ 1) × (length (sentWords b n h) ≤ 1)
 

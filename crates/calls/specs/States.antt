@@ -3,9 +3,9 @@
 use mathlib.Core.Path.{_≡_}
 use mathlib.Core.List.{List}
 use Prim.Native.Nat.{ℕ, _≤_}
-use lib.ListN.{getD, replicate}
-use Rattle.content.specs.Content.{noSet}
+use lib.ListN.{getD}
 use Rattle.party.specs.declared.Party.{Party}
+use Rattle.party.specs.Party.{idlePhase, loadedPhase, maskedPhase, takenPhase, noCheck}
 use Rattle.calls.specs.Lists.{Box, World, Starts, beginning, Call, Event, sent, answer, dropped, after, events, In}
 
 -- ---- until a set is closed or dropped
@@ -20,22 +20,24 @@ pub data Ends (b : Box) : Event → Type 0 where
 pub record Stays (s t : Party) : Type 0 where
   pub not-back : s .check .phase ≤ t .check .phase
   pub same-set : t .check .set ≡ s .check .set
-  pub same-masked : 2 ≤ s .check .phase → t .check .masked ≡ s .check .masked
-  pub same-own : 2 ≤ s .check .phase → t .check .own ≡ s .check .own
-  pub same-word : 3 ≤ s .check .phase → t .check .word ≡ s .check .word
+  pub same-masked : maskedPhase ≤ s .check .phase → t .check .masked ≡ s .check .masked
+  pub same-own : maskedPhase ≤ s .check .phase → t .check .own ≡ s .check .own
+  pub same-word : takenPhase ≤ s .check .phase → t .check .word ≡ s .check .word
 
 -- ".. until it is closed or dropped": with a set open at b, over any list of calls from any states on, none of which
 -- ends it
 unfoldable pub StaysUntilEnded : Type 0
-StaysUntilEnded = (w : World) (b : Box) → 1 ≤ w .box b .check .phase → (cs : List Call)
+StaysUntilEnded = (w : World) (b : Box) → loadedPhase ≤ w .box b .check .phase → (cs : List Call)
     → ((e : Event) → In e (events w cs) → Ends b e → ⊥) → Stays (w .box b) (after w cs .box b)
 
 -- ---- what else it holds
 
 -- "with no set open all of it is zero, code and L included, and array places past L are always zero"
 pub record Tidy (s : Party) : Type 0 where
-  pub none-open : s .check .phase ≡ 0 → (s .check .set ≡ noSet) × (s .check .masked ≡ replicate 512 0) × (s .check .own ≡ 0) × (s .check .word ≡ 0)
-  pub past-length : (i : ℕ) → s .check .set .terms .n ≤ i → (getD (s .check .set .mask) i 0 ≡ 0) × (getD (s .check .set .x) i 0 ≡ 0) × (getD (s .check .set .y) i 0 ≡ 0) × (getD (s .check .masked) i 0 ≡ 0)
+  pub none-open : s .check .phase ≡ idlePhase → s .check ≡ noCheck
+  pub past-length : (i : ℕ) → s .check .set .terms .n ≤ i
+      → (getD (s .check .set .mask) i 0 ≡ 0) × (getD (s .check .set .x) i 0 ≡ 0)
+      × (getD (s .check .set .y) i 0 ≡ 0) × (getD (s .check .masked) i 0 ≡ 0)
 
 unfoldable pub AlwaysTidy : Type 0
 AlwaysTidy = (s : Starts) (cs : List Call) (b : Box) → Tidy (after (beginning s) cs .box b)
