@@ -296,21 +296,24 @@ impl Party {
         let terms = self.check.set.terms;
         let turn = in_turn(LOADED, self.who.party, self.check.phase, terms);
         let refusal = why_not_mask(turn, terms, v, out.len());
-        let mut next = self;
+        let who = self.who;
+        let mut check = self.check;
         if refusal == 0 {
             let mask = self.check.set.mask;
             write_masked(terms.n, v, &mask, out);
             let kept = masked_array(terms.n, v, &mask);
-            let mut check = self.check;
             check.phase = MASKED;
             check.masked = kept;
             check.own = own_term::own(terms, v);
             check.word = 0;
-            next.check = check;
         }
         PartyAnswer {
             why: refusal,
-            party: next,
+            party: Party {
+                who,
+                last: self.last,
+                check,
+            },
             word: 0,
         }
     }
