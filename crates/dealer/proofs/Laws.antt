@@ -1,5 +1,5 @@
 -- The dealer's start and deal from their tests, each of which returns its number at once, lowest first, and from what an accepted call makes. Assumes nothing.
-use mathlib.Core.Path.{_≡_, refl, sym, ap, subst, _∙_}
+use mathlib.Core.Path.{_≡_, refl, sym, ap, ap₂, subst, _∙_}
 use mathlib.Core.Bool.{Bool, true, false, not, _&&_}
 use mathlib.Core.List.{List}
 use Prim.Native.Nat.{ℕ, _*_, _^_, _<_, _≤_}
@@ -9,12 +9,14 @@ use lib.Dec.{eqb, leb, ltb}
 use lib.ListN.{length}
 use Rattle.algebra.specs.Bit.{both}
 use Rattle.words.specs.List.{over, same}
-use Rattle.measure.specs.Measure.{isCode, thresholdFits}
+use Rattle.measure.specs.declared.Terms.{Terms}
+use Rattle.measure.specs.Measure.{mostElements, isCode, lengthFits, thresholdFits}
+use Rattle.measure.specs.Laws.{length-fits}
 use Rattle.messages.specs.Messages.{unless, nameFits, padded, isKey}
 use Rattle.messages.specs.Laws.{unless-false, unless-true, turned-down, goes-on, taken, refused}
 use Rattle.content.specs.declared.Set.{Set}
-use Rattle.content.specs.Content.{mostElements, blockBytes, blockCount, lengthFits, Proper}
-use Rattle.content.specs.Laws.{blocks-bounds, length-fits}
+use Rattle.content.specs.Content.{blockBytes, mostBlocks, blockCount, Proper}
+use Rattle.content.specs.Laws.{blocks-bounds}
 use Rattle.dealing.specs.Dealing.{Deal, dealFrom, setFrom, dealtSet}
 use Rattle.half.specs.Half.{half}
 use Rattle.dealer.specs.Dealer.{noDealer, whyNotDealer, startDealer, halfSize, whyNotDeal, keyOf, halfFor, deal, dealOut}
@@ -69,60 +71,75 @@ module _ (name key0 key1 : List ℕ) where
 
 -- ---- why a deal is turned down
 
--- a length that has been tested, and its blocks
-pub short : (long n : ℕ) → not (eqb long 32 && (leb 1 n && leb n mostElements)) ≡ false → (1 ≤ n) × (n ≤ mostElements)
-unfolding lengthFits
-short long n h = length-fits n (both (eqb long 32) (lengthFits n) (not-false _ h) .1)
+-- terms whose length has been tested, and their blocks
+pub short : (long : ℕ) (terms : Terms) (fits : Bool) → fits ≡ lengthFits terms → not (eqb long 32 && fits) ≡ false
+    → (1 ≤ terms .n) × (terms .n ≤ mostElements)
+short long terms fits e h = length-fits terms (sym e ∙ both (eqb long 32) fits (not-false _ h) .1)
 
-pub few : (long n : ℕ) → not (eqb long 32 && (leb 1 n && leb n mostElements)) ≡ false → (k : ℕ) → k ≡ blockCount n → k ≤ 16
-few long n h k e =
-    let fits = short long n h in
-    omega (arith, e, blocks-bounds n (fits .0) (fits .1) .1)
+pub few : (long : ℕ) (terms : Terms) (fits : Bool) → fits ≡ lengthFits terms → not (eqb long 32 && fits) ≡ false
+    → (k : ℕ) → k ≡ blockCount (terms .n) → k ≤ mostBlocks
+few long terms fits e h k ek =
+    let bounds = short long terms fits e h in
+    omega (arith, ek, blocks-bounds (terms .n) (bounds .0) (bounds .1) .1)
 
 -- for any dealer with this last number, and any seed of this length
-module _ {last long : ℕ} (s : Dealer) (d : Deal) (el : s .last ≡ last) (es : length (d .seed) ≡ long) (room0 room1 : ℕ) (known : Bool) (ek : known ≡ isCode (d .terms .code)) where
-  pub unknown-code : not known ≡ true → 2 ≡ whyNotDeal s d room0 room1
+module _ {last long : ℕ} (s : Dealer) (d : Deal) (el : s .last ≡ last) (es : length (d .seed) ≡ long) (room0 room1 : ℕ)
+    (known : Bool) (ek : known ≡ isCode (d .terms .code)) where
+  abbrev size : ℕ
+  size = halfSize (d .terms .n)
+
+  abbrev why : ℕ
+  why = whyNotDeal s d room0 room1
+
+  -- the tests from the threshold's, the number's and the buffers' on
+  abbrev from-threshold : ℕ
+  from-threshold = unless (thresholdFits (d .terms) (d .t)) 8 0
+
+  abbrev from-number : ℕ
+  from-number = unless (ltb (s .last) (d .number)) 7 from-threshold
+
+  abbrev from-rooms : ℕ
+  from-rooms = unless (leb size room0 && leb size room1) 5 from-number
+
+  pub unknown-code : not known ≡ true → 2 ≡ why
   unfolding whyNotDeal
   unknown-code h = turned-down _ _ _ (ap not (sym ek) ∙ h)
 
-  module _ (coded : not known ≡ false) where
-    past-code : {r : ℕ}
-        → r ≡ unless (eqb (length (d .seed)) 32 && lengthFits (d .terms .n)) 4
-        (unless (leb (halfSize (d .terms .n)) room0 && leb (halfSize (d .terms .n)) room1) 5 (unless (ltb (s .last) (d .number)) 7 (unless (thresholdFits (d .terms .code) (d .t)) 8 0)))
-        → r ≡ whyNotDeal s d room0 room1
+  module _ (coded : not known ≡ false) (long-fits : Bool) (e-long : long-fits ≡ lengthFits (d .terms)) where
+    past-code : {r : ℕ} → r ≡ unless (eqb (length (d .seed)) 32 && lengthFits (d .terms)) 4 from-rooms → r ≡ why
     unfolding whyNotDeal
     past-code h = goes-on _ _ _ (ap not (sym ek) ∙ coded) h
 
-    lengths : {b : Bool} → not (eqb long 32 && (leb 1 (d .terms .n) && leb (d .terms .n) mostElements)) ≡ b → not (eqb (length (d .seed)) 32 && lengthFits (d .terms .n)) ≡ b
-    unfolding lengthFits
-    lengths h = ap (λ (k : ℕ). not (eqb k 32 && lengthFits (d .terms .n))) es ∙ h
+    lengths : {b : Bool} → not (eqb long 32 && long-fits) ≡ b → not (eqb (length (d .seed)) 32 && lengthFits (d .terms)) ≡ b
+    lengths h = ap₂ (λ (k : ℕ) (l : Bool). not (eqb k 32 && l)) es (sym e-long) ∙ h
 
-    pub bad-length : not (eqb long 32 && (leb 1 (d .terms .n) && leb (d .terms .n) mostElements)) ≡ true → 4 ≡ whyNotDeal s d room0 room1
+    pub bad-length : not (eqb long 32 && long-fits) ≡ true → 4 ≡ why
     bad-length h = past-code (turned-down _ _ _ (lengths h))
 
-    module _ (fit : not (eqb long 32 && (leb 1 (d .terms .n) && leb (d .terms .n) mostElements)) ≡ false) (k : ℕ) (eb : k ≡ blockCount (d .terms .n)) where
-      rooms : {b : Bool} → not (leb (blockBytes * k) room0 && leb (blockBytes * k) room1) ≡ b → not (leb (halfSize (d .terms .n)) room0 && leb (halfSize (d .terms .n)) room1) ≡ b
+    module _ (fit : not (eqb long 32 && long-fits) ≡ false) (k : ℕ) (eb : k ≡ blockCount (d .terms .n)) where
+      rooms : {b : Bool} → not (leb (blockBytes * k) room0 && leb (blockBytes * k) room1) ≡ b
+          → not (leb size room0 && leb size room1) ≡ b
       unfolding halfSize
       rooms h = ap (λ (m : ℕ). not (leb (blockBytes * m) room0 && leb (blockBytes * m) room1)) (sym eb) ∙ h
 
-      pub no-room : not (leb (blockBytes * k) room0 && leb (blockBytes * k) room1) ≡ true → 5 ≡ whyNotDeal s d room0 room1
+      pub no-room : not (leb (blockBytes * k) room0 && leb (blockBytes * k) room1) ≡ true → 5 ≡ why
       no-room h = past-code (goes-on _ _ _ (lengths fit) (turned-down _ _ _ (rooms h)))
 
       module _ (roomy : not (leb (blockBytes * k) room0 && leb (blockBytes * k) room1) ≡ false) where
-        past-rooms : {r : ℕ} → r ≡ unless (ltb (s .last) (d .number)) 7 (unless (thresholdFits (d .terms .code) (d .t)) 8 0) → r ≡ whyNotDeal s d room0 room1
+        past-rooms : {r : ℕ} → r ≡ from-number → r ≡ why
         past-rooms h = past-code (goes-on _ _ _ (lengths fit) (goes-on _ _ _ (rooms roomy) h))
 
         above : {b : Bool} → not (ltb last (d .number)) ≡ b → not (ltb (s .last) (d .number)) ≡ b
         above h = ap (λ (l : ℕ). not (ltb l (d .number))) el ∙ h
 
-        pub stale : not (ltb last (d .number)) ≡ true → 7 ≡ whyNotDeal s d room0 room1
+        pub stale : not (ltb last (d .number)) ≡ true → 7 ≡ why
         stale h = past-rooms (turned-down _ _ _ (above h))
 
-        module _ (fresh : not (ltb last (d .number)) ≡ false) (fits : Bool) (ef : fits ≡ thresholdFits (d .terms .code) (d .t)) where
-          pub out-of-range : not fits ≡ true → 8 ≡ whyNotDeal s d room0 room1
+        module _ (fresh : not (ltb last (d .number)) ≡ false) (fits : Bool) (ef : fits ≡ thresholdFits (d .terms) (d .t)) where
+          pub out-of-range : not fits ≡ true → 8 ≡ why
           out-of-range h = past-rooms (goes-on _ _ _ (above fresh) (turned-down _ _ _ (ap not (sym ef) ∙ h)))
 
-          pub deal-taken : not fits ≡ false → 0 ≡ whyNotDeal s d room0 room1
+          pub deal-taken : not fits ≡ false → 0 ≡ why
           deal-taken h = past-rooms (goes-on _ _ _ (above fresh) (goes-on _ _ _ (ap not (sym ef) ∙ h) refl))
 
 -- ---- the two halves

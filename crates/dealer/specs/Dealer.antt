@@ -6,9 +6,9 @@ use Prim.Native.Nat.{ℕ, _*_}
 use lib.Dec.{eqb, leb, ltb}
 use lib.ListN.{length, replicate}
 use Rattle.words.specs.List.{over, same}
-use Rattle.measure.specs.Measure.{isCode, thresholdFits}
+use Rattle.measure.specs.Measure.{isCode, lengthFits, thresholdFits}
 use Rattle.messages.specs.Messages.{unless, ifTaken, nameFits, padded, isKey}
-use Rattle.content.specs.Content.{blockBytes, blockCount, lengthFits}
+use Rattle.content.specs.Content.{blockBytes, blockCount}
 use Rattle.dealing.specs.Dealing.{Deal, dealtSet}
 use Rattle.half.specs.Half.{half}
 use Rattle.dealer.specs.declared.Dealer.{Dealer}
@@ -33,10 +33,10 @@ halfSize n = blockBytes * blockCount n
 unfoldable pub whyNotDeal : Dealer → Deal → ℕ → ℕ → ℕ
 whyNotDeal s d room0 room1 =
     unless (isCode (d .terms .code)) 2
-    (unless (eqb (length (d .seed)) 32 && lengthFits (d .terms .n)) 4
+    (unless (eqb (length (d .seed)) 32 && lengthFits (d .terms)) 4
     (unless (leb (halfSize (d .terms .n)) room0 && leb (halfSize (d .terms .n)) room1) 5
     (unless (ltb (s .last) (d .number)) 7
-    (unless (thresholdFits (d .terms .code) (d .t)) 8 0))))
+    (unless (thresholdFits (d .terms) (d .t)) 8 0))))
 
 unfoldable pub keyOf : Dealer → ℕ → List ℕ
 keyOf s party = cond (eqb party 0) (s .key0) (s .key1)

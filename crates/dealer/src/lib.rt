@@ -8,7 +8,6 @@ ghost use Rattle.dealing.specs.Dealing.{dealFrom};
 ghost use Rattle.dealer.specs.Dealer.{whyNotDealer, startDealer, whyNotDeal, halfFor, deal as dealOf, dealOut};
 ghost use Rattle.dealer.specs.declared.Dealer.{Dealer};
 use content::BLOCK;
-use measure::MOST_ELEMENTS;
 use measure::Terms;
 
 // What the dealer keeps: the door's padded name, the keys of the two boxes, and its last set number.
@@ -124,21 +123,20 @@ fn why_not_deal(
 ) -> u32
     ensures { λ r. ⌜ ((s : Dealer) (seed : List ℕ) → s .last ≡ last → length seed ≡ long → r ≡ whyNotDeal s (dealFrom number seed terms t) room0 room1) ⌝ }
 {
-    let n = terms.n;
     if !measure::is_code(terms.code) {
         return 2;
     }
-    if !((long == 32) & ((1 <= n) & (n <= MOST_ELEMENTS))) {
+    if !((long == 32) & measure::length_fits(terms)) {
         return 4;
     }
-    let size = BLOCK * content::blocks_of(n);
+    let size = BLOCK * content::blocks_of(terms.n);
     if !((size <= room0) & (size <= room1)) {
         return 5;
     }
     if !(last < number) {
         return 7;
     }
-    if !measure::threshold_fits(terms.code, t) {
+    if !measure::threshold_fits(terms, t) {
         return 8;
     }
     0

@@ -16,7 +16,8 @@ use Rattle.node.specs.Node.{keyFor}
 use Rattle.measure.specs.declared.Terms.{Terms}
 use Rattle.share.specs.Share.{plus, otherC, otherR}
 use Rattle.content.specs.declared.Set.{Set}
-use Rattle.content.specs.Content.{mostElements, part, fill}
+use Rattle.measure.specs.Measure.{mostElements}
+use Rattle.content.specs.Content.{part, fill}
 use Rattle.content.specs.Laws.{fill-rest, fill-over}
 use Rattle.content.specs.Pieces.{length-part}
 use Rattle.dealing.specs.Dealing.{setWords, x, y, c0, r, r0, keySeed, maskX, maskY, ownMask, cOf, dealFrom, rOf, setFrom}
@@ -121,7 +122,7 @@ module _ (terms : Terms) where
 
     pub sets-law : (camera office : Set) (c1 r1 : ℕ)
         → camera ≡ setWith 0 number terms w mx (getD w (4 * n) 0) (getD w (4 * n + 2) 0) key
-        → c1 ≡ otherC n mx my (getD w (4 * n) 0) → r1 ≡ otherR (getD w (4 * n + 1) 0) t (getD w (4 * n + 2) 0)
+        → c1 ≡ otherC n mx my (getD w (4 * n) 0) → r1 ≡ otherR terms (getD w (4 * n + 1) 0) t (getD w (4 * n + 2) 0)
         → office ≡ setWith 1 number terms w my c1 r1 key
         → (seed : List ℕ) → (camera ≡ setFrom (dealFrom number seed terms t) w 0) × (office ≡ setFrom (dealFrom number seed terms t) w 1)
     unfolding setFrom ownMask cOf rOf c0 r r0

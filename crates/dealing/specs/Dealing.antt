@@ -64,7 +64,7 @@ dealFrom number seed terms t = record { number = number; seed = seed; terms = te
 unfoldable pub rOf : Deal → List ℕ → ℕ → ℕ
 rOf d w party =
     let n : ℕ = d .terms .n in
-    cond (eqb party 0) (r0 n w) (otherR (r n w) (d .t) (r0 n w))
+    cond (eqb party 0) (r0 n w) (otherR (d .terms) (r n w) (d .t) (r0 n w))
 
 -- the set that a party gets from them
 unfoldable pub setFrom : Deal → List ℕ → ℕ → Set

@@ -17,11 +17,13 @@ use Rattle.words.specs.Bytes.{wordsAt}
 use Rattle.keystream.specs.Keystream.{keyWord, stream}
 use Rattle.node.specs.declared.Correction.{Correction}
 use Rattle.node.specs.Bounds.{Below, Fits, take-below, block-below, key-long, key-fits, last-below}
-use Rattle.measure.specs.Measure.{isCode, measure, reached, allInRange, thresholdFits, ownWord}
+use Rattle.measure.specs.declared.Terms.{Terms}
+use Rattle.measure.specs.Measure.{isCode, lengthFits, measure, reached, allInRange, thresholdFits, ownWord, carried, ordinaryWidth}
 use Rattle.share.specs.Share.{plus, inner, otherC, otherR, share, boxWord, answer}
 use Rattle.share.specs.Claims.{join-law}
 use Rattle.content.specs.declared.Set.{Set}
-use Rattle.content.specs.Content.{mostElements, part, fill, noCorrection, Words, Filled, Corrections, Proper}
+use Rattle.measure.specs.Measure.{mostElements}
+use Rattle.content.specs.Content.{part, fill, noCorrection, Words, Filled, Corrections, Proper}
 use Rattle.content.specs.Pieces.{length-part}
 use Rattle.dealing.specs.Dealing.{setWords, x, y, c0, r, r0, keySeed, maskX, maskY, ownMask, cOf, Deal, rOf, setFrom, dealtSet}
 
@@ -66,16 +68,15 @@ module _ (d : Deal) (w : List ℕ) (long : length w ≡ 4 * d .terms .n + 19) (b
   abbrev n : ℕ
   n = d .terms .n
 
-  proper-from : (party : ℕ) → d .number < 2 ^ 64 → isCode (d .terms .code) ≡ true → 1 ≤ n → n ≤ mostElements → party ≤ 1
-      → Proper (setFrom d w party)
+  proper-from : (party : ℕ) → d .number < 2 ^ 64 → isCode (d .terms .code) ≡ true → lengthFits (d .terms) ≡ true
+      → party ≤ 1 → Proper (setFrom d w party)
   unfolding setFrom ownMask maskX maskY cOf rOf x y c0 r0 keySeed Filled Corrections otherC otherR
-  proper-from party hnumber hcode hn most hparty =
+  proper-from party hnumber hcode hlength hparty =
       let before : party * n ≤ 1 * n = mul-le-mul-right n hparty in
       record {
         number-fits = hnumber;
         code-fits = hcode;
-        some = hn;
-        most = most;
+        length-fits = hlength;
         masked = (_, either (eqb party 0), refl);
         x-filled = (_, part-words (party * n) n w (omega arith) below, refl);
         y-filled = (_, part-words ((2 + party) * n) n w (omega arith) below, refl);
@@ -99,7 +100,7 @@ module _ (d : Deal) (w : List ℕ) (long : length w ≡ 4 * d .terms .n + 19) (b
       fits f = (record { long = f .seed-long; below = f .seed-below }, f .word-below, f .flags-below)
 
 pub proper : (d : Deal) (party : ℕ) → d .number < 2 ^ 64 → isCode (d .terms .code) ≡ true
-    → 1 ≤ d .terms .n → d .terms .n ≤ mostElements → party ≤ 1 → Proper (dealtSet d party)
+    → lengthFits (d .terms) ≡ true → party ≤ 1 → Proper (dealtSet d party)
 unfolding dealtSet
 proper d party =
     let n = d .terms .n in
@@ -167,27 +168,32 @@ point-below : (seed : List ℕ) (n : ℕ) → r n (setWords seed n) < 2 ^ 32
 unfolding r
 point-below seed n = dealt-below seed n (4 * n + 1)
 
-pub dealt-join : (d : Deal) (v0 v1 : List ℕ) → d .terms .n ≤ mostElements → allInRange (d .terms .code) v0 ≡ true
-    → allInRange (d .terms .code) v1 ≡ true → thresholdFits (d .terms .code) (d .t) ≡ true
-    → (let code : ℕ = d .terms .code in
-    let n : ℕ = d .terms .n in
+pub dealt-join : (d : Deal) (v0 v1 : List ℕ) → lengthFits (d .terms) ≡ true → allInRange (d .terms) v0 ≡ true
+    → allInRange (d .terms) v1 ≡ true → thresholdFits (d .terms) (d .t) ≡ true
+    → (let terms : Terms = d .terms in
+    let n : ℕ = terms .n in
     let s0 : Set = dealtSet d 0 in
     let s1 : Set = dealtSet d 1 in
-    let m0 : List ℕ = plus n v0 (s0 .mask) in
-    let m1 : List ℕ = plus n v1 (s1 .mask) in
-    let w0 : ℕ = boxWord code (share 0 n (s0 .c) m0 m1 (s0 .x) (s0 .y)) (ownWord code n v0) (s0 .r) in
-    let w1 : ℕ = boxWord code (share 1 n (s1 .c) m0 m1 (s1 .x) (s1 .y)) (ownWord code n v1) (s1 .r) in
-    add (answer 0 (s0 .key) (s0 .seed) (add w0 w1)) (answer 1 (s1 .key) (s1 .seed) (add w0 w1)))
-    ≡ only (reached (d .terms .code) (measure (d .terms .code) (d .terms .n) v0 v1) (signed (d .t))) 1
+    let m0 : List ℕ = plus n (carried terms 0 v0) (s0 .mask) in
+    let m1 : List ℕ = plus n (carried terms 1 v1) (s1 .mask) in
+    let w0 : ℕ = boxWord terms (share 0 n (s0 .c) m0 m1 (s0 .x) (s0 .y)) (ownWord terms v0) (s0 .r) in
+    let w1 : ℕ = boxWord terms (share 1 n (s1 .c) m0 m1 (s1 .x) (s1 .y)) (ownWord terms v1) (s1 .r) in
+    add (answer ordinaryWidth 0 (s0 .key) (s0 .seed) (add w0 w1)) (answer ordinaryWidth 1 (s1 .key) (s1 .seed) (add w0 w1)))
+    ≡ only (reached (d .terms) (measure (d .terms) v0 v1) (signed (d .t))) 1
 unfolding dealtSet setFrom ownMask maskX maskY cOf rOf
-dealt-join d v0 v1 most in0 in1 fits =
-    let code : ℕ = d .terms .code in
-    let n : ℕ = d .terms .n in
+dealt-join d v0 v1 long in0 in1 fits =
+    let terms : Terms = d .terms in
+    let n : ℕ = terms .n in
     let w : List ℕ = setWords (d .seed) n in
     let X : ℕ → List ℕ = x n w in
     let Y : ℕ → List ℕ = y n w in
-    let s : (party c : ℕ) → share party n c (plus n v0 (fill (plus n (X 0) (X 1)))) (plus n v1 (fill (plus n (Y 0) (Y 1)))) (fill (X party)) (fill (Y party))
-    ≡ share party n c (plus n v0 (plus n (X 0) (X 1))) (plus n v1 (plus n (Y 0) (Y 1))) (X party) (Y party) =
-    λ party c. rw (plus-fill n v0 (plus n (X 0) (X 1)), plus-fill n v1 (plus n (Y 0) (Y 1))) (share-fills party n c _ _ (X party) (Y party)) in
-    rw (s 0 (c0 n w), s 1 (otherC n (plus n (X 0) (X 1)) (plus n (Y 0) (Y 1)) (c0 n w)))
-    (join-law code n (d .t) v0 v1 (X 0) (X 1) (Y 0) (Y 1) (c0 n w) (r n w) (r0 n w) (keySeed n w 0) (keySeed n w 1) most in0 in1 fits (point-below (d .seed) n))
+    let mX : List ℕ = plus n (X 0) (X 1) in
+    let mY : List ℕ = plus n (Y 0) (Y 1) in
+    let u0 : List ℕ = carried terms 0 v0 in
+    let u1 : List ℕ = carried terms 1 v1 in
+    let s : (party c : ℕ) → share party n c (plus n u0 (fill mX)) (plus n u1 (fill mY)) (fill (X party)) (fill (Y party))
+    ≡ share party n c (plus n u0 mX) (plus n u1 mY) (X party) (Y party) =
+    λ party c. rw (plus-fill n u0 mX, plus-fill n u1 mY) (share-fills party n c _ _ (X party) (Y party)) in
+    rw (s 0 (c0 n w), s 1 (otherC n mX mY (c0 n w)))
+    (join-law terms (d .t) v0 v1 (X 0) (X 1) (Y 0) (Y 1) (c0 n w) (r n w) (r0 n w) (keySeed n w 0) (keySeed n w 1)
+    long in0 in1 fits (point-below (d .seed) n))
