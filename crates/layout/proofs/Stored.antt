@@ -13,7 +13,8 @@ use Rattle.words.specs.Bytes.{le32, bytesOf, length-bytesOf}
 use Rattle.node.specs.declared.Correction.{Correction}
 use Rattle.node.specs.Node.{none}
 use Rattle.content.specs.declared.Set.{Set}
-use Rattle.content.specs.Content.{mostElements, roomBytes, correctionBytes, noCorrection, FlagBytes}
+use Rattle.measure.specs.Measure.{mostElements}
+use Rattle.content.specs.Content.{roomBytes, correctionBytes, noCorrection, FlagBytes}
 use Rattle.content.specs.Content.{xField, yField, cField, fields, widths, sumFirst, offset, size}
 use Rattle.content.specs.Pieces.{getD-any, length-flat, flat-append}
 

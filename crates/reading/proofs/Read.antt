@@ -13,7 +13,8 @@ use Rattle.node.specs.declared.Key.{Key}
 use Rattle.node.specs.Node.{none}
 use Rattle.measure.specs.declared.Terms.{Terms}
 use Rattle.content.specs.declared.Set.{Set}
-use Rattle.content.specs.Content.{mostElements, part, fill, lengthIn, field, termsIn, correctionIn, correctionsIn, keyIn, setIn}
+use Rattle.measure.specs.Measure.{mostElements}
+use Rattle.content.specs.Content.{part, fill, lengthIn, field, termsIn, correctionIn, correctionsIn, keyIn, setIn}
 use Rattle.content.specs.Content.{codeField, maskField, xField, yField, cField, rField, seedField, correctionsField, lastField}
 use Rattle.content.specs.Content.{widths, sumFirst, offset, width}
 use Rattle.content.specs.Laws.{head-is, offset-next, fill-rest}

@@ -4,7 +4,8 @@ use Prim.Native.Nat.{ℕ}
 use lib.ListN.{replicate}
 use Rattle.node.specs.declared.Correction.{Correction}
 use Rattle.content.specs.declared.Set.{Set}
-use Rattle.content.specs.Content.{mostElements, noSet}
+use Rattle.measure.specs.Measure.{mostElements}
+use Rattle.content.specs.Content.{noSet}
 use borrow.Author.Needs.{needs}
 use Rattle.content.proofs.no_set.Statement.{statement}
 use Rattle.content.proofs.no_set.Tie as tie
