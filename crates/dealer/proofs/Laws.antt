@@ -19,7 +19,8 @@ use Rattle.content.specs.Content.{blockBytes, mostBlocks, blockCount, Proper}
 use Rattle.content.specs.Laws.{blocks-bounds}
 use Rattle.dealing.specs.Dealing.{Deal, dealFrom, setFrom, dealtSet}
 use Rattle.half.specs.Half.{half}
-use Rattle.dealer.specs.Dealer.{noDealer, whyNotDealer, startDealer, halfSize, whyNotDeal, keyOf, halfFor, deal, dealOut}
+use Rattle.dealer.specs.Dealer.{noDealer, whyNotDealer, startDealer, halfSize, whyNotDeal, keyOf, halfFor, deal}
+use Rattle.dealer.specs.Dealer.{dealOut}
 use Rattle.dealer.specs.Laws.{DealTells, dealt-proper}
 use Rattle.dealer.specs.declared.Dealer.{Dealer}
 use Rattle.dealer.specs.declared.DealerAnswer.{DealerAnswer}
@@ -110,7 +111,8 @@ module _ {last long : ℕ} (s : Dealer) (d : Deal) (el : s .last ≡ last) (es :
     unfolding whyNotDeal
     past-code h = goes-on _ _ _ (ap not (sym ek) ∙ coded) h
 
-    lengths : {b : Bool} → not (eqb long 32 && long-fits) ≡ b → not (eqb (length (d .seed)) 32 && lengthFits (d .terms)) ≡ b
+    lengths : {b : Bool} → not (eqb long 32 && long-fits) ≡ b
+        → not (eqb (length (d .seed)) 32 && lengthFits (d .terms)) ≡ b
     lengths h = ap₂ (λ (k : ℕ) (l : Bool). not (eqb k 32 && l)) es (sym e-long) ∙ h
 
     pub bad-length : not (eqb long 32 && long-fits) ≡ true → 4 ≡ why
@@ -135,7 +137,8 @@ module _ {last long : ℕ} (s : Dealer) (d : Deal) (el : s .last ≡ last) (es :
         pub stale : not (ltb last (d .number)) ≡ true → 7 ≡ why
         stale h = past-rooms (turned-down _ _ _ (above h))
 
-        module _ (fresh : not (ltb last (d .number)) ≡ false) (fits : Bool) (ef : fits ≡ thresholdFits (d .terms) (d .t)) where
+        module _ (fresh : not (ltb last (d .number)) ≡ false) (fits : Bool)
+            (ef : fits ≡ thresholdFits (d .terms) (d .t)) where
           pub out-of-range : not fits ≡ true → 8 ≡ why
           out-of-range h = past-rooms (goes-on _ _ _ (above fresh) (turned-down _ _ _ (ap not (sym ef) ∙ h)))
 
@@ -151,10 +154,12 @@ module _ (s : Dealer) (d : Deal) (room0 room1 : ℕ) (a : DealTells s d room0 ro
   is-dealt = e ∙ ap (λ (l : List ℕ). dealtSet (dealFrom (d .number) l (d .terms) (d .t)) party) es
 
   -- what writing a half asks
-  pub half-asks : (room : ℕ) → halfSize (d .terms .n) ≤ room → d .number < 2 ^ 64 → party ≤ 1 → ((party < 256) × (blockBytes * blockCount (set .terms .n) ≤ room)) × Proper set
+  pub half-asks : (room : ℕ) → halfSize (d .terms .n) ≤ room → d .number < 2 ^ 64 → party ≤ 1
+      → ((party < 256) × (blockBytes * blockCount (set .terms .n) ≤ room)) × Proper set
   unfolding halfSize dealtSet setFrom
   half-asks room h number low =
-      ((omega arith, rw (ap (λ (t : Set). t .terms .n) e) h), subst Proper (sym is-dealt) (dealt-proper s d room0 room1 party a number low))
+      let its-terms = ap (λ (t : Set). t .terms .n) e in
+      ((omega arith, rw its-terms h), subst Proper (sym is-dealt) (dealt-proper s d room0 room1 party a number low))
 
   pub is-half : (out out' : List ℕ) → out' ≡ over 0 (half (keyOf s party) (s .name) party set) out → out' ≡ over 0 (halfFor s d party) out
   unfolding halfFor

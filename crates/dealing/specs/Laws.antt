@@ -18,14 +18,15 @@ use Rattle.keystream.specs.Keystream.{keyWord, stream}
 use Rattle.node.specs.declared.Correction.{Correction}
 use Rattle.node.specs.Bounds.{Below, Fits, take-below, block-below, key-long, key-fits, last-below}
 use Rattle.measure.specs.declared.Terms.{Terms}
-use Rattle.measure.specs.Measure.{isCode, lengthFits, measure, reached, allInRange, thresholdFits, ownWord, carried, ordinaryWidth}
+use Rattle.measure.specs.Measure.{isCode, lengthFits, measure, reached, allInRange, thresholdFits, ownWord, carried}
+use Rattle.measure.specs.Measure.{mostElements, ordinaryWidth}
 use Rattle.share.specs.Share.{plus, inner, otherC, otherR, share, boxWord, answer}
 use Rattle.share.specs.Claims.{join-law}
 use Rattle.content.specs.declared.Set.{Set}
-use Rattle.measure.specs.Measure.{mostElements}
 use Rattle.content.specs.Content.{part, fill, noCorrection, Words, Filled, Corrections, Proper}
 use Rattle.content.specs.Pieces.{length-part}
-use Rattle.dealing.specs.Dealing.{setWords, x, y, c0, r, r0, keySeed, maskX, maskY, ownMask, cOf, Deal, rOf, setFrom, dealtSet}
+use Rattle.dealing.specs.Dealing.{setWords, x, y, c0, r, r0, keySeed, maskX, maskY, ownMask, cOf, Deal, rOf}
+use Rattle.dealing.specs.Dealing.{setFrom, dealtSet}
 
 -- ---- words
 
@@ -178,7 +179,8 @@ pub dealt-join : (d : Deal) (v0 v1 : List ℕ) → lengthFits (d .terms) ≡ tru
     let m1 : List ℕ = plus n (carried terms 1 v1) (s1 .mask) in
     let w0 : ℕ = boxWord terms (share 0 n (s0 .c) m0 m1 (s0 .x) (s0 .y)) (ownWord terms v0) (s0 .r) in
     let w1 : ℕ = boxWord terms (share 1 n (s1 .c) m0 m1 (s1 .x) (s1 .y)) (ownWord terms v1) (s1 .r) in
-    add (answer ordinaryWidth 0 (s0 .key) (s0 .seed) (add w0 w1)) (answer ordinaryWidth 1 (s1 .key) (s1 .seed) (add w0 w1)))
+    add (answer ordinaryWidth 0 (s0 .key) (s0 .seed) (add w0 w1))
+    (answer ordinaryWidth 1 (s1 .key) (s1 .seed) (add w0 w1)))
     ≡ only (reached (d .terms) (measure (d .terms) v0 v1) (signed (d .t))) 1
 unfolding dealtSet setFrom ownMask maskX maskY cOf rOf
 dealt-join d v0 v1 long in0 in1 fits =
@@ -191,7 +193,8 @@ dealt-join d v0 v1 long in0 in1 fits =
     let mY : List ℕ = plus n (Y 0) (Y 1) in
     let u0 : List ℕ = carried terms 0 v0 in
     let u1 : List ℕ = carried terms 1 v1 in
-    let s : (party c : ℕ) → share party n c (plus n u0 (fill mX)) (plus n u1 (fill mY)) (fill (X party)) (fill (Y party))
+    let s : (party c : ℕ)
+    → share party n c (plus n u0 (fill mX)) (plus n u1 (fill mY)) (fill (X party)) (fill (Y party))
     ≡ share party n c (plus n u0 mX) (plus n u1 mY) (X party) (Y party) =
     λ party c. rw (plus-fill n u0 mX, plus-fill n u1 mY) (share-fills party n c _ _ (X party) (Y party)) in
     rw (s 0 (c0 n w), s 1 (otherC n mX mY (c0 n w)))

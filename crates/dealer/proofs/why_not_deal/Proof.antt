@@ -25,7 +25,8 @@ blocks-of-requires : tie.Need-blocks-of-requires
 blocks-of-requires c κs =
     let at-length = c .before in
     let a = at-length .before .before .before .args in
-    let bounds = short (a .long) (a .terms) (at-length .length-fits .result) (at-length .length-fits .ensures) (c .if2 .left) in
+    let bounds =
+    short (a .long) (a .terms) (at-length .length-fits .result) (at-length .length-fits .ensures) (c .if2 .left) in
     omega (arith, bounds .1)
 
 mul-size : tie.Need-mul-size
