@@ -19,11 +19,12 @@ use Rattle.measure.specs.Measure.{mostElements, isCode, lengthFits}
 use Rattle.measure.specs.Laws.{code-lt, length-fits}
 use Rattle.content.specs.declared.Set.{Set}
 use Rattle.content.specs.Content.{textBytes, mostBlocks, roomBytes, part, fill, correctionBytes}
-use Rattle.content.specs.Content.{nameField, partyField, codeField, lengthField, maskField, xField, yField, cField}
-use Rattle.content.specs.Content.{rField, seedField, correctionsField, lastField}
+use Rattle.content.specs.Content.{nameField, partyField, codeField, lengthField, maskField, xField, yField}
+use Rattle.content.specs.Content.{cField, rField, seedField, correctionsField, lastField}
 use Rattle.content.specs.Content.{fields, widths, sumFirst, offset, width, size, blockCount, plain}
-use Rattle.content.specs.Content.{lengthIn, field, termsIn, correctionIn, correctionsIn, keyIn, setIn, noCorrection}
-use Rattle.content.specs.Content.{flagsFit, zeros, contentFits, Words, Filled, Corrections, FlagBytes, Proper}
+use Rattle.content.specs.Content.{lengthIn, field, termsIn, correctionIn, correctionsIn, keyIn, setIn}
+use Rattle.content.specs.Content.{noCorrection, flagsFit, zeros, contentFits}
+use Rattle.content.specs.Content.{Words, Filled, Corrections, FlagBytes, Proper}
 use Rattle.content.specs.Pieces.{sumFirst-suc, length-flat, piece-at, part-flat, take-replicate}
 use Rattle.content.specs.Pieces.{wordAt-past, getD-past, length-even, wordsAt-bytesOf, words-back, wordAt-le32}
 
@@ -284,9 +285,11 @@ module _ (name : List ℕ) (party : ℕ) (s : Set) (named : length name ≡ 16) 
       λ t. isCode (t .code) && (lengthFits t && (eqb (blockCount (t .n)) (blockCount n)
       && (flagsFit (keyIn b .corrections) && zeros (drop (size (t .n)) b)))) in
       let its-name = ap (λ (l : List ℕ). same l name) (field-plain nameField) ∙ same-refl name in
-      let its-party = eq-eqb (getD (field b partyField) 0 0) party (ap (λ (l : List ℕ). getD l 0 0) (field-plain partyField)) in
+      let its-party =
+      eq-eqb (getD (field b partyField) 0 0) party (ap (λ (l : List ℕ). getD l 0 0) (field-plain partyField)) in
       let count = eq-eqb (blockCount n) (blockCount n) refl in
-      let flags = ap (λ (k : Key). flagsFit (k .corrections)) key ∙ flags-fit (s .key .corrections) (p .corrections-fit) in
+      let flags =
+      ap (λ (k : Key). flagsFit (k .corrections)) key ∙ flags-fit (s .key .corrections) (p .corrections-fit) in
       let filled = ap zeros drop-plain ∙ zeros-replicate (textBytes * blockCount n - size n) in
       ap₂ _&&_ its-name (ap₂ _&&_ its-party (ap asked terms
       ∙ ap₂ _&&_ (p .code-fits) (ap₂ _&&_ (p .length-fits) (ap₂ _&&_ count (ap₂ _&&_ flags filled)))))

@@ -22,7 +22,8 @@ use Rattle.opening.specs.Examined.{answerFor, examined}
 
 pub dealt-proper : (d : Deal) (party : ℕ) (s : Set) → s ≡ dealtSet d party → d .number < 2 ^ 64
     → isCode (d .terms .code) ≡ true → lengthFits (d .terms) ≡ true → party ≤ 1 → Proper s
-dealt-proper d party s e hnumber hcode hlength hparty = subst Proper (sym e) (proper d party hnumber hcode hlength hparty)
+dealt-proper d party s e hnumber hcode hlength hparty =
+    subst Proper (sym e) (proper d party hnumber hcode hlength hparty)
 
 -- ---- what laying a set out asks of it
 

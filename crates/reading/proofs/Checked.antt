@@ -75,16 +75,17 @@ module _ (name : List ℕ) (party count : ℕ) (b : List ℕ) (terms : Terms) (e
   -- L out of its measure's range
   pub out-of-range : (fits : Bool) → fits ≡ lengthFits terms → not fits ≡ true → false ≡ contentFits name party count b
   out-of-range fits e h =
-      refused named? owned? (isCode (terms .code))
-      (ap (λ (l : Bool). l && (eqb (blockCount n) count && (flags? && zeros (drop (size n) b)))) (sym e ∙ not-true fits h))
+      let others : Bool = eqb (blockCount n) count && (flags? && zeros (drop (size n) b)) in
+      refused named? owned? (isCode (terms .code)) (ap (λ (l : Bool). l && others) (sym e ∙ not-true fits h))
       ∙ sym fits-at
 
   -- L asks for another number of blocks
   pub other-count : (k : ℕ) → k ≡ blockCount n → (k ≡ count → ⊥) → false ≡ contentFits name party count b
   other-count k e h =
       let other : eqb (blockCount n) count ≡ false = ap (λ (m : ℕ). eqb m count) (sym e) ∙ ne-eqb k count h in
+      let others : Bool = flags? && zeros (drop (size n) b) in
       refused named? owned? (isCode (terms .code))
-      (ap (λ (l : Bool). lengthFits terms && (l && (flags? && zeros (drop (size n) b)))) other ∙ and-false (lengthFits terms))
+      (ap (λ (l : Bool). lengthFits terms && (l && others)) other ∙ and-false (lengthFits terms))
       ∙ sym fits-at
 
   -- all that is tested where L and the count fit, each where its field stands

@@ -54,8 +54,10 @@ returns c =
     let at-sets = at-key0 .before .before .before .before in
     let at-seed = at-sets .before .before in
     let fits = deal-tells _ _ _ _ (at-seed .before .before .before .before .pre) in (
-      is-half _ _ _ _ fits 0 _ (at-seed .bytes-32 .ensures) _ (at-sets .sets .ensures .0) _ _ (at-camera .write-half .ensures),
-      is-half _ _ _ _ fits 1 _ (at-seed .bytes-32 .ensures) _ (at-sets .sets .ensures .1) _ _ (at-office .write-half2 .ensures),
+      is-half _ _ _ _ fits 0 _ (at-seed .bytes-32 .ensures) _ (at-sets .sets .ensures .0) _ _
+          (at-camera .write-half .ensures),
+      is-half _ _ _ _ fits 1 _ (at-seed .bytes-32 .ensures) _ (at-sets .sets .ensures .1) _ _
+          (at-office .write-half2 .ensures),
     )
 
 pub write-halves-spec : {M : Type 1} → statement M

@@ -31,8 +31,8 @@ returns-2 c =
     let at-terms = at-blocks .before .before .before in
     let start = at-terms .before .before in
     let a = start .args in
-    other-count (a .t1) (a .party) (a .count) (a .b .now) (at-terms .terms-in .result) (at-terms .terms-in .ensures .0) _
-    (at-blocks .blocks-of .ensures) (search needs)
+    other-count (a .t1) (a .party) (a .count) (a .b .now) (at-terms .terms-in .result) (at-terms .terms-in .ensures .0)
+    _ (at-blocks .blocks-of .ensures) (search needs)
 
 corrections-at-requires : tie.Need-corrections-at-requires
 corrections-at-requires c κs = search needs
