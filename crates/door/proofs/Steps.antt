@@ -1,16 +1,14 @@
 -- A call on a part, its next state put back, is the list's step: for a box once, over what the box answers and what the
 -- call would say where it is accepted; then for each call. Assumes nothing.
-use mathlib.Core.Path.{_≡_, refl, sym, ap, _∙_}
+use mathlib.Core.Path.{_≡_, refl, ap, _∙_}
 use mathlib.Core.Bool.{Bool, true, false, cond}
 use mathlib.Core.List.{List}
 use Prim.Native.Nat.{ℕ}
 use lib.Dec.{eqb}
 use lib.ListN.{length}
-use borrow.Author.Tests.{eqb-true}
 use Rattle.messages.specs.Messages.{ifTaken}
 use Rattle.half.specs.Half.{setNumber}
 use Rattle.dealing.specs.Dealing.{Deal}
-use Rattle.dealer.specs.declared.Dealer.{Dealer}
 use Rattle.dealer.specs.declared.DealerAnswer.{DealerAnswer}
 use Rattle.dealer.specs.Dealer as DealerCalls
 use Rattle.party.specs.declared.Party.{Party}
@@ -18,30 +16,16 @@ use Rattle.party.specs.declared.PartyAnswer.{PartyAnswer}
 use Rattle.party.specs.Party as BoxCalls
 use Rattle.lock.specs.declared.LockAnswer.{LockAnswer}
 use Rattle.lock.specs.Lock as LockCalls
-use Rattle.calls.specs.Lists.{Message, deal, load, mask, take, finish, drop, join, vector, word, answer, Event, dealt, loaded, sent, dropped, joined, refused, eventOf, onBox, written, maskedBy}
+use Rattle.calls.specs.Lists.{Message, deal, load, mask, take, finish, drop, join, onBox, written, maskedBy}
+use Rattle.calls.specs.Lists.{vector, word, answer, Event, dealt, loaded, sent, dropped, joined}
 use Rattle.door.specs.declared.Side.{Side}
 use Rattle.door.specs.declared.Side.the-variants.{Camera, Office}
 use Rattle.door.specs.declared.Door.{Door}
 use Rattle.door.specs.declared.DoorAnswer.{DoorAnswer}
 use Rattle.door.specs.Door.{boxOf, boxes, world, back, withBox, boxAnswer, eventWhy, eventWord, stepAnswer, call}
+use Rattle.door.specs.Laws.{why-said, word-said}
 
--- ---- what the event says
-
-pub why-said : (why : ℕ) (e : Event) → eventWhy e ≡ 0 → why ≡ eventWhy (eventOf why e)
-unfolding ifTaken
-why-said why e none = go (eqb why 0) refl
-  where
-    go : (t : Bool) → eqb why 0 ≡ t → why ≡ eventWhy (cond t e (refused why))
-    go true h = eqb-true why 0 h ∙ sym none
-    go false h = refl
-
-pub word-said : (why : ℕ) (e : Event) → ifTaken why (eventWord e) 0 ≡ eventWord (eventOf why e)
-unfolding ifTaken
-word-said why e = go (eqb why 0)
-  where
-    go : (t : Bool) → cond t (eventWord e) 0 ≡ eventWord (cond t e (refused why))
-    go true = refl
-    go false = refl
+-- ---- answers
 
 -- what a refused call leaves out once it leaves out again
 pub once : (why w : ℕ) → ifTaken why w 0 ≡ ifTaken why (ifTaken why w 0) 0

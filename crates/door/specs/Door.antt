@@ -3,7 +3,8 @@
 use Prim.Native.Nat.{ℕ}
 use Rattle.party.specs.declared.Party.{Party}
 use Rattle.party.specs.declared.PartyAnswer.{PartyAnswer}
-use Rattle.calls.specs.Lists.{Box, camera, office, World, Call, Body, vector, word, answer, Event, dealt, loaded, sent, dropped, joined, refused, Step, step}
+use Rattle.calls.specs.Lists.{Box, camera, office, World, Call, Step, step}
+use Rattle.calls.specs.Lists.{Body, vector, word, answer, Event, dealt, loaded, sent, dropped, joined, refused}
 use Rattle.door.specs.declared.Side.{Side}
 use Rattle.door.specs.declared.Side.the-variants.{Camera, Office}
 use Rattle.door.specs.declared.Door.{Door}

@@ -2,11 +2,10 @@
 // of the lists that demand 3 speaks of: it goes to its part, whose next state is put back, and the other
 // three parts stay.
 ghost use mathlib.Core.Path.{_≡_};
-ghost use lib.ListN.{length};
 ghost use Rattle.dealing.specs.Dealing.{dealFrom};
 ghost use Rattle.dealer.specs.Dealer.{dealOut};
 ghost use Rattle.party.specs.Party.{maskOut};
-ghost use Rattle.calls.specs.Lists.{Message, deal, load, mask, take, finish, drop, join};
+ghost use Rattle.calls.specs.Lists.{deal, load, mask, take, finish, drop, join};
 ghost use Rattle.door.specs.Door.{boxOf, boxes, withBox, boxAnswer, call};
 use dealer::Dealer;
 use lock::Lock;
@@ -21,6 +20,7 @@ pub enum Side {
     Office,
 }
 
+// The states of the four parts.
 pub struct Door {
     pub dealer: Dealer,
     pub camera: Party,
@@ -37,6 +37,7 @@ pub struct DoorAnswer {
 }
 
 impl Door {
+    // A box's state.
     fn at(self, side: Side) -> Party
         ensures { λ r. ⌜ r ≡ boxes self (boxOf side) ⌝ }
     {
@@ -80,9 +81,12 @@ impl Door {
         out0: &mut [u8],
         out1: &mut [u8],
     ) -> DoorAnswer
-        ensures { λ r. ⌜ r ≡ call self (deal (dealFrom number (now (seed .entry)) terms t) (now (out0 .entry)) (now (out1 .entry))) ⌝ }
-        ensures { λ _. ⌜ now (out0 .exit) ≡ dealOut (self .dealer) (dealFrom number (now (seed .entry)) terms t) (now (out0 .entry)) (now (out1 .entry)) 0 ⌝ }
-        ensures { λ _. ⌜ now (out1 .exit) ≡ dealOut (self .dealer) (dealFrom number (now (seed .entry)) terms t) (now (out0 .entry)) (now (out1 .entry)) 1 ⌝ }
+        ensures { λ r. ⌜ r ≡ call self
+            (deal (dealFrom number (now (seed .entry)) terms t) (now (out0 .entry)) (now (out1 .entry))) ⌝ }
+        ensures { λ _. ⌜ now (out0 .exit) ≡ dealOut (self .dealer) (dealFrom number (now (seed .entry)) terms t)
+            (now (out0 .entry)) (now (out1 .entry)) 0 ⌝ }
+        ensures { λ _. ⌜ now (out1 .exit) ≡ dealOut (self .dealer) (dealFrom number (now (seed .entry)) terms t)
+            (now (out0 .entry)) (now (out1 .entry)) 1 ⌝ }
     {
         let dealer = self.dealer;
         let a = dealer.deal(number, seed, terms, t, out0, out1);
@@ -115,7 +119,8 @@ impl Door {
 
     // Call 3: takes the other box's masked vector, and answers this box's word.
     pub fn take(self, side: Side, label: Label, name: &[u8], v: &[u32]) -> DoorAnswer
-        ensures { λ r. ⌜ r ≡ call self (take (boxOf side) (record { label = label; name = now (name .entry); content = now (v .entry) })) ⌝ }
+        ensures { λ r. ⌜ r ≡ call self
+            (take (boxOf side) (record { label = label; name = now (name .entry); content = now (v .entry) })) ⌝ }
     {
         let party = self.at(side);
         self.on_box(side, party.take(label, name, v))
@@ -123,7 +128,8 @@ impl Door {
 
     // Call 4: takes the other box's word, and answers this box's share of the yes or no.
     pub fn finish(self, side: Side, label: Label, name: &[u8], word: u32) -> DoorAnswer
-        ensures { λ r. ⌜ r ≡ call self (finish (boxOf side) (record { label = label; name = now (name .entry); content = word })) ⌝ }
+        ensures { λ r. ⌜ r ≡ call self
+            (finish (boxOf side) (record { label = label; name = now (name .entry); content = word })) ⌝ }
     {
         let party = self.at(side);
         self.on_box(side, party.finish(label, name, word))
@@ -147,7 +153,9 @@ impl Door {
         name1: &[u8],
         answer1: u32,
     ) -> DoorAnswer
-        ensures { λ r. ⌜ r ≡ call self (join (record { label = label0; name = now (name0 .entry); content = answer0 }) (record { label = label1; name = now (name1 .entry); content = answer1 })) ⌝ }
+        ensures { λ r. ⌜ r ≡ call self
+            (join (record { label = label0; name = now (name0 .entry); content = answer0 })
+            (record { label = label1; name = now (name1 .entry); content = answer1 })) ⌝ }
     {
         let lock = self.lock;
         let a = lock.join(label0, name0, answer0, label1, name1, answer1);

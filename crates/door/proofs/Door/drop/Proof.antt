@@ -16,7 +16,8 @@ returns : tie.Need-returns
 returns c =
     let at-call = c .before in
     let at-box = at-call .before in
-    drop-step _ (at-box .before .args .side) (at-box .at .ensures) (at-call .drop .ensures) (c .on-box .ensures)
+    let side = at-box .before .args .side in
+    drop-step _ side (at-box .at .ensures) (at-call .drop .ensures) (c .on-box .ensures)
 
 pub drop-spec : {M : Type 1} → statement M
 drop-spec = tie.close (tie.spec at-requires drop-requires on-box-requires returns)

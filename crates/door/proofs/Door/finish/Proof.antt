@@ -16,7 +16,8 @@ returns : tie.Need-returns
 returns c =
     let at-call = c .before in
     let at-box = at-call .before in
-    finish-step _ (at-box .before .before .args .side) (at-box .at .ensures) _ (at-call .finish .ensures) (c .on-box .ensures)
+    let side = at-box .before .before .args .side in
+    finish-step _ side (at-box .at .ensures) _ (at-call .finish .ensures) (c .on-box .ensures)
 
 pub finish-spec : {M : Type 1} → statement M
 finish-spec = tie.close (tie.spec at-requires finish-requires on-box-requires returns)

@@ -16,7 +16,8 @@ returns : tie.Need-returns
 returns c =
     let at-call = c .before in
     let at-box = at-call .before in
-    load-step _ (at-box .before .before .args .side) (at-box .at .ensures) _ (at-call .load .ensures) (c .on-box .ensures)
+    let side = at-box .before .before .args .side in
+    load-step _ side (at-box .at .ensures) _ (at-call .load .ensures) (c .on-box .ensures)
 
 pub load-spec : {M : Type 1} → statement M
 load-spec = tie.close (tie.spec at-requires load-requires on-box-requires returns)

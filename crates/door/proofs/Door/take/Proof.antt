@@ -16,7 +16,8 @@ returns : tie.Need-returns
 returns c =
     let at-call = c .before in
     let at-box = at-call .before in
-    take-step _ (at-box .before .before .before .args .side) (at-box .at .ensures) _ (at-call .take .ensures) (c .on-box .ensures)
+    let side = at-box .before .before .before .args .side in
+    take-step _ side (at-box .at .ensures) _ (at-call .take .ensures) (c .on-box .ensures)
 
 pub take-spec : {M : Type 1} → statement M
 take-spec = tie.close (tie.spec at-requires take-requires on-box-requires returns)
