@@ -1,29 +1,13 @@
-// A door's four parts, and what a line of a script asks of them (docs/REPLAY.md). `replay` runs it.
-pub mod boxes;
-mod deals;
-mod joins;
+// What a line of a script asks of a door's four parts (docs/REPLAY.md). `replay` runs it.
+mod calls;
+mod starts;
 mod states;
 
-use dealer::Dealer;
-use lock::Lock;
-use party::Party;
+use door::Door;
+use door::DoorAnswer;
 use replay_lines::lines;
 use replay_lines::lines::Line;
 use replay_lines::memory::BYTES;
-
-pub struct Door {
-    pub dealer: Dealer,
-    pub camera: Party,
-    pub office: Party,
-    pub lock: Lock,
-}
-
-// Why a call was refused (0 if it was not), the number that it answered, and the next door.
-pub struct Step {
-    pub why: u32,
-    pub word: u32,
-    pub door: Door,
-}
 
 // The door before the first start.
 pub fn closed() -> Door {
@@ -35,25 +19,40 @@ pub fn closed() -> Door {
     }
 }
 
-// Every part is handed the line, and those that it does not ask answer zeros: with no branch here the
-// walk carries each state once.
-pub fn call(door: Door, b: &mut [u8; BYTES], l: Line) -> Step {
-    let d = deals::call(door.dealer, b, l);
-    let c = boxes::call(door.camera, lines::CAMERA, b, l);
-    let o = boxes::call(door.office, lines::OFFICE, b, l);
-    let k = joins::call(door.lock, b, l);
+// A start, `put` or `show`. Every part is handed the line, and those that it does not ask answer zeros:
+// with no branch here the walk carries each state once.
+fn prepare(door: Door, b: &mut [u8; BYTES], l: Line) -> DoorAnswer {
+    let d = starts::dealer(door.dealer, b, l);
+    let c = starts::box_at(door.camera, lines::CAMERA, b, l);
+    let o = starts::box_at(door.office, lines::OFFICE, b, l);
+    let k = starts::lock(door.lock, b, l);
     let dealer = d.dealer;
     let camera = c.party;
     let office = o.party;
     let lock = k.lock;
-    Step {
+    DoorAnswer {
         why: d.why | c.why | o.why | k.why,
-        word: c.word | o.word | k.bit,
+        word: 0,
         door: Door {
             dealer,
             camera,
             office,
             lock,
         },
+    }
+}
+
+// What a line asks: a call, or what stands beside the calls.
+pub fn call(door: Door, b: &mut [u8; BYTES], l: Line) -> DoorAnswer {
+    let command = l.command;
+    match command {
+        lines::DEAL => calls::deal(door, b, l),
+        lines::LOAD | lines::MIXED | lines::LOAD_BYTES => calls::load(door, b, l),
+        lines::MASK => calls::mask(door, b, l),
+        lines::TAKE => calls::take(door, b, l),
+        lines::FINISH => calls::finish(door, b, l),
+        lines::DROP => calls::drop(door, l),
+        lines::JOIN => calls::join(door, b, l),
+        _ => prepare(door, b, l),
     }
 }
