@@ -21,10 +21,14 @@ block key set i text =
     let t : List ℕ = cipher key h text in
     h ++ (t ++ tagFor key h h t)
 
--- the first i blocks of plain content p
+-- the text of block i of plain content p
+abbrev pub textAt : List ℕ → ℕ → List ℕ
+textAt p i = part (textBytes * i) textBytes p
+
+-- its first i blocks
 unfoldable pub firstBlocks : List ℕ → ℕ → List ℕ → ℕ → List ℕ
 firstBlocks key set p zero = []
-firstBlocks key set p (suc i) = firstBlocks key set p i ++ block key set i (part (textBytes * i) textBytes p)
+firstBlocks key set p (suc i) = firstBlocks key set p i ++ block key set i (textAt p i)
 
 -- a party's half of a set, under the box's key and the padded name
 unfoldable pub half : List ℕ → List ℕ → ℕ → Set → List ℕ
@@ -50,11 +54,13 @@ unfoldable pub firstFit : List ℕ → List ℕ → ℕ → Bool
 firstFit key h zero = true
 firstFit key h (suc i) = firstFit key h i && blockFits key (setNumber h) i (blockAt h i)
 
--- what its first i blocks open to
+-- what a block opens to, and what its first i blocks do
+abbrev pub textIn : List ℕ → List ℕ → List ℕ
+textIn key b = cipher key (part 0 12 b) (part 12 textBytes b)
+
 unfoldable pub openedBlocks : List ℕ → List ℕ → ℕ → List ℕ
 openedBlocks key h zero = []
-openedBlocks key h (suc i) =
-    openedBlocks key h i ++ cipher key (part 0 12 (blockAt h i)) (part 12 textBytes (blockAt h i))
+openedBlocks key h (suc i) = openedBlocks key h i ++ textIn key (blockAt h i)
 
 -- "a half 3 to 16 whole blocks"
 unfoldable pub wholeBlocks : List ℕ → Bool

@@ -14,9 +14,10 @@ use Rattle.words.specs.List.{over, over-eq}
 use Rattle.poly1305.specs.Laws.{length-mac}
 use Rattle.aead.specs.Aead.{cipher, tagFor, opens, polyKey, macData}
 use Rattle.aead.specs.Claims.{length-cipher, opens-if, cipher-twice}
-use Rattle.content.specs.Content.{part}
+use Rattle.content.specs.Content.{blockBytes, textBytes, part}
 use Rattle.content.specs.Pieces.{length-part}
-use Rattle.half.specs.Half.{header, block, firstBlocks, blockAt, blockFits, firstFit, setNumber, openedBlocks}
+use Rattle.half.specs.Half.{header, block, textAt, firstBlocks, blockAt, blockFits, firstFit, setNumber}
+use Rattle.half.specs.Half.{openedBlocks}
 
 -- ---- parts of a list made of two
 
@@ -43,7 +44,7 @@ pub length-tag : (key nonce aad text : List ℕ) → length (tagFor key nonce aa
 unfolding tagFor
 length-tag key nonce aad text = length-mac (polyKey key nonce) (macData aad text)
 
-module _ (key : List ℕ) (set i : ℕ) (text : List ℕ) (long : length text ≡ 484) where
+module _ (key : List ℕ) (set i : ℕ) (text : List ℕ) (long : length text ≡ textBytes) where
   abbrev h : List ℕ
   h = header set i
 
@@ -53,10 +54,10 @@ module _ (key : List ℕ) (set i : ℕ) (text : List ℕ) (long : length text �
   abbrev tag : List ℕ
   tag = tagFor key h h sealed
 
-  length-sealed : length sealed ≡ 484
+  length-sealed : length sealed ≡ textBytes
   length-sealed = length-cipher key h text ∙ long
 
-  pub length-block : length (block key set i text) ≡ 512
+  pub length-block : length (block key set i text) ≡ blockBytes
   unfolding block
   length-block = omega (arith, length-append h (sealed ++ tag), length-append sealed tag, length-header set i, length-sealed, length-tag key h h sealed)
 
@@ -78,16 +79,17 @@ module _ (key : List ℕ) (set i : ℕ) (text : List ℕ) (long : length text �
       ∙ part-back (bytes 8 set) (bytes 4 i) 8 0 4 (omega (arith, length-bytes 8 set))
       ∙ part-all (bytes 4 i) 4 (length-bytes 4 i)
 
-  pub block-sealed : part 12 484 (block key set i text) ≡ sealed
+  pub block-sealed : part 12 textBytes (block key set i text) ≡ sealed
   unfolding block
   block-sealed =
-      part-back h (sealed ++ tag) 12 0 484 (omega (arith, length-header set i)) ∙ part-front sealed tag 0 484 (omega (arith, length-sealed)) ∙ part-all sealed 484 length-sealed
+      part-back h (sealed ++ tag) 12 0 textBytes (omega (arith, length-header set i))
+      ∙ part-front sealed tag 0 textBytes (omega (arith, length-sealed)) ∙ part-all sealed textBytes length-sealed
 
-  pub block-tag : part 496 16 (block key set i text) ≡ tag
+  pub block-tag : part (12 + textBytes) 16 (block key set i text) ≡ tag
   unfolding block
   block-tag =
-      part-back h (sealed ++ tag) 496 484 16 (omega (arith, length-header set i))
-      ∙ part-back sealed tag 484 0 16 (omega (arith, length-sealed))
+      part-back h (sealed ++ tag) (12 + textBytes) textBytes 16 (omega (arith, length-header set i))
+      ∙ part-back sealed tag textBytes 0 16 (omega (arith, length-sealed))
       ∙ part-all tag 16 (length-tag key h h sealed)
 
   -- its number and index are read back
@@ -98,10 +100,11 @@ module _ (key : List ℕ) (set i : ℕ) (text : List ℕ) (long : length text �
   index-of-block l = ap number block-index ∙ number-four i l
 
   -- it opens, to the text that was sealed
-  pub block-opens : opens key (part 0 12 (block key set i text)) (part 0 12 (block key set i text)) (part 12 484 (block key set i text)) (part 496 16 (block key set i text)) ≡ true
+  pub block-opens : (let b : List ℕ = block key set i text in
+      opens key (part 0 12 b) (part 0 12 b) (part 12 textBytes b) (part (12 + textBytes) 16 b)) ≡ true
   block-opens = rw (block-header, block-sealed, block-tag) (opens-if key h h sealed tag (omega (arith, length-sealed)) refl)
 
-  pub block-text : cipher key (part 0 12 (block key set i text)) (part 12 484 (block key set i text)) ≡ text
+  pub block-text : cipher key (part 0 12 (block key set i text)) (part 12 textBytes (block key set i text)) ≡ text
   block-text = rw (block-header, block-sealed) (cipher-twice key h text)
 
   pub block-fits : set < 2 ^ 64 → i < 2 ^ 32 → blockFits key set i (block key set i text) ≡ true
@@ -111,50 +114,64 @@ module _ (key : List ℕ) (set i : ℕ) (text : List ℕ) (long : length text �
 -- ---- blocks one after the other
 
 module _ (key : List ℕ) (set : ℕ) (p : List ℕ) where
-  pub length-blocks : (k : ℕ) → 484 * k ≤ length p → length (firstBlocks key set p k) ≡ 512 * k
+  -- block i, and the first k of them
+  abbrev one : ℕ → List ℕ
+  one i = block key set i (textAt p i)
+
+  abbrev first : ℕ → List ℕ
+  first k = firstBlocks key set p k
+
+  length-text : (i : ℕ) → textBytes * suc i ≤ length p → length (textAt p i) ≡ textBytes
+  length-text i h = length-part p (textBytes * i) textBytes (omega arith)
+
+  length-one : (i : ℕ) → textBytes * suc i ≤ length p → length (one i) ≡ blockBytes
+  length-one i h = length-block key set i (textAt p i) (length-text i h)
+
+  pub length-blocks : (k : ℕ) → textBytes * k ≤ length p → length (first k) ≡ blockBytes * k
   unfolding firstBlocks
   length-blocks zero h = refl
   length-blocks (suc k) h =
-      omega
-      (arith, length-append (firstBlocks key set p k) (block key set k (part (484 * k) 484 p)), length-blocks k (omega arith), length-block key set k (part (484 * k) 484 p) (length-part p (484 * k) 484 (omega arith)))
+      omega (arith, length-append (first k) (one k), length-blocks k (omega arith), length-one k h)
 
   -- block i of them
-  one-more : (k i : ℕ) (t : Bool) → ltb i k ≡ t → 484 * suc k ≤ length p → i < suc k → (i < k → blockAt (firstBlocks key set p k) i ≡ block key set i (part (484 * i) 484 p))
-      → blockAt (firstBlocks key set p (suc k)) i ≡ block key set i (part (484 * i) 484 p)
+  one-more : (k i : ℕ) (t : Bool) → ltb i k ≡ t → textBytes * suc k ≤ length p → i < suc k
+      → (i < k → blockAt (first k) i ≡ one i) → blockAt (first (suc k)) i ≡ one i
   unfolding firstBlocks blockAt
   one-more k i true e h l before =
       let below : i < k = ltb-true i k e in
-      part-front (firstBlocks key set p k) (block key set k (part (484 * k) 484 p)) (512 * i) 512 (omega (arith, length-blocks k (omega arith))) ∙ before below
+      let inside : blockBytes * i + blockBytes ≤ length (first k) = omega (arith, length-blocks k (omega arith)) in
+      part-front (first k) (one k) (blockBytes * i) blockBytes inside ∙ before below
   one-more k i false e h l before =
       let same : i ≡ k = omega (arith, ltb-false i k e) in
-      let size : length (block key set k (part (484 * k) 484 p)) ≡ 512 = length-block key set k (part (484 * k) 484 p) (length-part p (484 * k) 484 (omega arith)) in
-      part-back (firstBlocks key set p k) (block key set k (part (484 * k) 484 p)) (512 * i) 0 512 (omega (arith, length-blocks k (omega arith)))
-      ∙ part-all (block key set k (part (484 * k) 484 p)) 512 size
-      ∙ ap (λ (j : ℕ). block key set j (part (484 * j) 484 p)) (sym same)
+      let past : blockBytes * i ≡ length (first k) + 0 = omega (arith, length-blocks k (omega arith)) in
+      part-back (first k) (one k) (blockBytes * i) 0 blockBytes past ∙ part-all (one k) blockBytes (length-one k h)
+      ∙ ap one (sym same)
 
-  pub block-at : (k i : ℕ) → 484 * k ≤ length p → i < k → blockAt (firstBlocks key set p k) i ≡ block key set i (part (484 * i) 484 p)
+  pub block-at : (k i : ℕ) → textBytes * k ≤ length p → i < k → blockAt (first k) i ≡ one i
   block-at zero i h l = absurd (omega arith)
   block-at (suc k) i h l = one-more k i (ltb i k) refl h l (λ below. block-at k i (omega arith) below)
 
   -- blocks handed in that are these, one after the other: they fit, and open to what was sealed
   module _ (h : List ℕ) where
     abbrev Are : ℕ → Type 0
-    Are k = (i : ℕ) → i < k → blockAt h i ≡ block key set i (part (484 * i) 484 p)
+    Are k = (i : ℕ) → i < k → blockAt h i ≡ one i
 
-    pub are-fit : (k : ℕ) → 484 * k ≤ length p → set < 2 ^ 64 → k ≤ 2 ^ 32 → setNumber h ≡ set → Are k → firstFit key h k ≡ true
+    pub are-fit : (k : ℕ) → textBytes * k ≤ length p → set < 2 ^ 64 → k ≤ 2 ^ 32 → setNumber h ≡ set → Are k
+        → firstFit key h k ≡ true
     unfolding firstFit
     are-fit zero l s m e f = refl
     are-fit (suc k) l s m e f =
         rw (are-fit k (omega arith) s (omega arith) e (λ i g. f i (omega arith)), e, f k (omega arith))
-        (block-fits key set k (part (484 * k) 484 p) (length-part p (484 * k) 484 (omega arith)) s (omega arith))
+        (block-fits key set k (textAt p k) (length-text k l) s (omega arith))
 
-    pub are-opened : (k : ℕ) → 484 * k ≤ length p → Are k → openedBlocks key h k ≡ take (484 * k) p
+    pub are-opened : (k : ℕ) → textBytes * k ≤ length p → Are k → openedBlocks key h k ≡ take (textBytes * k) p
     unfolding openedBlocks part
     are-opened zero l f = refl
     are-opened (suc k) l f =
-        let more : 484 * suc k ≡ 484 * k + 484 = omega arith in
-        rw (are-opened k (omega arith) (λ i g. f i (omega arith)), f k (omega arith), block-text key set k (part (484 * k) 484 p) (length-part p (484 * k) 484 (omega arith)), more)
-        (sym (take-add (484 * k) 484 p))
+        let more : textBytes * suc k ≡ textBytes * k + textBytes = omega arith in
+        let before = are-opened k (omega arith) (λ i g. f i (omega arith)) in
+        rw (before, f k (omega arith), block-text key set k (textAt p k) (length-text k l), more)
+        (sym (take-add (textBytes * k) textBytes p))
 
 -- a part put back is written over what was there
 pub put-over : (a k : ℕ) (xs ys : List ℕ) → length ys ≡ k → a + k ≤ length xs → putMid a k xs ys ≡ over a ys xs

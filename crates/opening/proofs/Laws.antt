@@ -16,11 +16,11 @@ use Rattle.words.specs.List.{over, over-all, over-next, tab}
 use Rattle.words.specs.Bytes.{wordAt, wordsAt}
 use Rattle.aead.specs.Aead.{cipher, opens, openedText as openedTextOf}
 use Rattle.aead.specs.Claims.{length-cipher}
-use Rattle.content.specs.Content.{part, size}
+use Rattle.content.specs.Content.{blockBytes, textBytes, part}
 use Rattle.content.specs.Pieces.{part-is, length-part, wordAt-part}
 use Rattle.one_time.proofs.Laws.{nonce-words}
 use Rattle.half.specs.OneTime.{header-words}
-use Rattle.half.specs.Half.{header, setNumber, blockFits, firstFit, blockAt, openedBlocks}
+use Rattle.half.specs.Half.{header, setNumber, blockFits, firstFit, blockAt, textIn, openedBlocks}
 use Rattle.half.specs.Laws.{put-over}
 
 pub load-law : (b : List ℕ) (x y : ℕ) → 8 ≤ length b → x ≡ wordAt b 0 → y ≡ wordAt b 4 → x + y * 2 ^ 32 ≡ setNumber b
@@ -50,37 +50,45 @@ module _ (b : List ℕ) (x y z set i : ℕ) (long : 12 ≤ length b) (ex : x ≡
       let parts = both (eqb z i) (eqb s set) ok in
       header-is (eqb-true z i (parts .0)) (sym e ∙ eqb-true s set (parts .1)) hx hy hz
 
-pub nonce-part : (b n : List ℕ) → length b ≡ 512 → n ≡ over 0 (take 12 (drop 0 b)) (replicate 12 0) → n ≡ part 0 12 b
+pub nonce-part : (b n : List ℕ) → length b ≡ blockBytes → n ≡ over 0 (take 12 (drop 0 b)) (replicate 12 0)
+    → n ≡ part 0 12 b
 unfolding part
 nonce-part b n lb e = e ∙ over-all (take 12 b) (replicate 12 0) (length-take-le 12 b (omega arith))
 
 -- a block's text: n, t and o are the copies of its nonce, its tag and its sealed bytes, and z is what the opening leaves of o
-module _ (key b out0 n t o : List ℕ) (r : Bool) (lb : length b ≡ 512) (lo : length out0 ≡ 484)
-    (en : n ≡ over 0 (take 12 (drop 0 b)) (replicate 12 0)) (et : t ≡ over 0 (take 16 (drop 496 b)) (replicate 16 0)) (eo : o ≡ over 0 (take 484 (drop 12 b)) out0)
-    (er : r ≡ opens key n n o t)
-  where
-    nonce-is : n ≡ part 0 12 b
-    nonce-is = nonce-part b n lb en
+module _ (key b out0 n t o : List ℕ) (r : Bool) (lb : length b ≡ blockBytes) (lo : length out0 ≡ textBytes)
+    (en : n ≡ over 0 (take 12 (drop 0 b)) (replicate 12 0))
+    (et : t ≡ over 0 (take 16 (drop (12 + textBytes) b)) (replicate 16 0))
+    (eo : o ≡ over 0 (take textBytes (drop 12 b)) out0)
+    (er : r ≡ opens key n n o t) where
+  nonce-is : n ≡ part 0 12 b
+  nonce-is = nonce-part b n lb en
 
-    tag-part : t ≡ part 496 16 b
-    unfolding part
-    tag-part = et ∙ over-all (take 16 (drop 496 b)) (replicate 16 0) (length-take-le 16 (drop 496 b) (omega (arith, length-drop 496 b)))
+  tag-part : t ≡ part (12 + textBytes) 16 b
+  unfolding part
+  tag-part =
+      let past = drop (12 + textBytes) b in
+      let long = length-take-le 16 past (omega (arith, length-drop (12 + textBytes) b)) in
+      et ∙ over-all (take 16 past) (replicate 16 0) long
 
-    text-part : o ≡ part 12 484 b
-    unfolding part
-    text-part = eo ∙ over-all (take 484 (drop 12 b)) out0 (length-take-le 484 (drop 12 b) (omega (arith, length-drop 12 b)) ∙ sym lo)
+  text-part : o ≡ part 12 textBytes b
+  unfolding part
+  text-part =
+      let past = drop 12 b in
+      let long = length-take-le textBytes past (omega (arith, length-drop 12 b)) in
+      eo ∙ over-all (take textBytes past) out0 (long ∙ sym lo)
 
-    pub text-opens : r ≡ opens key (part 0 12 b) (part 0 12 b) (part 12 484 b) (part 496 16 b)
-    text-opens = er ∙ rw (nonce-is, tag-part, text-part) refl
+  pub text-opens : r ≡ opens key (part 0 12 b) (part 0 12 b) (part 12 textBytes b) (part (12 + textBytes) 16 b)
+  text-opens = er ∙ rw (nonce-is, tag-part, text-part) refl
 
-    pub opened-text : (z : List ℕ) → z ≡ openedTextOf key n n o t → r ≡ true → z ≡ cipher key (part 0 12 b) (part 12 484 b)
-    unfolding openedTextOf
-    opened-text z ez ok = ez ∙ rw (sym er ∙ ok) (ap₂ (cipher key) nonce-is text-part)
+  pub opened-text : (z : List ℕ) → z ≡ openedTextOf key n n o t → r ≡ true → z ≡ textIn key b
+  unfolding openedTextOf
+  opened-text z ez ok = ez ∙ rw (sym er ∙ ok) (ap₂ (cipher key) nonce-is text-part)
 
 -- a block: its index and number beside that
-module _ (key b : List ℕ) (set i : ℕ) (lb : length b ≡ 512) where
+module _ (key b : List ℕ) (set i : ℕ) (lb : length b ≡ blockBytes) where
   abbrev opened : Bool
-  opened = opens key (part 0 12 b) (part 0 12 b) (part 12 484 b) (part 496 16 b)
+  opened = opens key (part 0 12 b) (part 0 12 b) (part 12 textBytes b) (part (12 + textBytes) 16 b)
 
   tests : (eqb (wordAt b 8) i && eqb (setNumber b) set) && opened ≡ blockFits key set i b
   unfolding blockFits setNumber part
@@ -93,36 +101,41 @@ module _ (key b : List ℕ) (set i : ℕ) (lb : length b ≡ 512) where
     pub block-fits : (r : Bool) → not headed ≡ false → r ≡ opened → r ≡ blockFits key set i b
     block-fits r e er = er ∙ ap (λ (h : Bool). h && opened) (sym (not-false headed e) ∙ eh) ∙ tests
 
-length-opened : (key h : List ℕ) (i : ℕ) → 512 * i ≤ length h → length (openedBlocks key h i) ≡ 484 * i
+length-opened : (key h : List ℕ) (i : ℕ) → blockBytes * i ≤ length h → length (openedBlocks key h i) ≡ textBytes * i
 unfolding openedBlocks blockAt
 length-opened key h zero l = refl
 length-opened key h (suc i) l =
-    let b : List ℕ = part (512 * i) 512 h in
-    let size : length (cipher key (part 0 12 b) (part 12 484 b)) ≡ 484 = length-cipher key (part 0 12 b) (part 12 484 b) ∙ length-part b 12 484 (omega (arith, length-part h (512 * i) 512 (omega arith))) in
-    omega (arith, length-append (openedBlocks key h i) (cipher key (part 0 12 b) (part 12 484 b)), length-opened key h i (omega arith), size)
+    let b : List ℕ = part (blockBytes * i) blockBytes h in
+    let inside = length-part b 12 textBytes (omega (arith, length-part h (blockBytes * i) blockBytes (omega arith))) in
+    let long : length (textIn key b) ≡ textBytes = length-cipher key (part 0 12 b) (part 12 textBytes b) ∙ inside in
+    omega (arith, length-append (openedBlocks key h i) (textIn key b), length-opened key h i (omega arith), long)
 
 -- one block more
-module _ (key h out0 out b : List ℕ) (set i k m : ℕ) (fit this : Bool) (es : set ≡ setNumber h) (ek : k ≡ 512) where
-  pub fit-more : fit ≡ firstFit key h i → this ≡ blockFits key set i (take k (drop (512 * i) h)) → fit && this ≡ firstFit key h (i + 1)
+module _ (key h out0 out b : List ℕ) (set i k m : ℕ) (fit this : Bool) (es : set ≡ setNumber h)
+    (ek : k ≡ blockBytes) where
+  pub fit-more : fit ≡ firstFit key h i → this ≡ blockFits key set i (take k (drop (blockBytes * i) h))
+      → fit && this ≡ firstFit key h (i + 1)
   unfolding firstFit blockAt part
   fit-more e f = rw (add-one i, e, f, es, ek) refl
 
-  pub opened-more : m ≡ 484 → 512 * (i + 1) ≤ length h → 484 * (i + 1) ≤ length out → length b ≡ 484 → (fit ≡ true → out ≡ over 0 (openedBlocks key h i) out0)
-      → (this ≡ true → b ≡ cipher key (part 0 12 (take k (drop (512 * i) h))) (part 12 484 (take k (drop (512 * i) h)))) → fit && this ≡ true
-      → putMid (484 * i) m out b ≡ over 0 (openedBlocks key h (i + 1)) out0
+  pub opened-more : m ≡ textBytes → blockBytes * (i + 1) ≤ length h → textBytes * (i + 1) ≤ length out
+      → length b ≡ textBytes → (fit ≡ true → out ≡ over 0 (openedBlocks key h i) out0)
+      → (this ≡ true → b ≡ textIn key (take k (drop (blockBytes * i) h))) → fit && this ≡ true
+      → putMid (textBytes * i) m out b ≡ over 0 (openedBlocks key h (i + 1)) out0
   unfolding openedBlocks blockAt
   opened-more em lh lo lb f g ok =
-      let block : List ℕ = part (512 * i) 512 h in
+      let text : List ℕ = textIn key (part (blockBytes * i) blockBytes h) in
       let fits = both fit this ok in
-      let e = f (fits .0) in
-      let is : b ≡ cipher key (part 0 12 block) (part 12 484 block) =
-      g (fits .1) ∙ ap (λ (n : ℕ). cipher key (part 0 12 (take n (drop (512 * i) h))) (part 12 484 (take n (drop (512 * i) h)))) ek ∙ unfolded in
+      let is : b ≡ text =
+      g (fits .1) ∙ ap (λ (n : ℕ). textIn key (take n (drop (blockBytes * i) h))) ek
+      ∙ ap (textIn key) (part-is (blockBytes * i) blockBytes h) in
+      let put : putMid (textBytes * i) m out b ≡ over (0 + textBytes * i) text out =
+      put-over (textBytes * i) m out b (lb ∙ sym em) (omega arith)
+      ∙ ap₂ (λ (n : ℕ) (l : List ℕ). over n l out) (omega arith) is in
       rw (add-one i)
-      (over-next (openedBlocks key h i) (cipher key (part 0 12 block) (part 12 484 block)) out0 out (putMid (484 * i) m out b) 0 (484 * i) (length-opened key h i (omega arith)) e
-      (put-over (484 * i) m out b (lb ∙ sym em) (omega arith) ∙ ap₂ (λ (n : ℕ) (l : List ℕ). over n l out) (omega arith) is))
-    where
-      unfolded : cipher key (part 0 12 (take 512 (drop (512 * i) h))) (part 12 484 (take 512 (drop (512 * i) h))) ≡ cipher key (part 0 12 (part (512 * i) 512 h)) (part 12 484 (part (512 * i) 512 h))
-      unfolded = ap (λ (l : List ℕ). cipher key (part 0 12 l) (part 12 484 l)) (part-is (512 * i) 512 h)
+      (over-next (openedBlocks key h i) text out0 out (putMid (textBytes * i) m out b) 0 (textBytes * i)
+      (length-opened key h i (omega arith)) (f (fits .0)) put)
 
-pub opened-all : (key h out0 out : List ℕ) (count : ℕ) → 512 * count ≤ length h → length out0 ≡ 484 * count → out ≡ over 0 (openedBlocks key h count) out0 → out ≡ openedBlocks key h count
+pub opened-all : (key h out0 out : List ℕ) (count : ℕ) → blockBytes * count ≤ length h → length out0 ≡ textBytes * count
+    → out ≡ over 0 (openedBlocks key h count) out0 → out ≡ openedBlocks key h count
 opened-all key h out0 out count l lo e = e ∙ over-all (openedBlocks key h count) out0 (length-opened key h count l ∙ sym lo)

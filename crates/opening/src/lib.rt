@@ -6,9 +6,9 @@ ghost use Prim.Native.Nat.{_+_, _*_, _/_, _%_, _^_, _≤_};
 ghost use lib.Dec.{eqb, leb};
 ghost use lib.ListN.{length};
 ghost use Rattle.words.specs.Bytes.{wordAt, wordsAt};
-ghost use Rattle.aead.specs.Aead.{polyKey, cipher, opens};
+ghost use Rattle.aead.specs.Aead.{polyKey, opens};
 ghost use Rattle.content.specs.Content.{blockBytes, textBytes, mostBlocks, part};
-ghost use Rattle.half.specs.Half.{header, blockFits, firstFit, openedBlocks, setNumber, whyNotOpened};
+ghost use Rattle.half.specs.Half.{header, textIn, blockFits, firstFit, openedBlocks, setNumber, whyNotOpened};
 ghost use Rattle.opening.specs.Examined.{refused as refusedFor, answerFor, examined};
 use content::BLOCK;
 use content::MOST_BLOCKS;
@@ -52,8 +52,7 @@ fn open_text(key: &[u8; 32], once: &[u8; 32], b: &[u8], out: &mut [u8]) -> bool
     requires { ⌜ now once ≡ polyKey (now key) (part 0 12 (now b)) ⌝ }
     ensures { λ r. ⌜ r ≡ opens (now (key .entry)) (part 0 12 (now (b .entry))) (part 0 12 (now (b .entry)))
         (part 12 textBytes (now (b .entry))) (part (12 + textBytes) 16 (now (b .entry))) ⌝ }
-    ensures { λ r. ⌜ (r ≡ true → now (out .exit)
-        ≡ cipher (now (key .entry)) (part 0 12 (now (b .entry))) (part 12 textBytes (now (b .entry)))) ⌝ }
+    ensures { λ r. ⌜ (r ≡ true → now (out .exit) ≡ textIn (now (key .entry)) (now (b .entry))) ⌝ }
 {
     let mut nonce = [0u8; 12];
     slices::copy(&mut nonce, 0, &b[0..12]);
@@ -77,8 +76,7 @@ fn open_block(
     requires { ⌜ (length (now b) ≡ blockBytes) × (length (now out) ≡ textBytes) ⌝ }
     requires { ⌜ now once ≡ polyKey (now key) (header number i) ⌝ }
     ensures { λ r. ⌜ r ≡ blockFits (now (key .entry)) number i (now (b .entry)) ⌝ }
-    ensures { λ r. ⌜ (r ≡ true → now (out .exit)
-        ≡ cipher (now (key .entry)) (part 0 12 (now (b .entry))) (part 12 textBytes (now (b .entry)))) ⌝ }
+    ensures { λ r. ⌜ (r ≡ true → now (out .exit) ≡ textIn (now (key .entry)) (now (b .entry))) ⌝ }
 {
     if !is_headed(b, number, i) {
         return false;

@@ -1,4 +1,5 @@
 use borrow.Author.Needs.{needs}
+use Rattle.content.specs.Content.{blockBytes, textBytes}
 use Rattle.half.specs.Half.{firstBlocks}
 use Rattle.words.specs.List.{over, length-over}
 use lib.ListN.{length}
@@ -86,7 +87,11 @@ loop-again c =
     let at-loop = at-key .before .before .before in
     let args = at-loop .before .before .before .before .args in
     let i = at-loop .loop .i in
-    let next = blocks-more (args .key .now) (args .p .now) (args .out .now) (at-loop .loop .out) (at-block .write-block .last .1 .1 .1 .1 .1 .0) (args .number) i (484 * i + 484 - 484 * i) (512 * i + 512 - 512 * i) (omega arith) (omega arith) (at-loop .loop .inv .1) (omega arith) (omega arith) (at-loop .loop .inv .2) (at-block .write-block .ensures) in
+    let next =
+    blocks-more (args .key .now) (args .p .now) (args .out .now) (at-loop .loop .out)
+    (at-block .write-block .last .1 .1 .1 .1 .1 .0) (args .number) i (textBytes * i + textBytes - textBytes * i)
+    (blockBytes * i + blockBytes - blockBytes * i) (omega arith) (omega arith) (at-loop .loop .inv .1) (omega arith)
+    (omega arith) (at-loop .loop .inv .2) (at-block .write-block .ensures) in
     (search needs, ap length next ∙ length-over _ _ _, next)
 
 same-length : tie.Need-same-length Inv-loop μ-loop

@@ -1,3 +1,4 @@
+use Rattle.content.specs.Content.{blockBytes, textBytes}
 use Rattle.half.specs.Half.{firstFit, openedBlocks}
 use Rattle.words.specs.List.{over}
 use lib.ListN.{length}
@@ -93,8 +94,14 @@ loop-again c =
     let text = block .last .1 .1 .1 .1 .1 .0 in (
       search needs,
       search needs,
-      fit-more key h (start .args .out .now) (at-loop .loop .out) text (start .args .number) i (512 * i + 512 - 512 * i) (484 * i + 484 - 484 * i) (at-loop .loop .fit) (block .result) (start .pre .3) (omega arith) (at-loop .loop .inv .2) (block .ensures .0),
-      opened-more key h (start .args .out .now) (at-loop .loop .out) text (start .args .number) i (512 * i + 512 - 512 * i) (484 * i + 484 - 484 * i) (at-loop .loop .fit) (block .result) (start .pre .3) (omega arith) (omega arith) (omega arith) (omega arith) (search needs) (at-loop .loop .inv .3) (block .ensures .1),
+      fit-more key h (start .args .out .now) (at-loop .loop .out) text (start .args .number) i
+          (blockBytes * i + blockBytes - blockBytes * i) (textBytes * i + textBytes - textBytes * i)
+          (at-loop .loop .fit) (block .result) (start .pre .3) (omega arith) (at-loop .loop .inv .2)
+          (block .ensures .0),
+      opened-more key h (start .args .out .now) (at-loop .loop .out) text (start .args .number) i
+          (blockBytes * i + blockBytes - blockBytes * i) (textBytes * i + textBytes - textBytes * i)
+          (at-loop .loop .fit) (block .result) (start .pre .3) (omega arith) (omega arith) (omega arith) (omega arith)
+          (search needs) (at-loop .loop .inv .3) (block .ensures .1),
     )
 
 same-length : tie.Need-same-length Inv-loop μ-loop
