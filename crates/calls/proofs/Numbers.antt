@@ -13,7 +13,7 @@ use Rattle.algebra.specs.Bit.{both}
 use Rattle.words.specs.List.{same}
 use Rattle.measure.specs.Measure.{isCode, lengthFits}
 use Rattle.messages.specs.declared.Label.{Label}
-use Rattle.messages.specs.Messages.{unless, ifTaken}
+use Rattle.messages.specs.Messages.{outOfTurn, unless, ifTaken}
 use Rattle.messages.specs.Laws.{passed}
 use Rattle.content.specs.Content.{nameField, partyField, field, setIn, contentFits, noSet}
 use Rattle.half.specs.Half.{whyNot, whyNotOpened, setNumber, openedSet}
@@ -31,7 +31,7 @@ use Rattle.calls.specs.Lists.{Call, deal, load, mask, take, finish, drop
 use Rattle.calls.specs.Lists.{Event, loaded, sent, dropped, refused, vector, word, answer, eventOf}
 use Rattle.calls.specs.Demand.{dealsIn, loadsBy, joinsIn, collect, vectors, sentWords}
 use Rattle.calls.specs.Demand.{lastDealt, lastLoaded, lastJoined, openSets}
-use Rattle.calls.specs.Numbers.{Rise, NumbersKept}
+use Rattle.calls.specs.Numbers.{Rise, NoTurn, NumbersKept}
 use Rattle.calls.proofs.Accepted.{load-tells, mask-tells, take-tells, finish-tells, drop-tells, join-tells}
 use Rattle.calls.proofs.Boxes.{own-box, party-fits, put-all}
 use Rattle.calls.proofs.Once.{Once, once-none, once-map, once-cond, once-skip}
@@ -383,6 +383,20 @@ drops-not : (p : Party) → p .check .phase ≡ 0 → whyNotDrop p ≡ 3
 unfolding whyNotDrop unless
 drops-not p e = rw (eq-eqb (p .check .phase) 0 e) refl
 
+-- a call that comes at a later phase
+not-yet : (k : ℕ) (p : Party) (rest : ℕ) → p .check .phase ≡ 0 → unless (inTurn (suc k) p) outOfTurn rest ≡ outOfTurn
+unfolding inTurn unless
+not-yet k p rest e = rw (ne-eqb (p .check .phase) (suc k) (λ q. omega (arith, e, q))) refl
+
+no-turns : (w : World) (b : Box) → w .box b .check .phase ≡ 0 → NoTurn w b
+unfolding BoxCalls.mask takeVector BoxCalls.finish whyNotMask whyNotTake whyNotFinish BoxCalls.whyNotMessage ifTaken
+no-turns w b e =
+    record {
+      no-mask = λ v out. rw (not-yet 0 (w .box b) _ e) refl;
+      no-take = λ m. rw (not-yet 1 (w .box b) _ e) refl;
+      no-finish = λ m. rw (not-yet 2 (w .box b) _ e) refl;
+    }
+
 module _ (floor : ℕ) (b : Box) (h : List Event) (last : ℕ) where
   some-open : (phase m : ℕ) → At floor b h last phase m → 1 ≤ openSets b h → 1 ≤ phase
   some-open zero m k l = absurd (omega (arith, l, k .none refl))
@@ -414,5 +428,7 @@ numbers-kept s f cs =
       drop-taken = λ b l. let (k, fits) = I .box-at b in
           rw (drops (w .box b) fits (some-open _ b h _ _ _ k l)) refl;
       drop-refused = λ b e. rw (drops-not (w .box b) (none-open _ b h _ _ _ (I .box-at b .0) e)) refl;
+      no-turn = λ b e. no-turns w b (none-open _ b h _ _ _ (I .box-at b .0) e);
+      open-number = λ b l. let k = I .box-at b .0 in k .number-is (some-open _ b h _ _ _ k l) ∙ k .last-is;
       no-reuse = λ b n. let k = I .box-at b .0 in (k .vectors-once n .few, k .words-once n .few);
     }

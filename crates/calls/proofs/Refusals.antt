@@ -16,7 +16,7 @@ use Rattle.party.specs.Party as BoxCalls
 use Rattle.lock.specs.declared.Lock.{Lock}
 use Rattle.lock.specs.Lock as LockCalls
 use Rattle.calls.specs.Lists.{Box, put, World, Call, deal, load, mask, take, finish, drop, join, Event, dealt, loaded, sent, dropped, joined, refused, eventOf, step}
-use Rattle.calls.specs.Refusals.{lent, lentAfter, NothingChanges, RefusalsChangeNothing}
+use Rattle.calls.specs.Refusals.{lent, lentAfter, said, NothingChanges, RefusalsChangeNothing}
 use Rattle.calls.proofs.Boxes.{put-same}
 
 -- ---- which events are refusals
@@ -64,25 +64,30 @@ buffers p q = λ i. p i ∷ q i
 
 -- a call whose event is e where `why` is 0, and which leaves all as it was where it is not
 alone : (w : World) (c : Call) (k why : ℕ) (e : Event) → refusal e ≡ 0 → step w c .event ≡ eventOf why e
-    → ((why ≡ 0 → ⊥) → (step w c .world ≡ w) × (lentAfter w c ≡ lent c)) → step w c .event ≡ refused k
+    → ((why ≡ 0 → ⊥) → (step w c .world ≡ w) × (lentAfter w c ≡ lent c) × (said w c ≡ 0)) → step w c .event ≡ refused k
     → NothingChanges w c k
 alone w c k why e n q f p =
-    let said = says-why why k e n (sym q ∙ p) in
-    let left = f (said .1) in
-    record { a-number = λ z. said .1 (said .0 ∙ z); same-states = left .0; same-bytes = left .1 }
+    let told = says-why why k e n (sym q ∙ p) in
+    let left = f (told .1) in
+    record {
+      a-number = λ z. told .1 (told .0 ∙ z);
+      same-states = left .0;
+      same-bytes = left .1;
+      nothing-said = left .2;
+    }
 
 pub refusals-change-nothing : RefusalsChangeNothing
 unfolding RefusalsChangeNothing DealerCalls.deal DealerCalls.dealOut BoxCalls.load BoxCalls.mask BoxCalls.maskOut BoxCalls.takeVector BoxCalls.finish BoxCalls.dropSet LockCalls.join
 refusals-change-nothing w (deal d out0 out1) k =
     alone w _ k _ _ refl refl
-    (λ z. (same-dealer w _ (old _ _ _ z), buffers (old _ _ out0 z) (buffers (old _ _ out1 z) refl)))
-refusals-change-nothing w (load b h) k = alone w _ k _ _ refl refl (λ z. (same-box w b _ (old _ _ _ z), refl))
+    (λ z. (same-dealer w _ (old _ _ _ z), buffers (old _ _ out0 z) (buffers (old _ _ out1 z) refl), refl))
+refusals-change-nothing w (load b h) k = alone w _ k _ _ refl refl (λ z. (same-box w b _ (old _ _ _ z), refl, old _ _ _ z))
 refusals-change-nothing w (mask b v out) k =
-    alone w _ k _ _ refl refl (λ z. (same-box w b _ (old _ _ _ z), buffers (old _ _ out z) refl))
-refusals-change-nothing w (take b m) k = alone w _ k _ _ refl refl (λ z. (same-box w b _ (old _ _ _ z), refl))
-refusals-change-nothing w (finish b m) k = alone w _ k _ _ refl refl (λ z. (same-box w b _ (old _ _ _ z), refl))
-refusals-change-nothing w (drop b) k = alone w _ k _ _ refl refl (λ z. (same-box w b _ (old _ _ _ z), refl))
-refusals-change-nothing w (join m n) k = alone w _ k _ _ refl refl (λ z. (same-lock w _ (old _ _ _ z), refl))
+    alone w _ k _ _ refl refl (λ z. (same-box w b _ (old _ _ _ z), buffers (old _ _ out z) refl, old _ _ _ z))
+refusals-change-nothing w (take b m) k = alone w _ k _ _ refl refl (λ z. (same-box w b _ (old _ _ _ z), refl, old _ _ _ z))
+refusals-change-nothing w (finish b m) k = alone w _ k _ _ refl refl (λ z. (same-box w b _ (old _ _ _ z), refl, old _ _ _ z))
+refusals-change-nothing w (drop b) k = alone w _ k _ _ refl refl (λ z. (same-box w b _ (old _ _ _ z), refl, old _ _ _ z))
+refusals-change-nothing w (join m n) k = alone w _ k _ _ refl refl (λ z. (same-lock w _ (old _ _ _ z), refl, old _ _ _ z))
 
 pub refused-still : (w : World) (c : Call) (why : ℕ) → step w c .event ≡ refused why → step w c .world ≡ w
 unfolding RefusalsChangeNothing

@@ -7,7 +7,8 @@ use Prim.Native.Nat.{ℕ, _<_, _≤_}
 use lib.ListN.{length}
 use Rattle.messages.specs.Messages.{outOfTurn}
 use Rattle.party.specs.Party.{idlePhase}
-use Rattle.calls.specs.Lists.{Box, World, Starts, Started, beginning, Call, drop, Event, dropped, refused}
+use Rattle.calls.specs.Lists.{Box, World, Starts, Started, beginning, Message, Call, mask, take, finish, drop}
+use Rattle.calls.specs.Lists.{Event, dropped, refused}
 use Rattle.calls.specs.Lists.{step, after, history}
 use Rattle.calls.specs.Demand.{dealsIn, loadsBy, joinsIn, collect, newest, lastDealt, lastLoaded, lastJoined}
 use Rattle.calls.specs.Demand.{openSets, vectors, sentWords}
@@ -16,6 +17,11 @@ use Rattle.calls.specs.Demand.{openSets, vectors, sentWords}
 abbrev pub Rise : ℕ → List ℕ → Type 0
 Rise floor [] = Unit {0}
 Rise floor (n ∷ l) = Rise floor l × (newest floor l < n)
+
+pub record NoTurn (w : World) (b : Box) : Type 0 where
+  pub no-mask : (v out : List ℕ) → step w (mask b v out) .event ≡ refused outOfTurn
+  pub no-take : (m : Message (List ℕ)) → step w (take b m) .event ≡ refused outOfTurn
+  pub no-finish : (m : Message ℕ) → step w (finish b m) .event ≡ refused outOfTurn
 
 -- where h are the events so far, and w the states
 pub record Numbers (s : Starts) (h : List Event) (w : World) : Type 0 where
@@ -32,6 +38,10 @@ pub record Numbers (s : Starts) (h : List Event) (w : World) : Type 0 where
   -- "Drop ends the open set", and is refused 3 "with no open set"
   pub drop-taken : (b : Box) → 1 ≤ openSets b h → step w (drop b) .event ≡ dropped b
   pub drop-refused : (b : Box) → openSets b h ≡ 0 → step w (drop b) .event ≡ refused outOfTurn
+  -- 3, "A box call is out of its turn": with no set open calls 2, 3 and 4 are refused
+  pub no-turn : (b : Box) → openSets b h ≡ 0 → NoTurn w b
+  -- the open set is the one loaded last, and so what is sent is sent under its number
+  pub open-number : (b : Box) → 1 ≤ openSets b h → w .box b .check .set .number ≡ lastLoaded (s .boxFloor b) b h
   -- at most one masked vector and one word a number and box: a number is spent at its load, whatever the half held
   pub no-reuse : (b : Box) (n : ℕ) → (length (vectors b n h) ≤ 1) × (length (sentWords b n h) ≤ 1)
 

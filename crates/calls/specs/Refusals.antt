@@ -3,9 +3,11 @@
 use mathlib.Core.Path.{_≡_}
 use mathlib.Core.List.{List, [], _∷_}
 use Prim.Native.Nat.{ℕ}
+use lib.ListN.{length}
 use Rattle.messages.specs.Messages.{cameraParty, officeParty}
 use Rattle.dealer.specs.Dealer as DealerCalls
 use Rattle.party.specs.Party as BoxCalls
+use Rattle.lock.specs.Lock as LockCalls
 use Rattle.calls.specs.Lists.{World, Call, deal, load, mask, take, finish, drop, join, refused, step}
 
 -- the buffers lent to a call
@@ -29,11 +31,23 @@ lentAfter w (finish b m) = []
 lentAfter w (drop b) = []
 lentAfter w (join m n) = []
 
--- "no state and no byte changes"
+-- the word or the bit that the answer has beside its number
+abbrev pub said : World → Call → ℕ
+said w (deal d out0 out1) = 0
+said w (load b h) = BoxCalls.load (w .box b) h .word
+said w (mask b v out) = BoxCalls.mask (w .box b) v (length out) .word
+said w (take b m) = BoxCalls.takeVector (w .box b) (m .label) (m .name) (m .content) .word
+said w (finish b m) = BoxCalls.finish (w .box b) (m .label) (m .name) (m .content) .word
+said w (drop b) = BoxCalls.dropSet (w .box b) .word
+said w (join m n) =
+    LockCalls.join (w .lock) (m .label) (m .name) (m .content) (n .label) (n .name) (n .content) .bit
+
+-- "The answer is the number alone; no state and no byte changes."
 pub record NothingChanges (w : World) (c : Call) (why : ℕ) : Type 0 where
   pub a-number : why ≡ 0 → ⊥
   pub same-states : step w c .world ≡ w
   pub same-bytes : lentAfter w c ≡ lent c
+  pub nothing-said : said w c ≡ 0
 
 unfoldable pub RefusalsChangeNothing : Type 0
 RefusalsChangeNothing = (w : World) (c : Call) (why : ℕ) → step w c .event ≡ refused why → NothingChanges w c why
