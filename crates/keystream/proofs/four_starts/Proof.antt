@@ -36,11 +36,13 @@ loop-less c = search needs
 
 loop-again : tie.Need-loop-again Inv-loop μ-loop
 unfolding add
-loop-again c = (
-  search needs,
-  omega (arith, c .add .ensures, c .before .before .before .before .before .loop .inv .1),
-  start-more 4 _ _ _ _ _ _ _ _ _ (search needs) (c .before .before .before .before .before .loop .inv .1) (c .before .before .before .before .before .loop .inv .2) (c .before .before .start .ensures) (c .before .set-lane .ensures),
-)
+loop-again c =
+    let at-start = c .before .before in
+    let at-loop = at-start .before .before .before in (
+      search needs,
+      omega (arith, c .add .ensures, at-loop .loop .inv .1),
+      start-more 4 _ _ _ _ _ _ _ _ _ (search needs) (at-loop .loop .inv .1) (at-loop .loop .inv .2) (at-start .start .ensures) (c .before .set-lane .ensures),
+    )
 
 returns : tie.Need-returns Inv-loop μ-loop
 returns c = start-all 4 _ _ _ _ _ (c .before .loop .l) (omega arith) (c .before .loop .inv .2)

@@ -41,7 +41,10 @@ loop-less c = search needs
 
 loop-again : tie.Need-loop-again Inv-loop μ-loop
 loop-again c =
-    (search needs, over-word (λ i. getD (c .before .before .before .before .before .before .before .before .before .args .w .now) i 0) _ _ _ _ _ (c .before .before .before .before .before .before .loop .inv .1) (c .before .before .store .ensures), search needs)
+    let at-store = c .before .before in
+    let at-loop = at-store .before .before .before .before in
+    let start = at-loop .before .before .before in
+    (search needs, over-word (λ i. getD (start .args .w .now) i 0) _ _ _ _ _ (at-loop .loop .inv .1) (at-store .store .ensures), search needs)
 
 same-length : tie.Need-same-length Inv-loop μ-loop
 same-length c = search needs
