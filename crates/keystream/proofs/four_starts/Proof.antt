@@ -10,7 +10,8 @@ use Rattle.keystream.proofs.four_starts.Statement.{statement}
 use Rattle.keystream.proofs.four_starts.Tie as tie
 
 abbrev Inv-loop : tie.InvT-loop
-Inv-loop x₀ key counter nonce n₀ l₀ x n l = (l ≤ 4) × (n ≡ add counter l) × (rows 4 x ≡ upTo l (starts 4 key counter nonce) (rows 4 x₀))
+Inv-loop x₀ key counter nonce n₀ l₀ x n l =
+    (l ≤ 4) × (n ≡ add counter l) × (rows 4 x ≡ upTo l (starts 4 key counter nonce) (rows 4 x₀))
 
 abbrev μ-loop : tie.MeasureT-loop
 μ-loop x₀ key counter nonce n₀ l₀ x n l = 4 - l
@@ -41,7 +42,8 @@ loop-again c =
     let at-loop = at-start .before .before .before in (
       search needs,
       omega (arith, c .add .ensures, at-loop .loop .inv .1),
-      start-more 4 _ _ _ _ _ _ _ _ _ (search needs) (at-loop .loop .inv .1) (at-loop .loop .inv .2) (at-start .start .ensures) (c .before .set-lane .ensures),
+      start-more 4 _ _ _ _ _ _ _ _ _ (search needs) (at-loop .loop .inv .1)
+          (at-loop .loop .inv .2) (at-start .start .ensures) (c .before .set-lane .ensures),
     )
 
 returns : tie.Need-returns Inv-loop μ-loop

@@ -80,7 +80,8 @@ array-read-only-8 c = search needs
 only-requires-8 : tie.Need-only-requires-8
 only-requires-8 c κs = search needs
 
--- Each half names the steps it uses: `search` goes through all that is in scope, and with more names it would stop short.
+-- Each half names the steps it uses: `search` goes through all
+-- that is in scope, and with more names it would stop short.
 returns : tie.Need-returns
 returns c =
     (let at-only7 = c .before in
