@@ -55,7 +55,8 @@ fn absorb_short(h: [u64; 5], r: [u64; 5], text: &[u8], both: &[u8]) -> [u64; 5]
     requires { ⌜ Limbs r ⌝ }
     requires { ⌜ (length (now text) ≤ 496) × (length (now both) ≡ 16) ⌝ }
     ensures { λ a. ⌜ Limbs a ⌝ }
-    ensures { λ a. ⌜ Mod prime (value a) (absorbAll (value r) (value h) (pieces ((now (text .entry) ++ pad16 (now (text .entry))) ++ now (both .entry)))) ⌝ }
+    ensures { λ a. ⌜ Mod prime (value a) (absorbAll (value r) (value h)
+        (pieces ((now (text .entry) ++ pad16 (now (text .entry))) ++ now (both .entry)))) ⌝ }
 {
     let n = text.len();
     let end = n + (16 - n % 16) % 16;
@@ -71,7 +72,8 @@ fn absorb_text(h: [u64; 5], r: [u64; 5], text: &[u8], both: &[u8]) -> [u64; 5]
     requires { ⌜ Limbs r ⌝ }
     requires { ⌜ length (now both) ≡ 16 ⌝ }
     ensures { λ a. ⌜ Limbs a ⌝ }
-    ensures { λ a. ⌜ Mod prime (value a) (absorbAll (value r) (value h) (pieces ((now (text .entry) ++ pad16 (now (text .entry))) ++ now (both .entry)))) ⌝ }
+    ensures { λ a. ⌜ Mod prime (value a) (absorbAll (value r) (value h)
+        (pieces ((now (text .entry) ++ pad16 (now (text .entry))) ++ now (both .entry)))) ⌝ }
 {
     if text.len() <= 496 {
         return absorb_short(h, r, text, both);
@@ -131,8 +133,10 @@ pub fn open_by(
     tag: &[u8; 16],
 ) -> bool
     requires { ⌜ now once ≡ polyKey (now key) (now nonce) ⌝ }
-    ensures { λ r. ⌜ r ≡ opens (now (key .entry)) (now (nonce .entry)) (now (aad .entry)) (now (text .entry)) (now (tag .entry)) ⌝ }
-    ensures { λ _. ⌜ now (text .exit) ≡ openedText (now (key .entry)) (now (nonce .entry)) (now (aad .entry)) (now (text .entry)) (now (tag .entry)) ⌝ }
+    ensures { λ r. ⌜ r ≡ opens (now (key .entry)) (now (nonce .entry))
+        (now (aad .entry)) (now (text .entry)) (now (tag .entry)) ⌝ }
+    ensures { λ _. ⌜ now (text .exit) ≡ openedText (now (key .entry))
+        (now (nonce .entry)) (now (aad .entry)) (now (text .entry)) (now (tag .entry)) ⌝ }
 {
     if LIMIT < text.len() {
         return false;
@@ -162,8 +166,10 @@ pub fn seal(key: &[u8; 32], nonce: &[u8; 12], aad: &[u8], text: &mut [u8]) -> Se
 
 // Whether the tag fits; and only where it does the text becomes the plain one.
 pub fn open(key: &[u8; 32], nonce: &[u8; 12], aad: &[u8], text: &mut [u8], tag: &[u8; 16]) -> bool
-    ensures { λ r. ⌜ r ≡ opens (now (key .entry)) (now (nonce .entry)) (now (aad .entry)) (now (text .entry)) (now (tag .entry)) ⌝ }
-    ensures { λ _. ⌜ now (text .exit) ≡ openedText (now (key .entry)) (now (nonce .entry)) (now (aad .entry)) (now (text .entry)) (now (tag .entry)) ⌝ }
+    ensures { λ r. ⌜ r ≡ opens (now (key .entry)) (now (nonce .entry))
+        (now (aad .entry)) (now (text .entry)) (now (tag .entry)) ⌝ }
+    ensures { λ _. ⌜ now (text .exit) ≡ openedText (now (key .entry))
+        (now (nonce .entry)) (now (aad .entry)) (now (text .entry)) (now (tag .entry)) ⌝ }
 {
     let once = poly_key(key, nonce);
     open_by(key, &once, nonce, aad, text, tag)

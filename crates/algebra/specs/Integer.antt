@@ -10,7 +10,8 @@ use lib.Dec.{T, eqb, ltb, ltb→lt, nltb→le}
 use lib.IntN.{ℤ, pos, negsuc, negℤ, subℕ, _+ℤ_, _*ℤ_}
 use lib.ListN.{getD}
 use lib.Signed.{mag}
-use Rattle.algebra.specs.Mod.{Mod, m-refl, m-eq, m-sym, m-trans, m-add, m-mul, m-words, neg-self, neg-twice, Under, under-zero, under-mod}
+use Rattle.algebra.specs.Mod.{Mod, m-refl, m-eq, m-sym, m-trans, m-add, m-mul, m-words, neg-self, neg-twice}
+use Rattle.algebra.specs.Mod.{Under, under-zero, under-mod}
 use Rattle.algebra.specs.Normal.{Ex, con, var, _⊕_, _⊗_, ⊖, val, nf, solve}
 use Rattle.algebra.specs.Ring.{some-suc, Read}
 
@@ -38,9 +39,12 @@ module _ (m : ℕ) (p : ltb 0 m ≡ true) where
   unfolding residue
   residue-sub a b = cond-ind (ltb a b) (negsuc (b - suc a)) (pos (a - b)) (λ z. Mod m (residue m z) (a + (m - 1) * b))
       (λ t. m-sym
-      (m-trans (m-eq (below (m - 1) a b (ltb→lt a b t))) (m-trans (m-add (neg-self m a p) (m-refl {a = (m - 1) * suc (b - suc a)})) (m-eq (zadd ((m - 1) * suc (b - suc a)))))))
+      (m-trans (m-eq (below (m - 1) a b (ltb→lt a b t)))
+      (m-trans (m-add (neg-self m a p) (m-refl {a = (m - 1) * suc (b - suc a)}))
+      (m-eq (zadd ((m - 1) * suc (b - suc a)))))))
       (λ t. m-sym
-      (m-trans (m-eq (above (m - 1) a b (nltb→le a b t))) (m-trans (m-add (neg-self m b p) (m-refl {a = a - b})) (m-eq (zadd (a - b))))))
+      (m-trans (m-eq (above (m - 1) a b (nltb→le a b t)))
+      (m-trans (m-add (neg-self m b p) (m-refl {a = a - b})) (m-eq (zadd (a - b))))))
     where
       zadd : (x : ℕ) → 0 + x ≡ x
       zadd x = omega arith
@@ -87,7 +91,8 @@ module _ (m : ℕ) (p : ltb 0 m ≡ true) where
     where
       dist : (k a b : ℕ) → k * (a * b) ≡ k * a * b
       dist k a b = omega arith
-  residue-mul (negsuc a) (negsuc b) = m-trans (m-sym (neg-twice m p (suc a * suc b))) (m-eq (dist (m - 1) (suc a) (suc b)))
+  residue-mul (negsuc a) (negsuc b) =
+      m-trans (m-sym (neg-twice m p (suc a * suc b))) (m-eq (dist (m - 1) (suc a) (suc b)))
     where
       dist : (k a b : ℕ) → k * (k * (a * b)) ≡ k * a * (k * b)
       dist k a b = omega arith
@@ -105,7 +110,8 @@ module _ (m : ℕ) (p : ltb 0 m ≡ true) where
   residue-inj (pos a) (negsuc b) l h = absurd (minus a b l h)
   residue-inj (negsuc a) (pos b) l h = absurd (minus b a (omega arith) (m-sym h))
   residue-inj (negsuc a) (negsuc b) l h = ap negsuc (less
-      (m-words (m-trans (m-sym (neg-twice m p (suc a))) (m-trans (m-mul (m-refl {a = m - 1}) h) (neg-twice m p (suc b)))) (omega arith) (omega arith)))
+      (m-words (m-trans (m-sym (neg-twice m p (suc a)))
+      (m-trans (m-mul (m-refl {a = m - 1}) h) (neg-twice m p (suc b)))) (omega arith) (omega arith)))
     where
       less : suc a ≡ suc b → a ≡ b
       less e = omega arith
@@ -122,14 +128,26 @@ every x y h = residue-inj (suc big) (some-suc big) x y (omega arith) (h (suc big
 abbrev pub r-pos : {k n : ℕ} {ρ : List ℕ} → Read k ρ n → Read k ρ (residue k (pos n))
 r-pos {k} {n} A = record { ex = A .ex; ok = λ m u. m-trans (A .ok m u) (m-eq (residue-pos k n)) }
 
-abbrev pub r-addℤ : {k : ℕ} {ρ : List ℕ} (x y : ℤ) → ltb 0 k ≡ true → Read k ρ (residue k x) → Read k ρ (residue k y) → Read k ρ (residue k (x +ℤ y))
-r-addℤ {k} x y p A B = record { ex = A .ex ⊕ B .ex; ok = λ m u. m-trans (m-add (A .ok m u) (B .ok m u)) (m-sym (under-mod u (residue-add k p x y))) }
+abbrev pub r-addℤ : {k : ℕ} {ρ : List ℕ} (x y : ℤ) → ltb 0 k ≡ true → Read k ρ (residue k x) → Read k ρ (residue k y)
+    → Read k ρ (residue k (x +ℤ y))
+r-addℤ {k} x y p A B = record {
+  ex = A .ex ⊕ B .ex;
+  ok = λ m u. m-trans (m-add (A .ok m u) (B .ok m u)) (m-sym (under-mod u (residue-add k p x y)));
+}
 
-abbrev pub r-mulℤ : {k : ℕ} {ρ : List ℕ} (x y : ℤ) → ltb 0 k ≡ true → Read k ρ (residue k x) → Read k ρ (residue k y) → Read k ρ (residue k (x *ℤ y))
-r-mulℤ {k} x y p A B = record { ex = A .ex ⊗ B .ex; ok = λ m u. m-trans (m-mul (A .ok m u) (B .ok m u)) (m-sym (under-mod u (residue-mul k p x y))) }
+abbrev pub r-mulℤ : {k : ℕ} {ρ : List ℕ} (x y : ℤ) → ltb 0 k ≡ true → Read k ρ (residue k x) → Read k ρ (residue k y)
+    → Read k ρ (residue k (x *ℤ y))
+r-mulℤ {k} x y p A B = record {
+  ex = A .ex ⊗ B .ex;
+  ok = λ m u. m-trans (m-mul (A .ok m u) (B .ok m u)) (m-sym (under-mod u (residue-mul k p x y)));
+}
 
-abbrev pub r-negℤ : {k : ℕ} {ρ : List ℕ} (x : ℤ) → ltb 0 k ≡ true → Read k ρ (residue k x) → Read k ρ (residue k (negℤ x))
-r-negℤ {k} x p A = record { ex = con (k - 1) ⊗ A .ex; ok = λ m u. m-trans (m-mul (m-refl {a = k - 1}) (A .ok m u)) (m-sym (under-mod u (residue-neg k p x))) }
+abbrev pub r-negℤ : {k : ℕ} {ρ : List ℕ} (x : ℤ) → ltb 0 k ≡ true → Read k ρ (residue k x)
+    → Read k ρ (residue k (negℤ x))
+r-negℤ {k} x p A = record {
+  ex = con (k - 1) ⊗ A .ex;
+  ok = λ m u. m-trans (m-mul (m-refl {a = k - 1}) (A .ok m u)) (m-sym (under-mod u (residue-neg k p x)));
+}
 
 pub ruleset residues = (r-pos, r-addℤ, r-mulℤ, r-negℤ)
 
@@ -156,16 +174,29 @@ abbrev pub z-pos : {ρ : List ℤ} (n : ℕ) → eqb n n ≡ true → Readℤ ρ
 z-pos n t = record { ex = con n; ok = λ m u. m-eq (residue-pos m n) }
 
 abbrev pub z-negsuc : {ρ : List ℤ} (n : ℕ) → eqb n n ≡ true → Readℤ ρ (negsuc n)
-z-negsuc n t = record { ex = ⊖ (con (suc n)); ok = λ m u. m-trans (m-mul (m-refl {a = m - 1}) (m-eq (residue-pos m (suc n)))) (m-sym (residue-neg m (u .some) (pos (suc n)))) }
+z-negsuc n t = record {
+  ex = ⊖ (con (suc n));
+  ok = λ m u. m-trans (m-mul (m-refl {a = m - 1}) (m-eq (residue-pos m (suc n))))
+      (m-sym (residue-neg m (u .some) (pos (suc n))));
+}
 
 abbrev pub z-add : {ρ : List ℤ} (x y : ℤ) → Readℤ ρ x → Readℤ ρ y → Readℤ ρ (x +ℤ y)
-z-add x y A B = record { ex = A .ex ⊕ B .ex; ok = λ m u. m-trans (m-add (A .ok m u) (B .ok m u)) (m-sym (residue-add m (u .some) x y)) }
+z-add x y A B = record {
+  ex = A .ex ⊕ B .ex;
+  ok = λ m u. m-trans (m-add (A .ok m u) (B .ok m u)) (m-sym (residue-add m (u .some) x y));
+}
 
 abbrev pub z-mul : {ρ : List ℤ} (x y : ℤ) → Readℤ ρ x → Readℤ ρ y → Readℤ ρ (x *ℤ y)
-z-mul x y A B = record { ex = A .ex ⊗ B .ex; ok = λ m u. m-trans (m-mul (A .ok m u) (B .ok m u)) (m-sym (residue-mul m (u .some) x y)) }
+z-mul x y A B = record {
+  ex = A .ex ⊗ B .ex;
+  ok = λ m u. m-trans (m-mul (A .ok m u) (B .ok m u)) (m-sym (residue-mul m (u .some) x y));
+}
 
 abbrev pub z-neg : {ρ : List ℤ} (x : ℤ) → Readℤ ρ x → Readℤ ρ (negℤ x)
-z-neg x A = record { ex = ⊖ (A .ex); ok = λ m u. m-trans (m-mul (m-refl {a = m - 1}) (A .ok m u)) (m-sym (residue-neg m (u .some) x)) }
+z-neg x A = record {
+  ex = ⊖ (A .ex);
+  ok = λ m u. m-trans (m-mul (m-refl {a = m - 1}) (A .ok m u)) (m-sym (residue-neg m (u .some) x));
+}
 
 pub record Bothℤ (ρ : List ℤ) (a b : ℤ) : Type 0 where
   pub l : Readℤ ρ a
@@ -178,4 +209,5 @@ pub ruleset reifyℤ = (z-both, z-add, z-mul, z-neg, z-var, hereℤ, thereℤ, z
 
 pub ringℤ : {a b : ℤ} (ρ : List ℤ) (E : Bothℤ ρ a b) → nf 0 (E .l .ex) ≡ nf 0 (E .r .ex) → a ≡ b
 ringℤ {a} {b} ρ E h = every a b
-    (λ m u. m-trans (m-sym (E .l .ok m u)) (m-trans (solve 0 m u (map (residue m) ρ) (E .l .ex) (E .r .ex) h) (E .r .ok m u)))
+    (λ m u.
+    m-trans (m-sym (E .l .ok m u)) (m-trans (solve 0 m u (map (residue m) ρ) (E .l .ex) (E .r .ex) h) (E .r .ok m u)))

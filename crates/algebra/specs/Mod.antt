@@ -3,7 +3,8 @@
 use mathlib.Core.Path.{_≡_, refl, sym, ap, ap₂, _∙_, subst}
 use mathlib.Core.Bool.{true}
 use Prim.Native.Nat.{ℕ, zero, suc, _+_, _*_, _-_, _%_, _/_, _<_}
-use native.Mathlib.Nat.{add-zero, add-assoc, mul-comm, mod-mod, mod-zero, zero-mod, mul-mod-left, mul-mod-right, add-mod, mod-add-div', add-mul-mod-self-right, mod-eq-of-lt}
+use native.Mathlib.Nat.{add-zero, add-assoc, mul-comm, mod-mod, mod-zero, zero-mod, mul-mod-left, mul-mod-right}
+use native.Mathlib.Nat.{add-mod, mod-add-div', add-mul-mod-self-right, mod-eq-of-lt}
 use native.Mathlib.Omega.{arith}
 use lib.Dec.{T, ltb}
 
@@ -23,7 +24,8 @@ pub m-trans : {m a b c : ℕ} → Mod m a b → Mod m b c → Mod m a c
 m-trans h k = record { same = h .same ∙ k .same }
 
 pub m-add : {m a b c d : ℕ} → Mod m a b → Mod m c d → Mod m (a + c) (b + d)
-m-add {m} {a} {b} {c} {d} h k = record { same = add-mod a c m ∙ ap₂ (λ (x y : ℕ). (x + y) % m) (h .same) (k .same) ∙ sym (add-mod b d m) }
+m-add {m} {a} {b} {c} {d} h k =
+    record { same = add-mod a c m ∙ ap₂ (λ (x y : ℕ). (x + y) % m) (h .same) (k .same) ∙ sym (add-mod b d m) }
 
 -- a number and its remainder
 pub m-mod : (m a : ℕ) → Mod m (a % m) a
@@ -41,7 +43,10 @@ mul-mod-lr : (m : ℕ) {a b : ℕ} (c : ℕ) → Mod m a b → (a * c) % m ≡ (
 mul-mod-lr m {a} {b} c h = sym (mul-mod-l m a c) ∙ ap (λ (x : ℕ). (x * c) % m) (h .same) ∙ mul-mod-l m b c
 
 pub m-mul : {m a b c d : ℕ} → Mod m a b → Mod m c d → Mod m (a * c) (b * d)
-m-mul {m} {a} {b} {c} {d} h k = record { same = mul-mod-lr m c h ∙ ap (λ (x : ℕ). x % m) (mul-comm b c) ∙ mul-mod-lr m b k ∙ ap (λ (x : ℕ). x % m) (mul-comm d b) }
+m-mul {m} {a} {b} {c} {d} h k = record {
+  same = mul-mod-lr m c h ∙ ap (λ (x : ℕ). x % m) (mul-comm b c)
+      ∙ mul-mod-lr m b k ∙ ap (λ (x : ℕ). x % m) (mul-comm d b);
+}
 
 -- what was added to both sides is taken away again
 pub m-cancel : {m a b : ℕ} (c : ℕ) → Mod m (a + c) (b + c) → Mod m a b
@@ -81,7 +86,8 @@ m-by {m} {a} {b} {l} {r} h k e = m-cancel (k * l) (m-trans (m-add (m-refl {a = a
 -- (m - 1) * b is -b, for a modulus that is not 0 (at a numeral, `refl` says that)
 pub neg-self : (m b : ℕ) → ltb 0 m ≡ true → Mod m ((m - 1) * b + b) 0
 neg-self zero b h = absurd (subst T (sym h) tt)
-neg-self (suc m) b h = record { same = ap (λ (x : ℕ). x % suc m) (group m b) ∙ mul-mod-left b (suc m) ∙ sym (zero-mod (suc m)) }
+neg-self (suc m) b h =
+    record { same = ap (λ (x : ℕ). x % suc m) (group m b) ∙ mul-mod-left b (suc m) ∙ sym (zero-mod (suc m)) }
   where
     less : (m : ℕ) → suc m - 1 ≡ m
     less m = omega arith

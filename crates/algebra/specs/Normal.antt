@@ -1,15 +1,17 @@
--- Expressions of +, *, unary minus and numerals, and their normal form: a sum of terms, each a coefficient and the sorted list of its variables.
--- A coefficient is a difference p - n of two naturals. At k = 0 it is cut to its shortest form, so that the normal form holds modulo every number;
--- at any other k to its remainder modulo k. Assumes nothing.
+-- Expressions of +, *, unary minus and numerals, and their normal form: a sum of terms, each a coefficient and the
+-- sorted list of its variables. A coefficient is a difference p - n of two naturals. At k = 0 it is cut to its shortest
+-- form, so that the normal form holds modulo every number; at any other k to its remainder modulo k. Assumes nothing.
 use mathlib.Core.Path.{_≡_, refl, sym, ap, ap₂, _∙_, subst}
 use mathlib.Core.Bool.{Bool, true, false}
 use mathlib.Core.List.{List, [], _∷_}
 use Prim.Native.Nat.{ℕ, zero, suc, _+_, _*_, _-_, _%_, min, compare, Ordering, Ordering·lt, Ordering·eq, Ordering·gt}
-use native.Mathlib.Nat.{zero-add, add-assoc, add-comm, add-left-comm, mul-zero, zero-mul, one-mul, mul-assoc, mul-left-comm, add-mul}
+use native.Mathlib.Nat.{zero-add, add-assoc, add-comm, add-left-comm, mul-zero, zero-mul, one-mul, mul-assoc}
+use native.Mathlib.Nat.{mul-left-comm, add-mul}
 use native.Mathlib.Omega.{arith}
 use lib.Dec.{T, eqb, leb, isEq, eqb→eq}
 use lib.ListN.{getD}
-use Rattle.algebra.specs.Mod.{Mod, m-refl, m-eq, m-sym, m-trans, m-add, m-mul, m-cancel, neg-self, neg-twice, Under, under-mul}
+use Rattle.algebra.specs.Mod.{Mod, m-refl, m-eq, m-sym, m-trans, m-add, m-mul, m-cancel, neg-self, neg-twice}
+use Rattle.algebra.specs.Mod.{Under, under-mul}
 
 infixl 65 _⊕_
 infixl 70 _⊗_
@@ -36,7 +38,8 @@ abbrev pub cmp : List ℕ → List ℕ → Ordering
 cmp [] [] = Ordering·eq
 cmp [] (j ∷ l) = Ordering·lt
 cmp (i ∷ k) [] = Ordering·gt
-cmp (i ∷ k) (j ∷ l) = elim (compare i j) [ Ordering·lt ↦ Ordering·lt | Ordering·eq ↦ cmp k l | Ordering·gt ↦ Ordering·gt ]
+cmp (i ∷ k) (j ∷ l) =
+    elim (compare i j) [ Ordering·lt ↦ Ordering·lt | Ordering·eq ↦ cmp k l | Ordering·gt ↦ Ordering·gt ]
 
 -- the two parts of a coefficient, cut
 abbrev pub plus : ℕ → ℕ → ℕ → ℕ
@@ -52,7 +55,11 @@ put k p n l q = elim (eqb (plus k p n) (minus k p n)) [ true ↦ q | false ↦ t
 -- a term with a cut coefficient, at its place in q
 abbrev pub ins : ℕ → ℕ → ℕ → List ℕ → Poly → Poly
 ins k p n l nil = tm p n l nil
-ins k p n l (tm p′ n′ l′ q) = elim (cmp l l′) [ Ordering·lt ↦ tm p n l (tm p′ n′ l′ q) | Ordering·eq ↦ put k (p + p′) (n + n′) l′ q | Ordering·gt ↦ tm p′ n′ l′ (ins k p n l q) ]
+ins k p n l (tm p′ n′ l′ q) = elim (cmp l l′) [
+  | Ordering·lt ↦ tm p n l (tm p′ n′ l′ q)
+  | Ordering·eq ↦ put k (p + p′) (n + n′) l′ q
+  | Ordering·gt ↦ tm p′ n′ l′ (ins k p n l q)
+]
 
 abbrev pub add1 : ℕ → ℕ → ℕ → List ℕ → Poly → Poly
 add1 k p n l q = elim (eqb (plus k p n) (minus k p n)) [ true ↦ q | false ↦ ins k (plus k p n) (minus k p n) l q ]
@@ -101,7 +108,9 @@ cmp-eq : (k l : List ℕ) → T (isEq (cmp k l)) → k ≡ l
 cmp-eq [] [] t = refl
 cmp-eq (i ∷ k) (j ∷ l) t = go (compare i j) refl (cmp-eq k l) t
   where
-    go : (o : Ordering) → compare i j ≡ o → (T (isEq (cmp k l)) → k ≡ l) → T (isEq (elim o [ Ordering·lt ↦ Ordering·lt | Ordering·eq ↦ cmp k l | Ordering·gt ↦ Ordering·gt ])) → _≡_ {A = List ℕ} (i ∷ k) (j ∷ l)
+    go : (o : Ordering) → compare i j ≡ o → (T (isEq (cmp k l)) → k ≡ l)
+        → T (isEq (elim o [ Ordering·lt ↦ Ordering·lt | Ordering·eq ↦ cmp k l | Ordering·gt ↦ Ordering·gt ]))
+        → _≡_ {A = List ℕ} (i ∷ k) (j ∷ l)
     go Ordering·eq e h u = ap₂ (λ (x : ℕ) (y : List ℕ). x ∷ y) (ord-eq i j e) (h u)
 
 mono-mins : (ρ : List ℕ) (i : ℕ) (l : List ℕ) → mono ρ (mins i l) ≡ getD ρ i 0 * mono ρ l
@@ -109,14 +118,17 @@ unfolding mono
 mono-mins ρ i [] = refl
 mono-mins ρ i (j ∷ l) = go (leb i j) (mono-mins ρ i l)
   where
-    go : (b : Bool) → mono ρ (mins i l) ≡ getD ρ i 0 * mono ρ l → mono ρ (elim b [ true ↦ i ∷ j ∷ l | false ↦ j ∷ mins i l ]) ≡ getD ρ i 0 * (getD ρ j 0 * mono ρ l)
+    go : (b : Bool) → mono ρ (mins i l) ≡ getD ρ i 0 * mono ρ l
+        → mono ρ (elim b [ true ↦ i ∷ j ∷ l | false ↦ j ∷ mins i l ]) ≡ getD ρ i 0 * (getD ρ j 0 * mono ρ l)
     go true h = refl
     go false h = ap (λ (x : ℕ). getD ρ j 0 * x) h ∙ mul-left-comm (getD ρ j 0) (getD ρ i 0) (mono ρ l)
 
 mono-mmul : (ρ k l : List ℕ) → mono ρ (mmul k l) ≡ mono ρ k * mono ρ l
 unfolding mono
 mono-mmul ρ [] l = sym (one-mul (mono ρ l))
-mono-mmul ρ (i ∷ k) l = mono-mins ρ i (mmul k l) ∙ ap (λ (x : ℕ). getD ρ i 0 * x) (mono-mmul ρ k l) ∙ sym (mul-assoc (getD ρ i 0) (mono ρ k) (mono ρ l))
+mono-mmul ρ (i ∷ k) l =
+    mono-mins ρ i (mmul k l) ∙ ap (λ (x : ℕ). getD ρ i 0 * x) (mono-mmul ρ k l)
+    ∙ sym (mul-assoc (getD ρ i 0) (mono ρ k) (mono ρ l))
 
 module _ (k m : ℕ) (u : Under k m) (ρ : List ℕ) where
   cv : ℕ → ℕ → ℕ
@@ -134,7 +146,8 @@ module _ (k m : ℕ) (u : Under k m) (ρ : List ℕ) where
   unfolding cv
   cv-short p n = m-sym
       (m-trans (m-eq (split (m - 1) p n))
-      (m-trans (m-add (neg-self m (min p n) (u .some)) (m-refl {a = p - n + (m - 1) * (n - p)})) (m-eq (zero-add (p - n + (m - 1) * (n - p))))))
+      (m-trans (m-add (neg-self m (min p n) (u .some)) (m-refl {a = p - n + (m - 1) * (n - p)}))
+      (m-eq (zero-add (p - n + (m - 1) * (n - p))))))
     where
       left : (p n : ℕ) → p ≡ min p n + (p - n)
       left p n = omega arith
@@ -156,7 +169,8 @@ module _ (k m : ℕ) (u : Under k m) (ρ : List ℕ) where
       (m-trans (u .cut (p + (k - 1) * n))
       (m-cancel n
       (m-trans (m-eq (add-assoc p ((k - 1) * n) n))
-      (m-trans (m-add (m-refl {a = p}) (m-trans (m-eq (whole k n (above k some))) (m-trans (under-mul u n) (m-sym (neg-self m n (u .some))))))
+      (m-trans (m-add (m-refl {a = p})
+      (m-trans (m-eq (whole k n (above k some))) (m-trans (under-mul u n) (m-sym (neg-self m n (u .some))))))
       (m-eq (sym (add-assoc p ((m - 1) * n) n)))))))
     where
       plain : (j x : ℕ) → x + j * 0 ≡ x
@@ -175,7 +189,9 @@ module _ (k m : ℕ) (u : Under k m) (ρ : List ℕ) where
   cut-ok : (p n : ℕ) → Mod m (cv (plus k p n) (minus k p n)) (cv p n)
   cut-ok p n = go (eqb k 0) (λ h. h)
     where
-      go : (b : Bool) → (T (eqb k 0) → T b) → Mod m (cv (elim b [ true ↦ p - n | false ↦ (p + (k - 1) * n) % k ]) (elim b [ true ↦ n - p | false ↦ 0 ])) (cv p n)
+      go : (b : Bool) → (T (eqb k 0) → T b)
+          → Mod m (cv (elim b [ true ↦ p - n | false ↦ (p + (k - 1) * n) % k ]) (elim b [ true ↦ n - p | false ↦ 0 ]))
+          (cv p n)
       go true h = cv-short p n
       go false h = cv-rest p n h
 
@@ -189,7 +205,8 @@ module _ (k m : ℕ) (u : Under k m) (ρ : List ℕ) where
   cv-mul : (p n p′ n′ : ℕ) → Mod m (cv (p * p′ + n * n′) (p * n′ + n * p′)) (cv p n * cv p′ n′)
   unfolding cv
   cv-mul p n p′ n′ =
-      m-trans (m-add (m-add (m-refl {a = p * p′}) (m-sym (neg-twice m (u .some) (n * n′)))) (m-refl {a = (m - 1) * (p * n′ + n * p′)}))
+      m-trans (m-add (m-add (m-refl {a = p * p′}) (m-sym (neg-twice m (u .some) (n * n′))))
+      (m-refl {a = (m - 1) * (p * n′ + n * p′)}))
       (m-eq (dist (m - 1) p n p′ n′))
     where
       dist : (k p n p′ n′ : ℕ) → p * p′ + k * (k * (n * n′)) + k * (p * n′ + n * p′) ≡ (p + k * n) * (p′ + k * n′)
@@ -205,7 +222,8 @@ module _ (k m : ℕ) (u : Under k m) (ρ : List ℕ) where
   -- a term whose coefficient's parts are equal adds nothing
   nothing : (p n x y : ℕ) → p ≡ n → Mod m (cv p n * x + y) y
   nothing p n x y h = rw h
-      (m-trans (m-add (m-mul (cv-same n) (m-refl {a = x})) (m-refl {a = y})) (m-eq (ap (λ (z : ℕ). z + y) (zero-mul x) ∙ zero-add y)))
+      (m-trans (m-add (m-mul (cv-same n) (m-refl {a = x})) (m-refl {a = y}))
+      (m-eq (ap (λ (z : ℕ). z + y) (zero-mul x) ∙ zero-add y)))
 
   -- a term whose coefficient is cut, and that is left out where it is 0
   cut-term : (p n : ℕ) (l : List ℕ) (q r : Poly) → Mod m (poly r) (cv (plus k p n) (minus k p n) * mono ρ l + poly q)
@@ -213,7 +231,8 @@ module _ (k m : ℕ) (u : Under k m) (ρ : List ℕ) where
   cut-term p n l q r whole = m-trans (go (eqb (plus k p n) (minus k p n)) (λ t. eqb→eq (plus k p n) (minus k p n) t))
       (m-add (m-mul (cut-ok p n) (m-refl {a = mono ρ l})) (m-refl {a = poly q}))
     where
-      go : (b : Bool) → (T b → plus k p n ≡ minus k p n) → Mod m (poly (elim b [ true ↦ q | false ↦ r ])) (cv (plus k p n) (minus k p n) * mono ρ l + poly q)
+      go : (b : Bool) → (T b → plus k p n ≡ minus k p n)
+          → Mod m (poly (elim b [ true ↦ q | false ↦ r ])) (cv (plus k p n) (minus k p n) * mono ρ l + poly q)
       go true h = m-sym (nothing (plus k p n) (minus k p n) (mono ρ l) (poly q) (h tt))
       go false h = whole
 
@@ -227,10 +246,16 @@ module _ (k m : ℕ) (u : Under k m) (ρ : List ℕ) where
   ins-ok p n l (tm p′ n′ l′ q) = go (cmp l l′) (cmp-eq l l′) (ins-ok p n l q)
     where
       go : (o : Ordering) → (T (isEq o) → l ≡ l′) → Mod m (poly (ins k p n l q)) (cv p n * mono ρ l + poly q)
-          → Mod m (poly (elim o [ Ordering·lt ↦ tm p n l (tm p′ n′ l′ q) | Ordering·eq ↦ put k (p + p′) (n + n′) l′ q | Ordering·gt ↦ tm p′ n′ l′ (ins k p n l q) ])) (cv p n * mono ρ l + (cv p′ n′ * mono ρ l′ + poly q))
+          → Mod m (poly (elim o [
+            | Ordering·lt ↦ tm p n l (tm p′ n′ l′ q)
+            | Ordering·eq ↦ put k (p + p′) (n + n′) l′ q
+            | Ordering·gt ↦ tm p′ n′ l′ (ins k p n l q)
+          ])) (cv p n * mono ρ l + (cv p′ n′ * mono ρ l′ + poly q))
       go Ordering·lt e h = m-refl
       go Ordering·eq e h = m-trans (put-ok (p + p′) (n + n′) l′ q) (m-eq (rw (e tt, cv-add, add-mul, add-assoc)))
-      go Ordering·gt e h = m-trans (m-add (m-refl {a = cv p′ n′ * mono ρ l′}) h) (m-eq (add-left-comm (cv p′ n′ * mono ρ l′) (cv p n * mono ρ l) (poly q)))
+      go Ordering·gt e h =
+          m-trans (m-add (m-refl {a = cv p′ n′ * mono ρ l′}) h)
+          (m-eq (add-left-comm (cv p′ n′ * mono ρ l′) (cv p n * mono ρ l) (poly q)))
 
   add1-ok : (p n : ℕ) (l : List ℕ) (q : Poly) → Mod m (poly (add1 k p n l q)) (cv p n * mono ρ l + poly q)
   add1-ok p n l q = cut-term p n l q (ins k (plus k p n) (minus k p n) l q) (ins-ok (plus k p n) (minus k p n) l q)
@@ -240,7 +265,8 @@ module _ (k m : ℕ) (u : Under k m) (ρ : List ℕ) where
   padd-ok nil q = m-eq (sym (zero-add (poly q)))
   padd-ok (tm p n l r) q =
       m-trans (ins-ok p n l (padd k r q))
-      (m-trans (m-add (m-refl {a = cv p n * mono ρ l}) (padd-ok r q)) (m-eq (sym (add-assoc (cv p n * mono ρ l) (poly r) (poly q)))))
+      (m-trans (m-add (m-refl {a = cv p n * mono ρ l}) (padd-ok r q))
+      (m-eq (sym (add-assoc (cv p n * mono ρ l) (poly r) (poly q)))))
 
   tmul-ok : (p n : ℕ) (l : List ℕ) (q : Poly) → Mod m (poly (tmul k p n l q)) (cv p n * mono ρ l * poly q)
   unfolding poly
@@ -265,7 +291,8 @@ module _ (k m : ℕ) (u : Under k m) (ρ : List ℕ) where
   pneg-ok nil = m-eq (sym (mul-zero (m - 1)))
   pneg-ok (tm p n l r) =
       m-trans (put-ok n p l (pneg k r))
-      (m-trans (m-add (m-mul (cv-neg p n) (m-refl {a = mono ρ l})) (pneg-ok r)) (m-eq (dist (m - 1) (cv p n) (mono ρ l) (poly r))))
+      (m-trans (m-add (m-mul (cv-neg p n) (m-refl {a = mono ρ l})) (pneg-ok r))
+      (m-eq (dist (m - 1) (cv p n) (mono ρ l) (poly r))))
     where
       dist : (k c x y : ℕ) → k * c * x + k * y ≡ k * (c * x + y)
       dist k c x y = omega arith
@@ -280,7 +307,9 @@ module _ (k m : ℕ) (u : Under k m) (ρ : List ℕ) where
     where
       flat : (k x : ℕ) → (1 + k * 0) * (x * 1) + 0 ≡ x
       flat k x = omega arith
-  nf-ok (e ⊕ f) = m-trans (padd-ok (nf k f) (nf k e)) (m-trans (m-add (nf-ok f) (nf-ok e)) (m-eq (add-comm (val m ρ f) (val m ρ e))))
+  nf-ok (e ⊕ f) =
+      m-trans (padd-ok (nf k f) (nf k e))
+      (m-trans (m-add (nf-ok f) (nf-ok e)) (m-eq (add-comm (val m ρ f) (val m ρ e))))
   nf-ok (e ⊗ f) = m-trans (pmul-ok (nf k e) (nf k f)) (m-mul (nf-ok e) (nf-ok f))
   nf-ok (⊖ e) = m-trans (pneg-ok (nf k e)) (m-mul (m-refl {a = m - 1}) (nf-ok e))
 

@@ -1,6 +1,6 @@
--- THE RING TACTIC. `ring (x ∷ y ∷ []) (search reify depth 20 fits 5000) refl` proves `Mod k a b`, for a numeral k, where a and b are sums,
--- products and differences of x, y and numerals; k = 0 means as they stand. A hypothesis `Mod k v w` in scope defines v.
--- Assumes nothing.
+-- THE RING TACTIC. `ring (x ∷ y ∷ []) (search reify depth 20 fits 5000) refl` proves `Mod k a b`, for a numeral k,
+-- where a and b are sums, products and differences of x, y and numerals; k = 0 means as they stand. A hypothesis
+-- `Mod k v w` in scope defines v. Assumes nothing.
 use mathlib.Core.Path.{_≡_, refl, _∙_}
 use mathlib.Core.Bool.{true}
 use mathlib.Core.List.{List, _∷_}
@@ -9,7 +9,8 @@ use native.Mathlib.Nat.{sub-add-cancel}
 use native.Mathlib.Omega.{arith}
 use lib.Dec.{eqb, ltb, leb·suc-suc, leb·zero}
 use lib.ListN.{getD}
-use Rattle.algebra.specs.Mod.{Mod, m-refl, m-eq, m-sym, m-trans, m-add, m-mul, m-sub, m-words, m-exact, Under, under-self, under-zero, under-mod}
+use Rattle.algebra.specs.Mod.{Mod, m-refl, m-eq, m-sym, m-trans, m-add, m-mul, m-sub, m-words, m-exact, Under}
+use Rattle.algebra.specs.Mod.{under-self, under-zero, under-mod}
 use Rattle.algebra.specs.Normal.{Ex, con, var, _⊕_, _⊗_, ⊖, val, nf, solve}
 
 -- 1 + a is not 0, as `refl` says of a numeral
@@ -59,7 +60,8 @@ abbrev pub r-minus : {k a b : ℕ} {ρ : List ℕ} → b ≤ a → Read k ρ a �
 r-minus {k} {a} {b} l A B = record {
   ex = A .ex ⊕ ⊖ (B .ex);
   ok = λ m u.
-      m-sym (m-trans (m-sub b (u .some) (m-eq (sub-add-cancel l))) (m-add (m-sym (A .ok m u)) (m-mul (m-refl {a = m - 1}) (m-sym (B .ok m u)))));
+      m-sym (m-trans (m-sub b (u .some) (m-eq (sub-add-cancel l)))
+      (m-add (m-sym (A .ok m u)) (m-mul (m-refl {a = m - 1}) (m-sym (B .ok m u)))));
 }
 
 -- a number that a hypothesis gives, read by what it gives
@@ -83,7 +85,8 @@ pub ring : {k a b : ℕ} (ρ : List ℕ) (E : Both k ρ a b) → nf k (E .l .ex)
 ring {k = zero} {a} {b} ρ E h = m-eq (every a b (same ρ E h))
 ring {k = suc k} ρ E h = same ρ E h (suc k) (under-self (suc k) (some-suc k))
 
--- the same for an equation of ℕ, and for an equation of remainders; the `_` are read off the goal: `ring= _ _ ρ (search reify) refl`
+-- the same for an equation of ℕ, and for an equation of remainders; the `_` are read off the goal:
+-- `ring= _ _ ρ (search reify) refl`
 pub ring= : (a b : ℕ) (ρ : List ℕ) (E : Both 0 ρ a b) → nf 0 (E .l .ex) ≡ nf 0 (E .r .ex) → a ≡ b
 ring= a b ρ E h = m-exact (ring ρ E h)
 

@@ -36,8 +36,10 @@ sum-ext f g zero h = refl
 sum-ext f g (suc n) h = ap₂ add (sum-ext f g n (λ i l. h i (omega arith))) (h n (omega arith))
 
 -- a sum of words is the residue of the sum of the integers that they are residues of
-pub sum≈ : (f : ℕ → ℕ) (g : ℕ → ℤ) (n : ℕ) → ((i : ℕ) → f i ≈ residue (2 ^ 32) (g i)) → sum f n ≈ residue (2 ^ 32) (sumℤ g n)
+pub sum≈ : (f : ℕ → ℕ) (g : ℕ → ℤ) (n : ℕ) → ((i : ℕ) → f i ≈ residue (2 ^ 32) (g i))
+    → sum f n ≈ residue (2 ^ 32) (sumℤ g n)
 unfolding sum sumℤ
 sum≈ f g zero h = m-eq (residue-pos (2 ^ 32) 0)
 sum≈ f g (suc n) h =
-    m-trans (add≈ (sum f n) (f n)) (m-trans (m-add (sum≈ f g n h) (h n)) (m-sym (residue-add (2 ^ 32) refl (sumℤ g n) (g n))))
+    m-trans (add≈ (sum f n) (f n))
+    (m-trans (m-add (sum≈ f g n h) (h n)) (m-sym (residue-add (2 ^ 32) refl (sumℤ g n) (g n))))

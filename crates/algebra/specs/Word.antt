@@ -1,5 +1,5 @@
--- Words: numbers below 2^32, whose sums, differences and products are taken modulo 2^32 (01, "Measures"); and how the ring tactic reads them.
--- `ring (x ∷ y ∷ []) (search words depth 40 fits 5000) refl` proves `a ≈ b`. Assumes nothing.
+-- Words: numbers below 2^32, whose sums, differences and products are taken modulo 2^32 (01, "Measures"); and how the
+-- ring tactic reads them. `ring (x ∷ y ∷ []) (search words depth 40 fits 5000) refl` proves `a ≈ b`. Assumes nothing.
 use mathlib.Core.Path.{_≡_, refl, sym}
 use mathlib.Core.Bool.{Bool, true, false, cond}
 use mathlib.Core.List.{List}
@@ -7,7 +7,8 @@ use Prim.Native.Nat.{ℕ, _+_, _*_, _-_, _%_, _^_, _<_}
 use native.Mathlib.Omega.{arith}
 use lib.Dec.{ltb}
 use lib.IntN.{ℤ, pos, negℤ, _-ℤ_}
-use Rattle.algebra.specs.Mod.{Mod, m-refl, m-eq, m-of, m-sym, m-trans, m-add, m-mul, m-mod, m-sub, m-words, m-cancel, neg-self, under-mod}
+use Rattle.algebra.specs.Mod.{Mod, m-refl, m-eq, m-of, m-sym, m-trans, m-add, m-mul, m-mod, m-sub, m-words}
+use Rattle.algebra.specs.Mod.{m-cancel, neg-self, under-mod}
 use Rattle.algebra.specs.Normal.{_⊕_, _⊗_, con}
 use Rattle.algebra.specs.Ring.{Read, reify}
 use Rattle.algebra.specs.Integer.{residue, residue-pos, residue-add, residues}
@@ -43,7 +44,8 @@ unfolding mul
 mul≈ a b = m-mod (2 ^ 32) (a * b)
 
 rest≈ : (b : ℕ) → 2 ^ 32 - b % 2 ^ 32 ≈ (2 ^ 32 - 1) * b
-rest≈ b = m-cancel b (m-trans (m-trans (m-add m-refl (m-sym (m-mod (2 ^ 32) b))) whole) (m-sym (neg-self (2 ^ 32) b refl)))
+rest≈ b =
+    m-cancel b (m-trans (m-trans (m-add m-refl (m-sym (m-mod (2 ^ 32) b))) whole) (m-sym (neg-self (2 ^ 32) b refl)))
   where
     whole : 2 ^ 32 - b % 2 ^ 32 + b % 2 ^ 32 ≈ 0
     whole = m-of (omega arith)
@@ -85,15 +87,18 @@ sub-by {r} {a} b h l = same-word (m-trans (m-sub b refl (m-of h)) (m-sym (sub≈
 -- ---- reading words
 
 abbrev pub r-wadd : {a b : ℕ} {ρ : List ℕ} → Read (2 ^ 32) ρ a → Read (2 ^ 32) ρ b → Read (2 ^ 32) ρ (add a b)
-r-wadd {a} {b} A B = record { ex = A .ex ⊕ B .ex; ok = λ m u. m-trans (m-add (A .ok m u) (B .ok m u)) (m-sym (under-mod u (add≈ a b))) }
+r-wadd {a} {b} A B =
+    record { ex = A .ex ⊕ B .ex; ok = λ m u. m-trans (m-add (A .ok m u) (B .ok m u)) (m-sym (under-mod u (add≈ a b))) }
 
 abbrev pub r-wmul : {a b : ℕ} {ρ : List ℕ} → Read (2 ^ 32) ρ a → Read (2 ^ 32) ρ b → Read (2 ^ 32) ρ (mul a b)
-r-wmul {a} {b} A B = record { ex = A .ex ⊗ B .ex; ok = λ m u. m-trans (m-mul (A .ok m u) (B .ok m u)) (m-sym (under-mod u (mul≈ a b))) }
+r-wmul {a} {b} A B =
+    record { ex = A .ex ⊗ B .ex; ok = λ m u. m-trans (m-mul (A .ok m u) (B .ok m u)) (m-sym (under-mod u (mul≈ a b))) }
 
 abbrev pub r-wsub : {a b : ℕ} {ρ : List ℕ} → Read (2 ^ 32) ρ a → Read (2 ^ 32) ρ b → Read (2 ^ 32) ρ (sub a b)
 r-wsub {a} {b} A B = record {
   ex = A .ex ⊕ con (2 ^ 32 - 1) ⊗ B .ex;
-  ok = λ m u. m-trans (m-add (A .ok m u) (m-mul (m-refl {a = 2 ^ 32 - 1}) (B .ok m u))) (m-sym (under-mod u (sub≈ a b)));
+  ok = λ m u.
+      m-trans (m-add (A .ok m u) (m-mul (m-refl {a = 2 ^ 32 - 1}) (B .ok m u))) (m-sym (under-mod u (sub≈ a b)));
 }
 
 abbrev pub r-wneg : {a : ℕ} {ρ : List ℕ} → Read (2 ^ 32) ρ a → Read (2 ^ 32) ρ (neg a)

@@ -21,6 +21,8 @@ blockBytes key counter nonce = bytesOf (block (wordsAt 8 key) counter (wordsAt 3
 
 -- ---- how long it is
 
-pub length-block : (key : List ℕ) (counter : ℕ) (nonce : List ℕ) → length key ≡ 8 → length nonce ≡ 3 → length (block key counter nonce) ≡ 16
+pub length-block : (key : List ℕ) (counter : ℕ) (nonce : List ℕ) → length key ≡ 8 → length nonce ≡ 3
+    → length (block key counter nonce) ≡ 16
 unfolding block start
-length-block key counter nonce k n = length-blockFrom (start key counter nonce) ∙ omega (arith, length-append key (counter ∷ nonce))
+length-block key counter nonce k n =
+    length-blockFrom (start key counter nonce) ∙ omega (arith, length-append key (counter ∷ nonce))

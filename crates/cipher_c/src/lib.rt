@@ -11,7 +11,8 @@ ghost use Rattle.aead.specs.Aead.{sealed, sealedText, opens, openedText};
 // The key stream's words from block 0 on.
 #[no_mangle]
 pub extern "C" fn cipher_stream(key: &[u8; 32], nonce: &[u8; 12], out: &mut [u32])
-    ensures { λ _. ⌜ now (out .exit) ≡ stream (wordsAt 8 (now (key .entry))) (wordsAt 3 (now (nonce .entry))) (length (now (out .entry))) ⌝ }
+    ensures { λ _. ⌜ now (out .exit)
+        ≡ stream (wordsAt 8 (now (key .entry))) (wordsAt 3 (now (nonce .entry))) (length (now (out .entry))) ⌝ }
 {
     keystream::stream(chacha20::key_words(key), chacha20::nonce_words(nonce), out);
 }
@@ -27,7 +28,9 @@ pub extern "C" fn cipher_seal(
     tag: &mut [u8; 16],
 ) -> bool
     ensures { λ r. ⌜ r ≡ sealed (now (key .entry)) (now (nonce .entry)) (now (aad .entry)) (now (text .entry)) .ok ⌝ }
-    ensures { λ r. ⌜ now (tag .exit) ≡ cond r (sealed (now (key .entry)) (now (nonce .entry)) (now (aad .entry)) (now (text .entry)) .tag) (now (tag .entry)) ⌝ }
+    ensures { λ r. ⌜ now (tag .exit)
+        ≡ cond r (sealed (now (key .entry)) (now (nonce .entry)) (now (aad .entry)) (now (text .entry)) .tag)
+        (now (tag .entry)) ⌝ }
     ensures { λ _. ⌜ now (text .exit) ≡ sealedText (now (key .entry)) (now (nonce .entry)) (now (text .entry)) ⌝ }
 {
     let s = aead::seal(key, nonce, aad, text);
@@ -47,8 +50,10 @@ pub extern "C" fn cipher_open(
     text: &mut [u8],
     tag: &[u8; 16],
 ) -> bool
-    ensures { λ r. ⌜ r ≡ opens (now (key .entry)) (now (nonce .entry)) (now (aad .entry)) (now (text .entry)) (now (tag .entry)) ⌝ }
-    ensures { λ _. ⌜ now (text .exit) ≡ openedText (now (key .entry)) (now (nonce .entry)) (now (aad .entry)) (now (text .entry)) (now (tag .entry)) ⌝ }
+    ensures { λ r. ⌜ r ≡ opens (now (key .entry)) (now (nonce .entry))
+        (now (aad .entry)) (now (text .entry)) (now (tag .entry)) ⌝ }
+    ensures { λ _. ⌜ now (text .exit) ≡ openedText (now (key .entry))
+        (now (nonce .entry)) (now (aad .entry)) (now (text .entry)) (now (tag .entry)) ⌝ }
 {
     aead::open(key, nonce, aad, text, tag)
 }

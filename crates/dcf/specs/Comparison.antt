@@ -1,5 +1,6 @@
--- Claim comparison: the two values of the keys for a point r at u sum modulo 2^32 to [u < r], for any two seeds, any number of levels, any opening of a node that
--- may depend on the level, and any xor of seeds that cancels between two children. Assumes nothing else.
+-- Claim comparison: the two values of the keys for a point r at u sum modulo 2^32 to [u < r], for any two seeds, any
+-- number of levels, any opening of a node that may depend on the level, and any xor of seeds that cancels between two
+-- children. Assumes nothing else.
 use mathlib.Core.Path.{_≡_, refl, sym, _∙_, ap₂}
 use mathlib.Core.Logic.{_≢_}
 use mathlib.Core.List.{[], _∷_}
@@ -14,7 +15,9 @@ use Rattle.algebra.specs.Mod.{m-eq}
 use Rattle.algebra.specs.Ring.{ring}
 use Rattle.algebra.specs.Word.{add, sub, neg, _≈_, words, add-lt, same-word}
 use Rattle.algebra.specs.Bit.{only, less, bit-le, less-lt, less-ge, less-le, only-odd}
-use Rattle.dcf.specs.Dcf.{Correction, Making, Walk, Opened, bySign, bits, sideFlag, corrected, nextSeed, nextFlag, correction, kept, taken, levelCorrection, nextMaking, making, keyCorrection, lastWord, finalWord, nextWalk, walk, total, value}
+use Rattle.dcf.specs.Dcf.{Correction, Making, Walk, Opened, bySign, bits, sideFlag, corrected, nextSeed, nextFlag}
+use Rattle.dcf.specs.Dcf.{correction, kept, taken, levelCorrection, nextMaking, making, keyCorrection, lastWord}
+use Rattle.dcf.specs.Dcf.{finalWord, nextWalk, walk, total, value}
 
 -- ---- the number that the first i bits make
 
@@ -82,7 +85,8 @@ abbrev lose-word : Bool → Bool → ℕ → ℕ → ℕ → ℕ
 lose-word t b v v0 v1 = add (bySign t (sub (sub v1 v0) v)) (only b (bySign t 1))
 
 lose-sum : (t b : Bool) (a0 a1 v v0 v1 : ℕ) → a0 ≈ a1 + v
-    → add (add a0 v0) (only (not t) (lose-word t b v v0 v1)) ≈ add (add a1 v1) (only t (lose-word t b v v0 v1)) + only b 1
+    → add (add a0 v0) (only (not t) (lose-word t b v v0 v1))
+    ≈ add (add a1 v1) (only t (lose-word t b v v0 v1)) + only b 1
 unfolding only bySign
 lose-sum true true a0 a1 v v0 v1 e = ring (a1 ∷ v ∷ v0 ∷ v1 ∷ []) (search words depth 40 fits 5000) refl
 lose-sum true false a0 a1 v v0 v1 e = ring (a1 ∷ v ∷ v0 ∷ v1 ∷ []) (search words depth 40 fits 5000) refl
@@ -91,7 +95,8 @@ lose-sum false false a0 a1 v v0 v1 e = ring (a1 ∷ v ∷ v0 ∷ v1 ∷ []) (sea
 
 -- .. at the end, on the path
 last-sum : (t : Bool) (a0 a1 v v0 v1 : ℕ) → a0 ≈ a1 + v
-    → add (add a0 v0) (only (not t) (bySign t (sub (sub v1 v0) v))) ≈ add (add a1 v1) (only t (bySign t (sub (sub v1 v0) v))) + 0
+    → add (add a0 v0) (only (not t) (bySign t (sub (sub v1 v0) v)))
+    ≈ add (add a1 v1) (only t (bySign t (sub (sub v1 v0) v))) + 0
 unfolding only bySign
 last-sum true a0 a1 v v0 v1 e = ring (a1 ∷ v ∷ v0 ∷ v1 ∷ []) (search words depth 40 fits 5000) refl
 last-sum false a0 a1 v v0 v1 e = ring (a1 ∷ v ∷ v0 ∷ v1 ∷ []) (search words depth 40 fits 5000) refl
@@ -135,15 +140,18 @@ xor-true-true true = refl
 xor-true-true false = refl
 
 module _ {Seed : Type 0} (_⊕_ : Seed → Seed → Seed) (node : ℕ → Seed → Opened Seed) (first : Seed → ℕ)
-    (back0 : (i : ℕ) (a b : Seed) (d : Bool) → _⊕_ ((node i a d) .seed) (_⊕_ ((node i a d) .seed) ((node i b d) .seed)) ≡ (node i b d) .seed)
-    (back1 : (i : ℕ) (a b : Seed) (d : Bool) → _⊕_ ((node i b d) .seed) (_⊕_ ((node i a d) .seed) ((node i b d) .seed)) ≡ (node i a d) .seed) where
+    (back0 : (i : ℕ) (a b : Seed) (d : Bool)
+    → _⊕_ ((node i a d) .seed) (_⊕_ ((node i a d) .seed) ((node i b d) .seed)) ≡ (node i b d) .seed)
+    (back1 : (i : ℕ) (a b : Seed) (d : Bool)
+    → _⊕_ ((node i b d) .seed) (_⊕_ ((node i a d) .seed) ((node i b d) .seed)) ≡ (node i a d) .seed) where
   abbrev at : Seed → Seed → Bool → ℕ → Making Seed
   at s0 s1 t v = record { s0 = s0; s1 = s1; t0 = not t; t1 = t; v = v }
 
   abbrev by : Seed → Bool → ℕ → Walk Seed
   by s t a = record { seed = s; flag = t; total = a }
 
-  -- after i levels, where u's first i bits make p and the point's q: on the path both parties stand where key making does; off it they are one
+  -- after i levels, where u's first i bits make p and the point's q: on the path both parties stand where key making
+  -- does; off it they are one
   data Inv : Making Seed → Walk Seed → Walk Seed → ℕ → ℕ → Type 0 where
     on : (s0 s1 : Seed) (t : Bool) (a0 a1 v p : ℕ) → a0 ≈ a1 + v
         → Inv (at s0 s1 t v) (by s0 (not t) a0) (by s1 t a1) p p
@@ -155,25 +163,29 @@ module _ {Seed : Type 0} (_⊕_ : Seed → Seed → Seed) (node : ℕ → Seed �
       → Inv (record { s0 = s0; s1 = s1; t0 = t0; t1 = t1; v = v }) (by s0 t0 a0) (by s1 t1 a1) p p
   on-by s0 s1 t0 t1 a0 a1 v p h e = rw h (on s0 s1 t1 a0 a1 v p e)
 
-  off-by : (g : Making Seed) (s0 s1 : Seed) (t0 t1 : Bool) (a0 a1 p q : ℕ) → s0 ≡ s1 → t0 ≡ t1 → p ≢ q → a0 ≈ a1 + less p q
+  off-by : (g : Making Seed) (s0 s1 : Seed) (t0 t1 : Bool) (a0 a1 p q : ℕ)
+      → s0 ≡ s1 → t0 ≡ t1 → p ≢ q → a0 ≈ a1 + less p q
       → Inv g (by s0 t0 a0) (by s1 t1 a1) p q
   off-by g s0 s1 t0 t1 a0 a1 p q h k n e = rw (h, k) (off g s1 t1 a0 a1 p q n e)
 
   -- the corrections of the flags
   keep-flag : (i : ℕ) (b : Bool) (g : Making Seed)
-      → sideFlag (levelCorrection _⊕_ node first i b g) b ≡ xor (xor ((node i (g .s0) b) .flag) ((node i (g .s1) b) .flag)) true
+      → sideFlag (levelCorrection _⊕_ node first i b g) b
+      ≡ xor (xor ((node i (g .s0) b) .flag) ((node i (g .s1) b) .flag)) true
   unfolding levelCorrection correction sideFlag
   keep-flag i true g = refl
   keep-flag i false g = rw xor-false
 
   lose-flag : (i : ℕ) (b : Bool) (g : Making Seed)
-      → sideFlag (levelCorrection _⊕_ node first i b g) (not b) ≡ xor ((node i (g .s0) (not b)) .flag) ((node i (g .s1) (not b)) .flag)
+      → sideFlag (levelCorrection _⊕_ node first i b g) (not b)
+      ≡ xor ((node i (g .s0) (not b)) .flag) ((node i (g .s1) (not b)) .flag)
   unfolding levelCorrection correction sideFlag
   lose-flag i true g = xor-true-true _
   lose-flag i false g = xor-false _
 
   -- on the lost side the two seeds become one
-  lose-seed : (i : ℕ) (t : Bool) (c : Correction Seed) (s0 s1 : Seed) (d : Bool) → c .seed ≡ _⊕_ ((node i s0 d) .seed) ((node i s1 d) .seed)
+  lose-seed : (i : ℕ) (t : Bool) (c : Correction Seed) (s0 s1 : Seed) (d : Bool)
+      → c .seed ≡ _⊕_ ((node i s0 d) .seed) ((node i s1 d) .seed)
       → nextSeed _⊕_ c (not t) (node i s0 d) ≡ nextSeed _⊕_ c t (node i s1 d)
   unfolding nextSeed corrected
   lose-seed i true c s0 s1 d h = rw h (sym (back1 i s0 s1 d))
@@ -182,7 +194,8 @@ module _ {Seed : Type 0} (_⊕_ : Seed → Seed → Seed) (node : ℕ → Seed �
   -- a level of both walks, beside key making
   abbrev Next : ℕ → Bool → Bool → Making Seed → Walk Seed → Walk Seed → ℕ → ℕ → Type 0
   Next i b d g w0 w1 p q =
-      Inv (nextMaking _⊕_ node first i b g) (nextWalk _⊕_ node first i (levelCorrection _⊕_ node first i b g) d w0) (nextWalk _⊕_ node first i (levelCorrection _⊕_ node first i b g) d w1)
+      Inv (nextMaking _⊕_ node first i b g) (nextWalk _⊕_ node first i (levelCorrection _⊕_ node first i b g) d w0)
+      (nextWalk _⊕_ node first i (levelCorrection _⊕_ node first i b g) d w1)
       (2 * p + only d 1) (2 * q + only b 1)
 
   -- a level that keeps to the path, one that leaves it, and one off it
@@ -190,7 +203,8 @@ module _ {Seed : Type 0} (_⊕_ : Seed → Seed → Seed) (node : ℕ → Seed �
       → Next i b b (at s0 s1 t v) (by s0 (not t) a0) (by s1 t a1) p p
   unfolding nextWalk taken nextMaking kept nextFlag
   keep i b s0 s1 t a0 a1 v p e =
-      on-by _ _ _ _ _ _ _ _ (rw (keep-flag i b (at s0 s1 t v)) (flag-keep t ((node i s0 b) .flag) ((node i s1 b) .flag)))
+      on-by _ _ _ _ _ _ _ _
+      (rw (keep-flag i b (at s0 s1 t v)) (flag-keep t ((node i s0 b) .flag) ((node i s1 b) .flag)))
       (keep-sum t a0 a1 v _ _ _ e)
 
   lose : (i : ℕ) (b : Bool) (s0 s1 : Seed) (t : Bool) (a0 a1 v p : ℕ) → a0 ≈ a1 + v
@@ -217,14 +231,16 @@ module _ {Seed : Type 0} (_⊕_ : Seed → Seed → Seed) (node : ℕ → Seed �
 
   -- after the last level
   end : {g : Making Seed} {w0 w1 : Walk Seed} {p q : ℕ} → Inv g w0 w1 p q
-      → total _⊕_ node first (lastWord _⊕_ node first g) w0 ≈ total _⊕_ node first (lastWord _⊕_ node first g) w1 + less p q
+      → total _⊕_ node first (lastWord _⊕_ node first g) w0
+      ≈ total _⊕_ node first (lastWord _⊕_ node first g) w1 + less p q
   unfolding total lastWord
   end (on s0 s1 t a0 a1 v p e) = rw (less-ge p p (omega arith)) (last-sum t a0 a1 v _ _ e)
   end (off g s t a0 a1 p q n e) = off-sum a0 a1 _ _ _ e
 
   module _ (k0 k1 : Seed) (r u : ℕ → Bool) where
     along : (i : ℕ) → Inv (making _⊕_ node first k0 k1 r i)
-        (walk _⊕_ node first (keyCorrection _⊕_ node first k0 k1 r) u k0 false i) (walk _⊕_ node first (keyCorrection _⊕_ node first k0 k1 r) u k1 true i)
+        (walk _⊕_ node first (keyCorrection _⊕_ node first k0 k1 r) u k0 false i)
+        (walk _⊕_ node first (keyCorrection _⊕_ node first k0 k1 r) u k1 true i)
         (prefix u i) (prefix r i)
     unfolding making walk prefix keyCorrection
     along zero = on k0 k1 true 0 0 0 0 (m-eq refl)
@@ -232,18 +248,21 @@ module _ {Seed : Type 0} (_⊕_ : Seed → Seed → Seed) (node : ℕ → Seed �
 
     -- the two values are shares of [u < r]
     pub comparison : (n : ℕ)
-        → add (value _⊕_ node first false (keyCorrection _⊕_ node first k0 k1 r) (finalWord _⊕_ node first k0 k1 r n) k0 u n)
+        → add (value _⊕_ node first false (keyCorrection _⊕_ node first k0 k1 r)
+        (finalWord _⊕_ node first k0 k1 r n) k0 u n)
         (value _⊕_ node first true (keyCorrection _⊕_ node first k0 k1 r) (finalWord _⊕_ node first k0 k1 r n) k1 u n)
         ≡ less (prefix u n) (prefix r n)
     unfolding value finalWord bySign
-    comparison n = same-word (shares _ _ _ (end (along n))) (add-lt _ _) (omega (arith, less-le (prefix u n) (prefix r n)))
+    comparison n =
+        same-word (shares _ _ _ (end (along n))) (add-lt _ _) (omega (arith, less-le (prefix u n) (prefix r n)))
       where
         shares : (a b l : ℕ) → a ≈ b + l → add a (neg b) ≈ l
         shares a b l e = ring (b ∷ l ∷ []) (search words depth 40 fits 5000) refl
 
 -- a walk asks for the corrections of its own levels only
 module _ {Seed : Type 0} (_⊕_ : Seed → Seed → Seed) (node : ℕ → Seed → Opened Seed) (first : Seed → ℕ) where
-  pub walk-ext : (c e : ℕ → Correction Seed) (u : ℕ → Bool) (s : Seed) (t : Bool) (n : ℕ) → ((i : ℕ) → i < n → c i ≡ e i)
+  pub walk-ext : (c e : ℕ → Correction Seed) (u : ℕ → Bool) (s : Seed) (t : Bool) (n : ℕ)
+      → ((i : ℕ) → i < n → c i ≡ e i)
       → walk _⊕_ node first c u s t n ≡ walk _⊕_ node first e u s t n
   unfolding walk
   walk-ext c e u s t zero h = refl

@@ -1,6 +1,7 @@
--- The comparison function of Boyle and others, "Function Secret Sharing for Mixed-Mode and Fixed-Point Secure Computation" (2021), as 01, "Dealing a set", has it:
--- the key for a point, and the value of a key at u. Over any seeds and any opening of a node, which may depend on the level, counted from 0.
--- A bit, a flag and a side are Booleans: true is 1, set, right. Assumes nothing.
+-- The comparison function of Boyle and others, "Function Secret Sharing for Mixed-Mode and Fixed-Point Secure
+-- Computation" (2021), as 01, "Dealing a set", has it: the key for a point, and the value of a key at u. Over any seeds
+-- and any opening of a node, which may depend on the level, counted from 0. A bit, a flag and a side are Booleans: true
+-- is 1, set, right. Assumes nothing.
 use mathlib.Core.Bool.{Bool, true, false, not, xor, _&&_}
 use Prim.Native.Nat.{ℕ, zero, suc, _-_, _/_, _^_}
 use Rattle.algebra.specs.Word.{add, sub, neg}
@@ -51,7 +52,8 @@ sideFlag c false = c .left
 abbrev pub Opened : Type 0 → Type 0
 Opened Seed = Bool → Child Seed
 
--- "Each party goes on with its Keep seed and flag, each xored with its correction if its old flag was 1": from flag t to side d, whose child is k
+-- "Each party goes on with its Keep seed and flag, each xored with its correction if its old flag was 1": from flag t
+-- to side d, whose child is k
 unfoldable pub nextFlag : {Seed : Type 0} → Correction Seed → Bool → Bool → Child Seed → Bool
 nextFlag c t d k = xor (k .flag) (t && sideFlag c d)
 
@@ -63,11 +65,13 @@ module _ {Seed : Type 0} (_⊕_ : Seed → Seed → Seed) where
   unfoldable pub nextSeed : Correction Seed → Bool → Child Seed → Seed
   nextSeed c t k = corrected t (k .seed) (c .seed)
 
-  -- the correction of a level whose bit of the point is b, where the parties' seeds open into n0 and n1: Keep is b, Lose is the other
+  -- the correction of a level whose bit of the point is b, where the parties' seeds open into n0 and n1: Keep is b,
+  -- Lose is the other
   unfoldable pub correction : Bool → Making Seed → Opened Seed → Opened Seed → Correction Seed
   correction b g n0 n1 = record {
     seed = _⊕_ ((n0 (not b)) .seed) ((n1 (not b)) .seed);
-    word = add (bySign (g .t1) (sub (sub ((n1 (not b)) .word) ((n0 (not b)) .word)) (g .v))) (only b (bySign (g .t1) 1));
+    word = add (bySign (g .t1) (sub (sub ((n1 (not b)) .word) ((n0 (not b)) .word)) (g .v)))
+        (only b (bySign (g .t1) 1));
     left = xor (xor (xor ((n0 false) .flag) ((n1 false) .flag)) b) true;
     right = xor (xor ((n0 true) .flag) ((n1 true) .flag)) b;
   }
@@ -82,7 +86,8 @@ module _ {Seed : Type 0} (_⊕_ : Seed → Seed → Seed) where
     v = add (add (sub (g .v) ((n1 b) .word)) ((n0 b) .word)) (bySign (g .t1) (c .word));
   }
 
-  -- "At each level add v of the side taken, plus W if the old flag was 1": a level of a walk to side d, whose child is k
+  -- "At each level add v of the side taken, plus W if the old
+  -- flag was 1": a level of a walk to side d, whose child is k
   unfoldable pub taken : Correction Seed → Bool → Child Seed → Walk Seed → Walk Seed
   taken c d k w = record {
     seed = nextSeed c (w .flag) k;
@@ -98,7 +103,8 @@ module _ {Seed : Type 0} (_⊕_ : Seed → Seed → Seed) where
     unfoldable pub nextMaking : ℕ → Bool → Making Seed → Making Seed
     nextMaking i b g = kept (levelCorrection i b g) b g (node i (g .s0)) (node i (g .s1))
 
-    -- "Start with the two key seeds, flags 0 and 1, and V = 0": after i levels, for the point whose bits are r 0, r 1, ..
+    -- "Start with the two key seeds, flags 0 and 1, and V = 0":
+    -- after i levels, for the point whose bits are r 0, r 1, ..
     unfoldable pub making : Seed → Seed → (ℕ → Bool) → ℕ → Making Seed
     making a b r zero = record { s0 = a; s1 = b; t0 = false; t1 = true; v = 0 }
     making a b r (suc i) = nextMaking i (r i) (making a b r i)

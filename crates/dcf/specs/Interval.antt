@@ -45,7 +45,8 @@ unfolding sub
 sub-add a b h = omega arith
 
 -- on numbers: [z - s < r] + [z < s] = [z < r] + [z - r < s]
-crossing : (r z s : ℕ) → r < 2 ^ 32 → z < 2 ^ 32 → s < 2 ^ 32 → less (sub z s) r + less z s ≡ less z r + less (sub z r) s
+crossing : (r z s : ℕ) → r < 2 ^ 32 → z < 2 ^ 32 → s < 2 ^ 32
+    → less (sub z s) r + less z s ≡ less z r + less (sub z r) s
 crossing r z s hr hz hs =
     split r z s (sub z r) (sub z s) hr hz hs (sub-lt z r) (sub-lt z s) (sub-add z r hz) (sub-add z s hz)
     (side (sub z s) r) (side z s) (side z r) (side (sub z r) s)
@@ -58,4 +59,5 @@ small a b c d ha hb hc hd e = omega arith
 pub interval : (r z w : ℕ) → r < 2 ^ 32 → z < 2 ^ 32 → w + 1 < 2 ^ 32
     → add (sub (less (sub z (w + 1)) r) (less z r)) (less z (w + 1)) ≡ less (sub z r) (w + 1)
 interval r z w hr hz hw =
-    small _ _ _ _ (less-le (sub z (w + 1)) r) (less-le z r) (less-le z (w + 1)) (less-le (sub z r) (w + 1)) (crossing r z (w + 1) hr hz hw)
+    small _ _ _ _ (less-le (sub z (w + 1)) r) (less-le z r) (less-le z (w + 1))
+    (less-le (sub z r) (w + 1)) (crossing r z (w + 1) hr hz hw)

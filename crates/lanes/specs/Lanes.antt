@@ -50,7 +50,8 @@ getD-each f (suc n) (suc i) h = getD-each (λ i. f (suc i)) n i (omega arith)
 pub each-ext : (f g : ℕ → List ℕ) (n : ℕ) → ((i : ℕ) → i < n → f i ≡ g i) → each f n ≡ each g n
 unfolding each
 each-ext f g zero h = refl
-each-ext f g (suc n) h = ap₂ _∷_ (h 0 (omega arith)) (each-ext (λ i. f (suc i)) (λ i. g (suc i)) n (λ i k. h (suc i) (omega arith)))
+each-ext f g (suc n) h =
+    ap₂ _∷_ (h 0 (omega arith)) (each-ext (λ i. f (suc i)) (λ i. g (suc i)) n (λ i k. h (suc i) (omega arith)))
 
 pub map-each : (h : List ℕ → List ℕ) (f : ℕ → List ℕ) (n : ℕ) → map h (each f n) ≡ each (λ i. h (f i)) n
 unfolding each
@@ -58,11 +59,15 @@ map-each h f zero = refl
 map-each h f (suc n) = ap (λ (r : List (List ℕ)). h (f 0) ∷ r) (map-each h (λ i. f (suc i)) n)
 
 -- two rules that differ at l alone
-pub each-set : (f g : ℕ → List ℕ) (n l : ℕ) (w : List ℕ) → l < n → g l ≡ w → ((i : ℕ) → i < n → (i ≡ l → ⊥) → g i ≡ f i) → each g n ≡ set (each f n) l w
+pub each-set : (f g : ℕ → List ℕ) (n l : ℕ) (w : List ℕ) → l < n → g l ≡ w → ((i : ℕ) → i < n → (i ≡ l → ⊥) → g i ≡ f i)
+    → each g n ≡ set (each f n) l w
 unfolding each
 each-set f g zero l w h e k = absurd (omega arith)
-each-set f g (suc n) zero w h e k = ap₂ _∷_ e (each-ext (λ i. g (suc i)) (λ i. f (suc i)) n (λ i m. k (suc i) (omega arith) (λ no. omega arith)))
-each-set f g (suc n) (suc l) w h e k = ap₂ _∷_ (k 0 (omega arith) (λ no. omega arith)) (each-set (λ i. f (suc i)) (λ i. g (suc i)) n l w (omega arith) e (λ i m d. k (suc i) (omega arith) (λ no. d (omega arith))))
+each-set f g (suc n) zero w h e k =
+    ap₂ _∷_ e (each-ext (λ i. g (suc i)) (λ i. f (suc i)) n (λ i m. k (suc i) (omega arith) (λ no. omega arith)))
+each-set f g (suc n) (suc l) w h e k =
+    ap₂ _∷_ (k 0 (omega arith) (λ no. omega arith)) (each-set (λ i. f (suc i)) (λ i. g (suc i)) n l w
+    (omega arith) e (λ i m d. k (suc i) (omega arith) (λ no. d (omega arith))))
 
 -- lists of m elements each, one after the other, are made by one rule
 pub flat-tab : (f : ℕ → ℕ) (m n : ℕ) → flat (each (λ i. tab (λ w. f (m * i + w)) m) n) ≡ tab f (m * n)
@@ -72,7 +77,8 @@ flat-tab f m (suc n) =
     let more : m + m * n ≡ m * suc n = omega arith in
     let here : tab (λ w. f (m * 0 + w)) m ≡ tab f m = tab-ext (λ w. f (m * 0 + w)) f m (λ w h. ap f (omega arith)) in
     let rest : flat (each (λ i. tab (λ w. f (m * suc i + w)) m) n) ≡ tab (λ j. f (m + j)) (m * n) =
-    ap flat (each-ext (λ i. tab (λ w. f (m * suc i + w)) m) (λ i. tab (λ w. f (m + (m * i + w))) m) n (λ i h. tab-ext (λ w. f (m * suc i + w)) (λ w. f (m + (m * i + w))) m (λ w k. ap f (omega arith))))
+    ap flat (each-ext (λ i. tab (λ w. f (m * suc i + w)) m) (λ i. tab (λ w. f (m + (m * i + w))) m) n
+    (λ i h. tab-ext (λ w. f (m * suc i + w)) (λ w. f (m + (m * i + w))) m (λ w k. ap f (omega arith))))
     ∙ flat-tab (λ j. f (m + j)) m n in
     ap₂ _++_ here rest ∙ sym (tab-add f m (m * n)) ∙ ap (tab f) more
 
@@ -83,7 +89,9 @@ flat-more f n = rw (add-one n) (go f n)
   where
     go : (f : ℕ → List ℕ) (n : ℕ) → flat (each f (suc n)) ≡ flat (each f n) ++ f n
     go f zero = append-nil (f 0)
-    go f (suc n) = ap (λ (s : List ℕ). f 0 ++ s) (go (λ i. f (suc i)) n) ∙ sym (append-assoc (f 0) (flat (each (λ i. f (suc i)) n)) (f (suc n)))
+    go f (suc n) =
+        ap (λ (s : List ℕ). f 0 ++ s) (go (λ i. f (suc i)) n)
+        ∙ sym (append-assoc (f 0) (flat (each (λ i. f (suc i)) n)) (f (suc n)))
 
 -- ---- laws of rows
 
@@ -103,10 +111,13 @@ row n l x h = getD-each (λ l. col n l x) n l h
 pub length-flat : (f : ℕ → List ℕ) (m n : ℕ) → ((i : ℕ) → i < n → length (f i) ≡ m) → length (flat (each f n)) ≡ m * n
 unfolding flat each
 length-flat f m zero h = omega arith
-length-flat f m (suc n) h = length-append (f 0) (flat (each (λ i. f (suc i)) n)) ∙ omega (arith, h 0 (omega arith), length-flat (λ i. f (suc i)) m n (λ i k. h (suc i) (omega arith)))
+length-flat f m (suc n) h =
+    length-append (f 0) (flat (each (λ i. f (suc i)) n))
+    ∙ omega (arith, h 0 (omega arith), length-flat (λ i. f (suc i)) m n (λ i k. h (suc i) (omega arith)))
 
 -- and one of them, cut out again
-pub flat-at : (f : ℕ → List ℕ) (rest : List ℕ) (m n l : ℕ) → l < n → ((i : ℕ) → i < n → length (f i) ≡ m) → take m (drop (m * l) (flat (each f n) ++ rest)) ≡ f l
+pub flat-at : (f : ℕ → List ℕ) (rest : List ℕ) (m n l : ℕ) → l < n → ((i : ℕ) → i < n → length (f i) ≡ m)
+    → take m (drop (m * l) (flat (each f n) ++ rest)) ≡ f l
 unfolding flat each
 flat-at f rest m zero l h size = absurd (omega arith)
 flat-at f rest m (suc n) zero h size =
@@ -131,10 +142,12 @@ abbrev pub upTo : ℕ → List (List ℕ) → List (List ℕ) → List (List ℕ
 upTo l f r = take l f ++ drop l r
 
 -- one more of them
-pub row-more : (f r : List (List ℕ)) (w : List ℕ) (l : ℕ) → length f ≡ length r → l < length r → w ≡ getD f l [] → set (upTo l f r) l w ≡ upTo (l + 1) f r
+pub row-more : (f r : List (List ℕ)) (w : List ℕ) (l : ℕ) → length f ≡ length r → l < length r → w ≡ getD f l []
+    → set (upTo l f r) l w ≡ upTo (l + 1) f r
 row-more f r w l e h is = ap (set (upTo l f r) l) is ∙ rw (add-one l) (go f r l e h)
   where
-    go : (f r : List (List ℕ)) (l : ℕ) → length f ≡ length r → l < length r → set (upTo l f r) l (getD f l []) ≡ upTo (suc l) f r
+    go : (f r : List (List ℕ)) (l : ℕ) → length f ≡ length r → l < length r
+        → set (upTo l f r) l (getD f l []) ≡ upTo (suc l) f r
     go [] [] l e h = absurd (omega arith)
     go [] (b ∷ r) l e h = absurd (omega arith)
     go (a ∷ f) [] l e h = absurd (omega arith)
@@ -154,10 +167,12 @@ pub row-all : (f r : List (List ℕ)) (n : ℕ) → length f ≡ n → length r 
 row-all f r n e h = ap₂ _++_ (take-all n f (omega arith)) (drop-of-length-le r {i = n} (omega arith)) ∙ append-nil f
 
 -- and where each is replaced by what f makes of it
-pub map-more : (f : List ℕ → List ℕ) (r₀ r r′ : List (List ℕ)) (w : List ℕ) (l : ℕ) → l < length r₀ → r ≡ upTo l (map f r₀) r₀ → w ≡ f (getD r l []) → r′ ≡ set r l w → r′ ≡ upTo (l + 1) (map f r₀) r₀
+pub map-more : (f : List ℕ → List ℕ) (r₀ r r′ : List (List ℕ)) (w : List ℕ) (l : ℕ) → l < length r₀
+    → r ≡ upTo l (map f r₀) r₀ → w ≡ f (getD r l []) → r′ ≡ set r l w → r′ ≡ upTo (l + 1) (map f r₀) r₀
 map-more f r₀ r r′ w l h e is next =
     next ∙ ap (λ (s : List (List ℕ)). set s l w) e
-    ∙ row-more (map f r₀) r₀ w l (length-map r₀ f) h (is ∙ ap (λ (s : List (List ℕ)). f (getD s l [])) e ∙ ap f (row-next (map f r₀) r₀ l (length-map r₀ f)) ∙ at r₀ l h)
+    ∙ row-more (map f r₀) r₀ w l (length-map r₀ f) h
+    (is ∙ ap (λ (s : List (List ℕ)). f (getD s l [])) e ∙ ap f (row-next (map f r₀) r₀ l (length-map r₀ f)) ∙ at r₀ l h)
   where
     at : (r : List (List ℕ)) (l : ℕ) → l < length r → f (getD r l []) ≡ getD (map f r) l []
     at [] l h = absurd (omega arith)

@@ -2,7 +2,8 @@
 use mathlib.Core.Path.{_≡_, refl, sym, ap, _∙_}
 use mathlib.Core.List.{List, [], _∷_}
 use Prim.Native.Nat.{ℕ, zero, suc, _+_, _*_, _/_, _%_, _^_, _≤_, _<_}
-use native.Mathlib.Nat.{div-le-of-le-mul, mul-le-mul, mul-le-mul-right, add-lt-add-of-lt-of-le, lt-of-lt-of-le, div-add-mod', mod-eq-of-lt, mod-lt, add-mod-left, add-mul-mod-self-right, le-of-lt}
+use native.Mathlib.Nat.{div-le-of-le-mul, mul-le-mul, mul-le-mul-right, add-lt-add-of-lt-of-le, lt-of-lt-of-le}
+use native.Mathlib.Nat.{div-add-mod', mod-eq-of-lt, mod-lt, add-mod-left, add-mul-mod-self-right, le-of-lt}
 use native.Mathlib.Omega.{arith}
 use lib.Dec.{lit<, lit≤}
 use lib.ListN.{getD}
@@ -27,7 +28,8 @@ split-value w0 w1 w2 w3 top =
     (m-by (m-eq (div-add-mod' w2 (2 ^ 14))) (2 ^ 64)
     (m-by (m-eq (div-add-mod' w3 (2 ^ 8))) (2 ^ 96)
     (ring
-    (w0 ∷ w1 ∷ w2 ∷ w3 ∷ top ∷ w0 / 2 ^ 26 ∷ w0 % 2 ^ 26 ∷ w1 / 2 ^ 20 ∷ w1 % 2 ^ 20 ∷ w2 / 2 ^ 14 ∷ w2 % 2 ^ 14 ∷ w3 / 2 ^ 8 ∷ w3 % 2 ^ 8 ∷ [])
+    (w0 ∷ w1 ∷ w2 ∷ w3 ∷ top ∷ w0 / 2 ^ 26 ∷ w0 % 2 ^ 26 ∷ w1 / 2 ^ 20
+    ∷ w1 % 2 ^ 20 ∷ w2 / 2 ^ 14 ∷ w2 % 2 ^ 14 ∷ w3 / 2 ^ 8 ∷ w3 % 2 ^ 8 ∷ [])
     (search reify depth 40 fits 9000) refl)))))
 
 pub weaken : (h : List ℕ) → Below (2 ^ 26) h → Limbs h
@@ -39,11 +41,13 @@ weaken h b = record { l0 = more (b .l0); l1 = more (b .l1); l2 = more (b .l2); l
 -- ---- plus
 
 pub plus-value : (h c : List ℕ)
-    → value ((getD h 0 0 + getD c 0 0) ∷ (getD h 1 0 + getD c 1 0) ∷ (getD h 2 0 + getD c 2 0) ∷ (getD h 3 0 + getD c 3 0) ∷ (getD h 4 0 + getD c 4 0) ∷ [])
+    → value ((getD h 0 0 + getD c 0 0) ∷ (getD h 1 0 + getD c 1 0)
+    ∷ (getD h 2 0 + getD c 2 0) ∷ (getD h 3 0 + getD c 3 0) ∷ (getD h 4 0 + getD c 4 0) ∷ [])
     ≡ value h + value c
 unfolding value
 plus-value h c =
-    ring= _ _ (getD h 0 0 ∷ getD h 1 0 ∷ getD h 2 0 ∷ getD h 3 0 ∷ getD h 4 0 ∷ getD c 0 0 ∷ getD c 1 0 ∷ getD c 2 0 ∷ getD c 3 0 ∷ getD c 4 0 ∷ [])
+    ring= _ _ (getD h 0 0 ∷ getD h 1 0 ∷ getD h 2 0 ∷ getD h 3 0 ∷ getD h 4 0
+    ∷ getD c 0 0 ∷ getD c 1 0 ∷ getD c 2 0 ∷ getD c 3 0 ∷ getD c 4 0 ∷ [])
     (search reify depth 40 fits 9000) refl
 
 -- ---- multiply
@@ -66,7 +70,8 @@ product h r d0 d1 d2 d3 d4 e0 e1 e2 e3 e4 =
     let e3 = m-eq {m = prime} e3 in
     let e4 = m-eq {m = prime} e4 in
     ring
-    (getD h 0 0 ∷ getD h 1 0 ∷ getD h 2 0 ∷ getD h 3 0 ∷ getD h 4 0 ∷ getD r 0 0 ∷ getD r 1 0 ∷ getD r 2 0 ∷ getD r 3 0 ∷ getD r 4 0 ∷ [])
+    (getD h 0 0 ∷ getD h 1 0 ∷ getD h 2 0 ∷ getD h 3 0 ∷ getD h 4 0
+    ∷ getD r 0 0 ∷ getD r 1 0 ∷ getD r 2 0 ∷ getD r 3 0 ∷ getD r 4 0 ∷ [])
     (search reify depth 40 fits 9000) refl
 
 -- ---- reduce
@@ -126,7 +131,13 @@ module _ (d : List ℕ) (b : Below (2 ^ 61) d) (d1 d2 d3 d4 e0 : ℕ)
       let x2 : d2 < 2 ^ 62 = rw is2 (hand (lit≤ tt) (b .l2) x1) in
       let x3 : d3 < 2 ^ 62 = rw is3 (hand (lit≤ tt) (b .l3) x2) in
       let x4 : d4 < 2 ^ 62 = rw is4 (hand (lit≤ tt) (b .l4) x3) in
-      record { l0 = least e0; l1 = sum d1 (e0 / 2 ^ 26) (more (getD d 0 0) d4 e0 x4 is0); l2 = least d2; l3 = least d3; l4 = least d4 }
+      record {
+        l0 = least e0;
+        l1 = sum d1 (e0 / 2 ^ 26) (more (getD d 0 0) d4 e0 x4 is0);
+        l2 = least d2;
+        l3 = least d3;
+        l4 = least d4;
+      }
     where
       least : (x : ℕ) → x % 2 ^ 26 < 2 ^ 26 + 2 ^ 13
       least x = omega arith
@@ -137,7 +148,8 @@ module _ (d : List ℕ) (b : Below (2 ^ 61) d) (d1 d2 d3 d4 e0 : ℕ)
       sum : (x y : ℕ) → y < 2 ^ 13 → x % 2 ^ 26 + y < 2 ^ 26 + 2 ^ 13
       sum x y h = omega arith
 
-  pub reduced-value : Mod prime (value (e0 % 2 ^ 26 ∷ (d1 % 2 ^ 26 + e0 / 2 ^ 26) ∷ d2 % 2 ^ 26 ∷ d3 % 2 ^ 26 ∷ d4 % 2 ^ 26 ∷ [])) (value d)
+  pub reduced-value : Mod prime
+      (value (e0 % 2 ^ 26 ∷ (d1 % 2 ^ 26 + e0 / 2 ^ 26) ∷ d2 % 2 ^ 26 ∷ d3 % 2 ^ 26 ∷ d4 % 2 ^ 26 ∷ [])) (value d)
   unfolding value
   reduced-value =
       carries _ _ _ _ _ _ _ _ _ _ _ _ _ _ _ _ _
@@ -182,7 +194,8 @@ module _ (h : List ℕ) (x : ℕ) (d0 d1 d2 d3 d4 : ℕ)
   unfolding value y1
   nested =
       let e = m-eq {m = 0} is0 in
-      ring= _ _ (getD h 0 0 ∷ getD h 1 0 ∷ getD h 2 0 ∷ getD h 3 0 ∷ getD h 4 0 ∷ x ∷ []) (search reify depth 40 fits 9000) refl
+      ring= _ _ (getD h 0 0 ∷ getD h 1 0 ∷ getD h 2 0 ∷ getD h 3 0 ∷ getD h 4 0 ∷ x ∷ [])
+      (search reify depth 40 fits 9000) refl
 
   up1 : d0 / 2 ^ 26 + y1 ≡ d1 + y2 * 2 ^ 26
   unfolding y1 y2
@@ -207,14 +220,17 @@ module _ (h : List ℕ) (x : ℕ) (d0 d1 d2 d3 d4 : ℕ)
       ∙ hands (2 ^ 26) (2 ^ 52) (lit< tt) (lit< tt) d2 y3 up3
       ∙ hands (2 ^ 26) (2 ^ 26) (lit< tt) (lit< tt) d3 (getD h 4 0) up4)
 
-  pub carried : value (d0 % 2 ^ 26 ∷ d1 % 2 ^ 26 ∷ d2 % 2 ^ 26 ∷ d3 % 2 ^ 26 ∷ d4 % 2 ^ 26 ∷ []) ≡ (value h + x) % 2 ^ 130
+  pub carried : value (d0 % 2 ^ 26 ∷ d1 % 2 ^ 26 ∷ d2 % 2 ^ 26 ∷ d3 % 2 ^ 26 ∷ d4 % 2 ^ 26 ∷ [])
+      ≡ (value h + x) % 2 ^ 130
   unfolding value
   carried =
-      let e0 = m-eq {m = 0} (ap (λ (y : ℕ). y % 2 ^ 130) nested ∙ keeps (2 ^ 26) (2 ^ 104) (lit< tt) (lit< tt) d0 y1 up1) in
+      let e0 =
+      m-eq {m = 0} (ap (λ (y : ℕ). y % 2 ^ 130) nested ∙ keeps (2 ^ 26) (2 ^ 104) (lit< tt) (lit< tt) d0 y1 up1) in
       let e1 = m-eq {m = 0} (keeps (2 ^ 26) (2 ^ 78) (lit< tt) (lit< tt) d1 y2 up2) in
       let e2 = m-eq {m = 0} (keeps (2 ^ 26) (2 ^ 52) (lit< tt) (lit< tt) d2 y3 up3) in
       let e3 = m-eq {m = 0} (keeps (2 ^ 26) (2 ^ 26) (lit< tt) (lit< tt) d3 (getD h 4 0) up4) in
-      ring= _ _ (d0 % 2 ^ 26 ∷ d1 % 2 ^ 26 ∷ d2 % 2 ^ 26 ∷ d3 % 2 ^ 26 ∷ d4 % 2 ^ 26 ∷ []) (search reify depth 40 fits 9000) refl
+      ring= _ _ (d0 % 2 ^ 26 ∷ d1 % 2 ^ 26 ∷ d2 % 2 ^ 26 ∷ d3 % 2 ^ 26 ∷ d4 % 2 ^ 26 ∷ [])
+      (search reify depth 40 fits 9000) refl
 
 -- the accumulator's limbs are below twice the prime
 twice : (h : List ℕ) → Limbs h → value h < 2 * prime
@@ -242,18 +258,22 @@ module _ (n p k v : ℕ) (is : n ≡ p + k) (t : v < 2 * p) where
   taken (suc zero) r e l =
       let a : v + k * 1 ≡ n + r = omega arith in
       let b : v ≡ p + r = omega arith in
-      rw (a, add-mod-left) (mod-eq-of-lt l ∙ sym (ap (λ (x : ℕ). x % p) b ∙ add-mod-left p r ∙ mod-eq-of-lt (omega arith)))
+      rw (a, add-mod-left)
+      (mod-eq-of-lt l ∙ sym (ap (λ (x : ℕ). x % p) b ∙ add-mod-left p r ∙ mod-eq-of-lt (omega arith)))
   taken (suc (suc q)) r e l = absurd (omega arith)
 
 over-small : (h : List ℕ) → Limbs h → overPrime (value h) < 2
 unfolding overPrime
-over-small h b = few (2 ^ 130) prime 5 (value h) refl (twice h b) ((value h + 5) / 2 ^ 130) ((value h + 5) % 2 ^ 130) (div-add-mod' (value h + 5) (2 ^ 130))
+over-small h b =
+    few (2 ^ 130) prime 5 (value h) refl (twice h b) ((value h + 5) / 2 ^ 130)
+    ((value h + 5) % 2 ^ 130) (div-add-mod' (value h + 5) (2 ^ 130))
 
 pub over-is : (h : List ℕ) {q : ℕ} → Limbs h → q ≡ (value h + 5) / 2 ^ 130 → (q < 2) × (q ≡ overPrime (value h))
 unfolding overPrime
 over-is h b e = (rw e (over-small h b), e)
 
-pub remains : (h : List ℕ) {q r : ℕ} → Limbs h → q ≡ overPrime (value h) → r ≡ (value h + 5 * q) % 2 ^ 130 → r ≡ modPrime (value h)
+pub remains : (h : List ℕ) {q r : ℕ} → Limbs h → q ≡ overPrime (value h) → r ≡ (value h + 5 * q) % 2 ^ 130
+    → r ≡ modPrime (value h)
 unfolding overPrime modPrime
 remains h b e f =
     f
@@ -267,13 +287,15 @@ regroup : (a0 a1 a2 a3 a4 s0 s1 s2 s3 q1 q2 q3 q4 r1 r2 r3 r4 : ℕ)
     → q1 * 2 ^ 6 + r1 ≡ a1 → q2 * 2 ^ 12 + r2 ≡ a2 → q3 * 2 ^ 18 + r3 ≡ a3 → q4 * 2 ^ 24 + r4 ≡ a4
     → a0 + a1 * 2 ^ 26 + a2 * 2 ^ 52 + a3 * 2 ^ 78 + a4 * 2 ^ 104 + (s0 + s1 * 2 ^ 32 + s2 * 2 ^ 64 + s3 * 2 ^ 96)
     ≡ a0 + r1 * 2 ^ 26 + s0
-    + (q1 + r2 * 2 ^ 20 + s1 + (q2 + r3 * 2 ^ 14 + s2 + (q3 + r4 * 2 ^ 8 + s3 + q4 * 2 ^ 32) * 2 ^ 32) * 2 ^ 32) * 2 ^ 32
+    + (q1 + r2 * 2 ^ 20 + s1 + (q2 + r3 * 2 ^ 14 + s2 + (q3 + r4 * 2 ^ 8 + s3 + q4 * 2 ^ 32) * 2 ^ 32) * 2 ^ 32)
+    * 2 ^ 32
 regroup a0 a1 a2 a3 a4 s0 s1 s2 s3 q1 q2 q3 q4 r1 r2 r3 r4 h1 h2 h3 h4 =
     let e1 = m-eq {m = 0} (sym h1) in
     let e2 = m-eq {m = 0} (sym h2) in
     let e3 = m-eq {m = 0} (sym h3) in
     let e4 = m-eq {m = 0} (sym h4) in
-    ring= _ _ (a0 ∷ s0 ∷ s1 ∷ s2 ∷ s3 ∷ q1 ∷ q2 ∷ q3 ∷ q4 ∷ r1 ∷ r2 ∷ r3 ∷ r4 ∷ []) (search reify depth 40 fits 9000) refl
+    ring= _ _ (a0 ∷ s0 ∷ s1 ∷ s2 ∷ s3 ∷ q1 ∷ q2 ∷ q3 ∷ q4 ∷ r1 ∷ r2 ∷ r3 ∷ r4 ∷ [])
+    (search reify depth 40 fits 9000) refl
 
 module _ (a s : List ℕ) (t0 t1 t2 t3 : ℕ)
     (is0 : t0 ≡ getD a 0 0 + getD a 1 0 % 2 ^ 6 * 2 ^ 26 + getD s 0 0)
@@ -296,10 +318,12 @@ module _ (a s : List ℕ) (t0 t1 t2 t3 : ℕ)
   as-words : value a + words4 s ≡ t0 + u1 * 2 ^ 32
   unfolding value words4 u1 u2 u3 u4
   as-words =
-      regroup (getD a 0 0) (getD a 1 0) (getD a 2 0) (getD a 3 0) (getD a 4 0) (getD s 0 0) (getD s 1 0) (getD s 2 0) (getD s 3 0)
+      regroup (getD a 0 0) (getD a 1 0) (getD a 2 0) (getD a 3 0)
+      (getD a 4 0) (getD s 0 0) (getD s 1 0) (getD s 2 0) (getD s 3 0)
       (getD a 1 0 / 2 ^ 6) (getD a 2 0 / 2 ^ 12) (getD a 3 0 / 2 ^ 18) (getD a 4 0 / 2 ^ 24)
       (getD a 1 0 % 2 ^ 6) (getD a 2 0 % 2 ^ 12) (getD a 3 0 % 2 ^ 18) (getD a 4 0 % 2 ^ 24)
-      (div-add-mod' (getD a 1 0) (2 ^ 6)) (div-add-mod' (getD a 2 0) (2 ^ 12)) (div-add-mod' (getD a 3 0) (2 ^ 18)) (div-add-mod' (getD a 4 0) (2 ^ 24))
+      (div-add-mod' (getD a 1 0) (2 ^ 6)) (div-add-mod' (getD a 2 0) (2 ^ 12))
+      (div-add-mod' (getD a 3 0) (2 ^ 18)) (div-add-mod' (getD a 4 0) (2 ^ 24))
       ∙ ap (λ (y : ℕ). y + u1 * 2 ^ 32) (sym is0)
 
   over1 : t0 / 2 ^ 32 + u1 ≡ t1 + u2 * 2 ^ 32
@@ -317,19 +341,22 @@ module _ (a s : List ℕ) (t0 t1 t2 t3 : ℕ)
   summed : words4 (t0 % 2 ^ 32 ∷ t1 % 2 ^ 32 ∷ t2 % 2 ^ 32 ∷ t3 % 2 ^ 32 ∷ []) ≡ low128 (value a + words4 s)
   unfolding words4 low128
   summed =
-      let e0 = m-eq {m = 0} (ap (λ (y : ℕ). y % 2 ^ 128) as-words ∙ keeps (2 ^ 32) (2 ^ 96) (lit< tt) (lit< tt) t0 u1 over1) in
+      let e0 =
+      m-eq {m = 0} (ap (λ (y : ℕ). y % 2 ^ 128) as-words ∙ keeps (2 ^ 32) (2 ^ 96) (lit< tt) (lit< tt) t0 u1 over1) in
       let e1 = m-eq {m = 0} (keeps (2 ^ 32) (2 ^ 64) (lit< tt) (lit< tt) t1 u2 over2) in
       let e2 = m-eq {m = 0} (keeps (2 ^ 32) (2 ^ 32) (lit< tt) (lit< tt) t2 u3 over3) in
       let e3 = m-eq {m = 0} (add-mul-mod-self-right t3 u4 (2 ^ 32)) in
       ring= _ _ (t0 % 2 ^ 32 ∷ t1 % 2 ^ 32 ∷ t2 % 2 ^ 32 ∷ t3 % 2 ^ 32 ∷ []) (search reify depth 40 fits 9000) refl
 
-pub add-s-law : (a s : List ℕ) (v0 v1 v2 v3 t0 t1 t2 t3 : ℕ) → v0 ≡ getD s 0 0 → v1 ≡ getD s 1 0 → v2 ≡ getD s 2 0 → v3 ≡ getD s 3 0
+pub add-s-law : (a s : List ℕ) (v0 v1 v2 v3 t0 t1 t2 t3 : ℕ)
+    → v0 ≡ getD s 0 0 → v1 ≡ getD s 1 0 → v2 ≡ getD s 2 0 → v3 ≡ getD s 3 0
     → t0 ≡ getD a 0 0 + getD a 1 0 % 2 ^ 6 * 2 ^ 26 + v0
     → t1 ≡ getD a 1 0 / 2 ^ 6 + getD a 2 0 % 2 ^ 12 * 2 ^ 20 + v1 + t0 / 2 ^ 32
     → t2 ≡ getD a 2 0 / 2 ^ 12 + getD a 3 0 % 2 ^ 18 * 2 ^ 14 + v2 + t1 / 2 ^ 32
     → t3 ≡ getD a 3 0 / 2 ^ 18 + getD a 4 0 % 2 ^ 24 * 2 ^ 8 + v3 + t2 / 2 ^ 32
     → words4 (t0 % 2 ^ 32 ∷ t1 % 2 ^ 32 ∷ t2 % 2 ^ 32 ∷ t3 % 2 ^ 32 ∷ []) ≡ low128 (value a + words4 s)
-add-s-law a s v0 v1 v2 v3 t0 t1 t2 t3 e0 e1 e2 e3 f0 f1 f2 f3 = summed a s t0 t1 t2 t3 (rw e0 at f0) (rw e1 at f1) (rw e2 at f2) (rw e3 at f3)
+add-s-law a s v0 v1 v2 v3 t0 t1 t2 t3 e0 e1 e2 e3 f0 f1 f2 f3 =
+    summed a s t0 t1 t2 t3 (rw e0 at f0) (rw e1 at f1) (rw e2 at f2) (rw e3 at f3)
 
 -- two words and the carry of the words below
 pub sum-fits : {x s b : ℕ} → x < 2 ^ 32 → s < 2 ^ 32 → b < 2 ^ 64 → x + s + b / 2 ^ 32 < 2 ^ 64

@@ -23,7 +23,8 @@ pub record Below (n : ℕ) (h : List ℕ) : Type 0 where
   pub l3 : getD h 3 0 < n
   pub l4 : getD h 4 0 < n
 
--- limbs after the carries: 26 bits, and in one of them a little more. What code passes on as an accumulator, or as r, has these
+-- limbs after the carries: 26 bits, and in one of them a little
+-- more. What code passes on as an accumulator, or as r, has these
 abbrev pub Limbs : List ℕ → Type 0
 Limbs h = Below (2 ^ 26 + 2 ^ 13) h
 

@@ -4,7 +4,8 @@
 ghost use mathlib.Core.Path.{_≡_};
 ghost use Prim.Native.Nat.{_+_, _*_, _^_, _<_, _≤_};
 ghost use Rattle.algebra.specs.Mod.{Mod};
-ghost use Rattle.limbs.specs.Limbs.{prime, value, words4, Below, Limbs, column as columnOf, overPrime, modPrime, low128};
+ghost use Rattle.limbs.specs.Limbs.{prime, value, words4, Below, Limbs, column as columnOf, overPrime, modPrime};
+ghost use Rattle.limbs.specs.Limbs.{low128};
 
 pub fn wide(x: u32) -> u64
     ensures { λ r. ⌜ r ≡ x ⌝ }

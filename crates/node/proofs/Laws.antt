@@ -34,7 +34,8 @@ level-bit u i =
     rw (e, only-odd (u / 2 ^ (31 - i))) (and-mask (u / 2 ^ (31 - i)) 1)
 
 -- a shift by a side's number picks the side's flag
-pub shifted : (l d : ℕ) (c : Correction (List ℕ)) → c .left ≡ odd l → c .right ≡ odd (l / 2) → odd (l / 2 ^ (bitAnd d 1)) ≡ sideFlag c (odd d)
+pub shifted : (l d : ℕ) (c : Correction (List ℕ)) → c .left ≡ odd l → c .right ≡ odd (l / 2)
+    → odd (l / 2 ^ (bitAnd d 1)) ≡ sideFlag c (odd d)
 unfolding odd sideFlag
 shifted l d c el er = rw (and-mask d 1) (go (d % 2) (omega arith))
   where
@@ -53,11 +54,13 @@ module _ (s c : List ℕ) (hs : length s ≡ 8) (hc : length c ≡ 8) where
   abbrev pub pairs : (ℕ → ℕ) → List ℕ
   pairs x =
       bitXor (getD s 0 0) (x 0) ∷ bitXor (getD s 1 0) (x 1) ∷ bitXor (getD s 2 0) (x 2) ∷ bitXor (getD s 3 0) (x 3)
-      ∷ bitXor (getD s 4 0) (x 4) ∷ bitXor (getD s 5 0) (x 5) ∷ bitXor (getD s 6 0) (x 6) ∷ bitXor (getD s 7 0) (x 7) ∷ []
+      ∷ bitXor (getD s 4 0) (x 4) ∷ bitXor (getD s 5 0) (x 5)
+      ∷ bitXor (getD s 6 0) (x 6) ∷ bitXor (getD s 7 0) (x 7) ∷ []
 
   pub seed-corrected : (t : Bool) → pairs (λ i. only t (getD c i 0)) ≡ corrected xors t s c
   unfolding corrected xors zipWith only
   seed-corrected true = ap₂ (zipWith bitXor) (all 8 s hs) (all 8 c hc)
   seed-corrected false = (λ i.
       xor-zero-r (getD s 0 0) i ∷ xor-zero-r (getD s 1 0) i ∷ xor-zero-r (getD s 2 0) i ∷ xor-zero-r (getD s 3 0) i
-      ∷ xor-zero-r (getD s 4 0) i ∷ xor-zero-r (getD s 5 0) i ∷ xor-zero-r (getD s 6 0) i ∷ xor-zero-r (getD s 7 0) i ∷ []) ∙ all 8 s hs
+      ∷ xor-zero-r (getD s 4 0) i ∷ xor-zero-r (getD s 5 0) i
+      ∷ xor-zero-r (getD s 6 0) i ∷ xor-zero-r (getD s 7 0) i ∷ []) ∙ all 8 s hs

@@ -1,5 +1,5 @@
--- A key in the ranges of its fields, whatever the key seeds and the point: 32 corrections, each of a seed of eight words, a word and two flags, and a final word.
--- Assumes nothing.
+-- A key in the ranges of its fields, whatever the key seeds and the point: 32 corrections, each of a seed of eight
+-- words, a word and two flags, and a final word. Assumes nothing.
 use mathlib.Core.Path.{_≡_, refl, sym, ap, _∙_}
 use mathlib.Core.Bool.{Bool, true, false, not}
 use mathlib.Core.List.{List, [], _∷_, _++_, zipWith}
@@ -67,7 +67,8 @@ level-fits : (i : ℕ) (b : Bool) (g : D.Making (List ℕ)) → Fits (packed (D.
 unfolding packed D.levelCorrection D.correction
 level-fits i b g =
     record {
-      seed-long = length-xors _ _ (seed-length i (g .s0) (not b) ∙ sym (seed-length i (g .s1) (not b))) ∙ seed-length i (g .s1) (not b);
+      seed-long = length-xors _ _ (seed-length i (g .s0) (not b) ∙ sym (seed-length i (g .s1) (not b)))
+          ∙ seed-length i (g .s1) (not b);
       seed-below = xors-below _ _ (seed-below i (g .s0) (not b)) (seed-below i (g .s1) (not b));
       word-below = add-lt _ _;
       flags-below = two _ _;
@@ -82,7 +83,8 @@ corrections-fit k0 k1 r zero d i h = absurd (omega arith)
 corrections-fit k0 k1 r (suc n) d i h = go (ltb i n) refl (corrections-fit k0 k1 r n d i)
   where
     go : (b : Bool) → ltb i n ≡ b → (i < n → Fits (getD (corrections k0 k1 r n) i d))
-        → Fits (getD (corrections k0 k1 r n ++ (packed (D.keyCorrection xors node first k0 k1 (D.bits 32 r) n) ∷ [])) i d)
+        → Fits (getD (corrections k0 k1 r n
+        ++ (packed (D.keyCorrection xors node first k0 k1 (D.bits 32 r) n) ∷ [])) i d)
     go true e before =
         let l : i < length (corrections k0 k1 r n) = omega (arith, ltb-true i n e, length-corrections k0 k1 r n) in
         rw (List·getD-append (corrections k0 k1 r n) _ d i l) (before (ltb-true i n e))
@@ -101,7 +103,8 @@ pub key-long : (k0 k1 : List ℕ) (r : ℕ) → length ((keyFor k0 k1 r) .correc
 unfolding keyFor
 key-long k0 k1 r = length-corrections k0 k1 r 32
 
-pub key-fits : (k0 k1 : List ℕ) (r : ℕ) (d : Correction) (i : ℕ) → i < 32 → Fits (getD ((keyFor k0 k1 r) .corrections) i d)
+pub key-fits : (k0 k1 : List ℕ) (r : ℕ) (d : Correction) (i : ℕ) → i < 32
+    → Fits (getD ((keyFor k0 k1 r) .corrections) i d)
 unfolding keyFor
 key-fits k0 k1 r d i h = corrections-fit k0 k1 r 32 d i h
 

@@ -1,5 +1,5 @@
--- Claim comparison at ChaCha20's opening and 32 levels: for every two key seeds, every point r and every u, the two values sum modulo 2^32 to [u < r].
--- And a node in bytes. Assumes nothing.
+-- Claim comparison at ChaCha20's opening and 32 levels: for every two key seeds, every point r and every u, the two
+-- values sum modulo 2^32 to [u < r]. And a node in bytes. Assumes nothing.
 use mathlib.Core.Path.{_≡_, refl, sym, _∙_, ap, ap₂}
 use mathlib.Core.Bool.{Bool, true, false}
 use mathlib.Core.List.{List, [], _∷_, _++_}
@@ -33,17 +33,21 @@ seed-length i s d =
     let l : length b ≡ 8 + length s = from-start ∙ omega (arith, from-seed, length-nonce (i + 1)) in
     length-take-le 8 b (omega arith)
 
-back0 : (i : ℕ) (a b : List ℕ) (d : Bool) → xors ((node i a d) .seed) (xors ((node i a d) .seed) ((node i b d) .seed)) ≡ (node i b d) .seed
+back0 : (i : ℕ) (a b : List ℕ) (d : Bool)
+    → xors ((node i a d) .seed) (xors ((node i a d) .seed) ((node i b d) .seed)) ≡ (node i b d) .seed
 back0 i a b d = xors-back ((node i a d) .seed) ((node i b d) .seed) (seed-length i a d ∙ sym (seed-length i b d))
 
-back1 : (i : ℕ) (a b : List ℕ) (d : Bool) → xors ((node i b d) .seed) (xors ((node i a d) .seed) ((node i b d) .seed)) ≡ (node i a d) .seed
+back1 : (i : ℕ) (a b : List ℕ) (d : Bool)
+    → xors ((node i b d) .seed) (xors ((node i a d) .seed) ((node i b d) .seed)) ≡ (node i a d) .seed
 back1 i a b d = xors-other ((node i a d) .seed) ((node i b d) .seed) (seed-length i a d ∙ sym (seed-length i b d))
 
 -- ---- a stored correction is the one that was made
 
 pub unpack : (c : D.Correction (List ℕ)) → unpacked (packed c) ≡ c
 unfolding packed unpacked odd only
-unpack c = λ i. record { seed = c .seed; word = c .word; left = low (c .left) (c .right) i; right = high (c .left) (c .right) i }
+unpack c =
+    λ i.
+    record { seed = c .seed; word = c .word; left = low (c .left) (c .right) i; right = high (c .left) (c .right) i }
   where
     low : (l r : Bool) → odd (only l 1 + 2 * only r 1) ≡ l
     low true true = refl
@@ -60,16 +64,21 @@ unpack c = λ i. record { seed = c .seed; word = c .word; left = low (c .left) (
 pub length-corrections : (k0 k1 : List ℕ) (r n : ℕ) → length (corrections k0 k1 r n) ≡ n
 unfolding corrections
 length-corrections k0 k1 r zero = refl
-length-corrections k0 k1 r (suc n) = length-append (corrections k0 k1 r n) _ ∙ omega (arith, length-corrections k0 k1 r n)
+length-corrections k0 k1 r (suc n) =
+    length-append (corrections k0 k1 r n) _ ∙ omega (arith, length-corrections k0 k1 r n)
 
 -- the correction of level i stands at i
-at-level : (k0 k1 : List ℕ) (r n i : ℕ) → i < n → correctionAt (corrections k0 k1 r n) i ≡ D.keyCorrection xors node first k0 k1 (D.bits 32 r) i
+at-level : (k0 k1 : List ℕ) (r n i : ℕ) → i < n
+    → correctionAt (corrections k0 k1 r n) i ≡ D.keyCorrection xors node first k0 k1 (D.bits 32 r) i
 unfolding corrections correctionAt
 at-level k0 k1 r zero i h = absurd (omega arith)
 at-level k0 k1 r (suc n) i h = go (ltb i n) refl (at-level k0 k1 r n i)
   where
-    go : (b : Bool) → ltb i n ≡ b → (i < n → unpacked (getD (corrections k0 k1 r n) i none) ≡ D.keyCorrection xors node first k0 k1 (D.bits 32 r) i)
-        → unpacked (getD (corrections k0 k1 r n ++ (packed (D.keyCorrection xors node first k0 k1 (D.bits 32 r) n) ∷ [])) i none)
+    go : (b : Bool) → ltb i n ≡ b
+        → (i < n
+        → unpacked (getD (corrections k0 k1 r n) i none) ≡ D.keyCorrection xors node first k0 k1 (D.bits 32 r) i)
+        → unpacked (getD (corrections k0 k1 r n
+        ++ (packed (D.keyCorrection xors node first k0 k1 (D.bits 32 r) n) ∷ [])) i none)
         ≡ D.keyCorrection xors node first k0 k1 (D.bits 32 r) i
     go true e before =
         let l : i < length (corrections k0 k1 r n) = omega (arith, ltb-true i n e, length-corrections k0 k1 r n) in
@@ -85,10 +94,13 @@ pub shares : (k0 k1 : List ℕ) (r u : ℕ) → r < 2 ^ 32 → u < 2 ^ 32
 unfolding valueAt keyFor odd D.value
 shares k0 k1 r u hr hu =
     rw (
-      walk-ext xors node first (correctionAt (corrections k0 k1 r 32)) (D.keyCorrection xors node first k0 k1 (D.bits 32 r)) (D.bits 32 u) k0 false 32 (at-level k0 k1 r 32),
-      walk-ext xors node first (correctionAt (corrections k0 k1 r 32)) (D.keyCorrection xors node first k0 k1 (D.bits 32 r)) (D.bits 32 u) k1 true 32 (at-level k0 k1 r 32),
+      walk-ext xors node first (correctionAt (corrections k0 k1 r 32))
+          (D.keyCorrection xors node first k0 k1 (D.bits 32 r)) (D.bits 32 u) k0 false 32 (at-level k0 k1 r 32),
+      walk-ext xors node first (correctionAt (corrections k0 k1 r 32))
+          (D.keyCorrection xors node first k0 k1 (D.bits 32 r)) (D.bits 32 u) k1 true 32 (at-level k0 k1 r 32),
     )
-    (comparison xors node first back0 back1 k0 k1 (D.bits 32 r) (D.bits 32 u) 32 ∙ ap₂ less (all-bits 32 u hu) (all-bits 32 r hr))
+    (comparison xors node first back0 back1 k0 k1 (D.bits 32 r) (D.bits 32 u) 32
+    ∙ ap₂ less (all-bits 32 u hu) (all-bits 32 r hr))
 
 -- ---- a node in bytes: "Bytes 0 to 31 are the child seed, 32 to 35 its word v, the lowest bit of byte 36 its flag"
 

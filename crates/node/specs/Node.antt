@@ -1,5 +1,5 @@
--- 01, "Node", "Key for a point" and "Value of a key at u", over ChaCha20 blocks and 32 levels: what the contracts of key making and walking cite.
--- A seed of 32 bytes is its eight words. Assumes nothing.
+-- 01, "Node", "Key for a point" and "Value of a key at u", over ChaCha20 blocks and 32 levels: what the contracts of
+-- key making and walking cite. A seed of 32 bytes is its eight words. Assumes nothing.
 use mathlib.Core.Path.{_≡_, refl}
 use mathlib.Core.List.{List, [], _∷_, _++_}
 use Prim.Native.Nat.{ℕ, zero, suc, _+_, _*_, _/_}
@@ -12,7 +12,8 @@ use Rattle.node.specs.declared.Correction.{Correction}
 use Rattle.node.specs.declared.Key.{Key}
 use Rattle.node.specs.declared.Walk.{Walk}
 
--- "Bytes 0 to 31 are the child seed, 32 to 35 its word v, the lowest bit of byte 36 its flag": words 0 to 7, word 8, and the lowest bit of word 9
+-- "Bytes 0 to 31 are the child seed, 32 to 35 its word v, the lowest bit of byte 36 its flag": words 0 to 7, word 8,
+-- and the lowest bit of word 9
 unfoldable pub child : List ℕ → D.Child (List ℕ)
 child b = record { seed = take 8 b; word = getD b 8 0; flag = odd (getD b 9 0) }
 
@@ -48,11 +49,13 @@ unpacked c = record { seed = c .seed; word = c .word; left = odd (c .flags); rig
 -- the first n corrections of the key for a point
 unfoldable pub corrections : List ℕ → List ℕ → ℕ → ℕ → List Correction
 corrections k0 k1 point zero = []
-corrections k0 k1 point (suc n) = corrections k0 k1 point n ++ (packed (D.keyCorrection xors node first k0 k1 (D.bits 32 point) n) ∷ [])
+corrections k0 k1 point (suc n) =
+    corrections k0 k1 point n ++ (packed (D.keyCorrection xors node first k0 k1 (D.bits 32 point) n) ∷ [])
 
 -- the key for a point, from the key seeds of party 0 and 1
 unfoldable pub keyFor : List ℕ → List ℕ → ℕ → Key
-keyFor k0 k1 point = record { corrections = corrections k0 k1 point 32; last = D.finalWord xors node first k0 k1 (D.bits 32 point) 32 }
+keyFor k0 k1 point =
+    record { corrections = corrections k0 k1 point 32; last = D.finalWord xors node first k0 k1 (D.bits 32 point) 32 }
 
 abbrev pub none : Correction
 none = record { seed = []; word = 0; flags = 0 }
@@ -70,4 +73,5 @@ walkOf p key seed u i = D.walk xors node first (correctionAt (key .corrections))
 
 -- the value of the key at u, for the party whose number is p and whose key seed is `seed`
 unfoldable pub valueAt : ℕ → Key → List ℕ → ℕ → ℕ
-valueAt p key seed u = D.value xors node first (odd p) (correctionAt (key .corrections)) (key .last) seed (D.bits 32 u) 32
+valueAt p key seed u =
+    D.value xors node first (odd p) (correctionAt (key .corrections)) (key .last) seed (D.bits 32 u) 32

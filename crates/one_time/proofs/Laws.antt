@@ -10,7 +10,8 @@ use Rattle.words.specs.List.{tab, over, over-next, over-all, take-tab, flat}
 use Rattle.words.specs.Bytes.{bytesOf, length-bytesOf, take-bytesOf, wordAt, wordsAt, wordAt-bytesOf}
 use Rattle.rounds.specs.Rounds.{blockFrom}
 use Rattle.chacha20.specs.ChaCha20.{start, block, blockBytes}
-use Rattle.lanes.specs.Lanes.{each, each-ext, map-each, getD-each, length-each, flat-more, length-flat, col, rows, row, length-rows, length-col, upTo, row-more, row-all}
+use Rattle.lanes.specs.Lanes.{each, each-ext, map-each, getD-each, length-each, flat-more, length-flat, col, rows, row}
+use Rattle.lanes.specs.Lanes.{length-rows, length-col, upTo, row-more, row-all}
 use Rattle.aead.specs.Aead.{polyKey}
 use Rattle.one_time.specs.OneTime.{nonceOf, keys, starts, firsts}
 
@@ -18,16 +19,22 @@ length-starts : (m : ℕ) (key : List ℕ) (a b first : ℕ) → length (starts 
 unfolding starts
 length-starts m key a b first = length-each (λ l. start key 0 (a ∷ b ∷ add first l ∷ [])) m
 
-pub start-more : (m : ℕ) (key : List ℕ) (a b first : ℕ) (x₀ x y s : List ℕ) (l n : ℕ) → l < m → n ≡ add first l → rows m x ≡ upTo l (starts m key a b first) (rows m x₀)
-    → s ≡ start key 0 (a ∷ b ∷ n ∷ []) → rows m y ≡ set (rows m x) l s → rows m y ≡ upTo (l + 1) (starts m key a b first) (rows m x₀)
+pub start-more : (m : ℕ) (key : List ℕ) (a b first : ℕ) (x₀ x y s : List ℕ) (l n : ℕ)
+    → l < m → n ≡ add first l → rows m x ≡ upTo l (starts m key a b first) (rows m x₀)
+    → s ≡ start key 0 (a ∷ b ∷ n ∷ []) → rows m y ≡ set (rows m x) l s
+    → rows m y ≡ upTo (l + 1) (starts m key a b first) (rows m x₀)
 unfolding starts
 start-more m key a b first x₀ x y s l n h i e f g =
     g ∙ ap (λ (r : List (List ℕ)). set r l s) e
-    ∙ row-more (starts m key a b first) (rows m x₀) s l (length-starts m key a b first ∙ sym (length-rows m x₀)) (rw (length-rows m x₀) h)
-    (f ∙ ap (λ (k : ℕ). start key 0 (a ∷ b ∷ k ∷ [])) i ∙ sym (getD-each (λ l. start key 0 (a ∷ b ∷ add first l ∷ [])) m l h))
+    ∙ row-more (starts m key a b first) (rows m x₀) s l
+    (length-starts m key a b first ∙ sym (length-rows m x₀)) (rw (length-rows m x₀) h)
+    (f ∙ ap (λ (k : ℕ). start key 0 (a ∷ b ∷ k ∷ [])) i
+    ∙ sym (getD-each (λ l. start key 0 (a ∷ b ∷ add first l ∷ [])) m l h))
 
-pub start-all : (m : ℕ) (key : List ℕ) (a b first : ℕ) (x₀ x : List ℕ) (l : ℕ) → l ≡ m → rows m x ≡ upTo l (starts m key a b first) (rows m x₀) → rows m x ≡ starts m key a b first
-start-all m key a b first x₀ x l done e = rw done at e ∙ row-all (starts m key a b first) (rows m x₀) m (length-starts m key a b first) (length-rows m x₀)
+pub start-all : (m : ℕ) (key : List ℕ) (a b first : ℕ) (x₀ x : List ℕ) (l : ℕ) → l ≡ m
+    → rows m x ≡ upTo l (starts m key a b first) (rows m x₀) → rows m x ≡ starts m key a b first
+start-all m key a b first x₀ x l done e =
+    rw done at e ∙ row-all (starts m key a b first) (rows m x₀) m (length-starts m key a b first) (length-rows m x₀)
 
 -- ---- stored one after the other
 
@@ -46,23 +53,28 @@ length-laid m l x h = length-flat (λ j. bytesOf (take 8 (getD (rows m x) j []))
     size : (j : ℕ) → j < l → length (bytesOf (take 8 (getD (rows m x) j []))) ≡ 32
     size j k =
         let long : length (getD (rows m x) j []) ≡ 16 = ap length (row m j x (omega arith)) ∙ length-col m j x in
-        length-bytesOf (take 8 (getD (rows m x) j [])) ∙ omega (arith, length-take-le 8 (getD (rows m x) j []) (omega arith))
+        length-bytesOf (take 8 (getD (rows m x) j []))
+        ∙ omega (arith, length-take-le 8 (getD (rows m x) j []) (omega arith))
 
 pub store-none : (m : ℕ) (x s : List ℕ) → s ≡ over 0 (laid m 0 x) s
 unfolding laid each flat over
 store-none m x s = refl
 
-pub store-more : (m : ℕ) (x s t u : List ℕ) (l : ℕ) → l < m → t ≡ over 0 (laid m l x) s → u ≡ over (32 * l) (bytesOf (take 8 (getD (rows m x) l []))) t → u ≡ over 0 (laid m (l + 1) x) s
+pub store-more : (m : ℕ) (x s t u : List ℕ) (l : ℕ) → l < m → t ≡ over 0 (laid m l x) s
+    → u ≡ over (32 * l) (bytesOf (take 8 (getD (rows m x) l []))) t → u ≡ over 0 (laid m (l + 1) x) s
 unfolding laid
 store-more m x s t u l h e f =
     let here : 32 * l ≡ 0 + 32 * l = omega arith in
-    over-next (laid m l x) (bytesOf (take 8 (getD (rows m x) l []))) s t u 0 (32 * l) (length-laid m l x (omega arith)) e (f ∙ ap (λ (k : ℕ). over k (bytesOf (take 8 (getD (rows m x) l []))) t) here)
+    over-next (laid m l x) (bytesOf (take 8 (getD (rows m x) l []))) s t u 0 (32 * l)
+    (length-laid m l x (omega arith)) e (f ∙ ap (λ (k : ℕ). over k (bytesOf (take 8 (getD (rows m x) l []))) t) here)
     ∙ ap (λ (p : List ℕ). over 0 p s) (sym (flat-more (λ j. bytesOf (take 8 (getD (rows m x) j []))) l))
 
-pub store-all : (m : ℕ) (x s t : List ℕ) (l : ℕ) → l ≡ m → length s ≡ 32 * m → t ≡ over 0 (laid m l x) s → t ≡ firsts m x
+pub store-all : (m : ℕ) (x s t : List ℕ) (l : ℕ) → l ≡ m → length s ≡ 32 * m → t ≡ over 0 (laid m l x) s
+    → t ≡ firsts m x
 unfolding laid firsts
 store-all m x s t l done size e =
-    e ∙ over-all (laid m l x) s (length-laid m l x (omega arith) ∙ omega arith) ∙ ap (λ (k : ℕ). flat (each (λ j. bytesOf (take 8 (getD (rows m x) j []))) k)) done
+    e ∙ over-all (laid m l x) s (length-laid m l x (omega arith) ∙ omega arith)
+    ∙ ap (λ (k : ℕ). flat (each (λ j. bytesOf (take 8 (getD (rows m x) j []))) k)) done
 
 -- ---- as one-time keys
 
@@ -80,15 +92,20 @@ nonce-words a b c ha hb hc =
     let r = wordAt-bytesOf w 2 (omega arith) hc in
     λ i. p i ∷ q i ∷ r i ∷ []
 
-one-key : (key : List ℕ) (a b c : ℕ) → a < 2 ^ 32 → b < 2 ^ 32 → c < 2 ^ 32 → bytesOf (take 8 (block (wordsAt 8 key) 0 (a ∷ b ∷ c ∷ []))) ≡ polyKey key (nonceOf a b c)
+one-key : (key : List ℕ) (a b c : ℕ) → a < 2 ^ 32 → b < 2 ^ 32 → c < 2 ^ 32
+    → bytesOf (take 8 (block (wordsAt 8 key) 0 (a ∷ b ∷ c ∷ []))) ≡ polyKey key (nonceOf a b c)
 unfolding polyKey blockBytes
 one-key key a b c ha hb hc =
-    take-bytesOf 8 (block (wordsAt 8 key) 0 (a ∷ b ∷ c ∷ [])) ∙ ap (λ (n : List ℕ). take 32 (bytesOf (block (wordsAt 8 key) 0 n))) (sym (nonce-words a b c ha hb hc))
+    take-bytesOf 8 (block (wordsAt 8 key) 0 (a ∷ b ∷ c ∷ []))
+    ∙ ap (λ (n : List ℕ). take 32 (bytesOf (block (wordsAt 8 key) 0 n))) (sym (nonce-words a b c ha hb hc))
 
-pub keys-law : (m : ℕ) (key k : List ℕ) (a b first : ℕ) (x y : List ℕ) → a < 2 ^ 32 → b < 2 ^ 32 → k ≡ wordsAt 8 key → rows m x ≡ starts m k a b first → rows m y ≡ map blockFrom (rows m x)
+pub keys-law : (m : ℕ) (key k : List ℕ) (a b first : ℕ) (x y : List ℕ) → a < 2 ^ 32 → b < 2 ^ 32
+    → k ≡ wordsAt 8 key → rows m x ≡ starts m k a b first → rows m y ≡ map blockFrom (rows m x)
     → firsts m y ≡ keys m key a b first
 unfolding firsts keys starts block add
-keys-law m key k a b first x y ha hb ek ex ey = ap flat (each-ext (λ l. bytesOf (take 8 (getD (rows m y) l []))) (λ l. polyKey key (nonceOf a b (add first l))) m state)
+keys-law m key k a b first x y ha hb ek ex ey =
+    ap flat
+    (each-ext (λ l. bytesOf (take 8 (getD (rows m y) l []))) (λ l. polyKey key (nonceOf a b (add first l))) m state)
   where
     made : rows m y ≡ each (λ l. block k 0 (a ∷ b ∷ add first l ∷ [])) m
     made = ey ∙ ap (map blockFrom) ex ∙ map-each blockFrom (λ l. start k 0 (a ∷ b ∷ add first l ∷ [])) m

@@ -25,7 +25,8 @@ fn eight_starts(x: &mut [u32; 128], key: [u32; 8], a: u32, b: u32, first: u32)
 // The first 32 bytes of block l.
 fn store_key(out: &mut [u8], at: usize, x: &[u32; 128], l: usize)
     requires { ⌜ (at + 32 ≤ length (now out)) × (l < 8) ⌝ }
-    ensures { λ _. ⌜ now (out .exit) ≡ over at (bytesOf (take 8 (getD (rows 8 (now (x .entry))) l []))) (now (out .entry)) ⌝ }
+    ensures { λ _. ⌜ now (out .exit)
+        ≡ over at (bytesOf (take 8 (getD (rows 8 (now (x .entry))) l []))) (now (out .entry)) ⌝ }
 {
     let mut w: usize = 0;
     while w < 8 {

@@ -12,11 +12,15 @@ use Rattle.rounds.specs.Rounds.{doubleRound, added, rounds, blockFrom}
 use Rattle.lanes.specs.Lanes.{each, each-ext, map-each, getD-each, col, rows, length-rows, upTo, map-more, map-all}
 
 -- a double round on one more of the n states, and on all
-pub round-more : (n : ℕ) (x₀ x y s : List ℕ) (l : ℕ) → l < n → rows n x ≡ upTo l (map doubleRound (rows n x₀)) (rows n x₀)
-    → s ≡ doubleRound (getD (rows n x) l []) → rows n y ≡ set (rows n x) l s → rows n y ≡ upTo (l + 1) (map doubleRound (rows n x₀)) (rows n x₀)
-round-more n x₀ x y s l h e f g = map-more doubleRound (rows n x₀) (rows n x) (rows n y) s l (rw (length-rows n x₀) h) e f g
+pub round-more : (n : ℕ) (x₀ x y s : List ℕ) (l : ℕ) → l < n
+    → rows n x ≡ upTo l (map doubleRound (rows n x₀)) (rows n x₀)
+    → s ≡ doubleRound (getD (rows n x) l []) → rows n y ≡ set (rows n x) l s
+    → rows n y ≡ upTo (l + 1) (map doubleRound (rows n x₀)) (rows n x₀)
+round-more n x₀ x y s l h e f g =
+    map-more doubleRound (rows n x₀) (rows n x) (rows n y) s l (rw (length-rows n x₀) h) e f g
 
-pub round-all : (n : ℕ) (x₀ x : List ℕ) (l : ℕ) → l ≡ n → rows n x ≡ upTo l (map doubleRound (rows n x₀)) (rows n x₀) → rows n x ≡ map doubleRound (rows n x₀)
+pub round-all : (n : ℕ) (x₀ x : List ℕ) (l : ℕ) → l ≡ n → rows n x ≡ upTo l (map doubleRound (rows n x₀)) (rows n x₀)
+    → rows n x ≡ map doubleRound (rows n x₀)
 round-all n x₀ x l done e = rw done at e ∙ map-all doubleRound (rows n x₀) n (length-rows n x₀)
 
 -- the sum of the words is the sum of each state's words
@@ -33,26 +37,34 @@ within n l w h k = let most : n * w ≤ n * 15 = mul-le-mul-left n (omega arith)
 added-col : (n l : ℕ) (x y : List ℕ) → l < n → col n l (sums (16 * n) x y) ≡ added (col n l x) (col n l y)
 unfolding col
 added-col n l x y h =
-    tab-ext (λ w. getD (sums (16 * n) x y) (n * w + l) 0) (λ w. add (getD x (n * w + l) 0) (getD y (n * w + l) 0)) 16 (λ w k. getD-tab (λ i. add (getD x i 0) (getD y i 0)) (16 * n) (n * w + l) (within n l w h k))
+    tab-ext (λ w. getD (sums (16 * n) x y) (n * w + l) 0) (λ w. add (getD x (n * w + l) 0) (getD y (n * w + l) 0)) 16
+    (λ w k. getD-tab (λ i. add (getD x i 0) (getD y i 0)) (16 * n) (n * w + l) (within n l w h k))
     ∙ sym (added-tab (λ w. getD x (n * w + l) 0) (λ w. getD y (n * w + l) 0))
 
 sums-comm : (m : ℕ) (x y : List ℕ) → sums m x y ≡ sums m y x
 unfolding add
 sums-comm m x y =
-    tab-ext (λ i. add (getD x i 0) (getD y i 0)) (λ i. add (getD y i 0) (getD x i 0)) m (λ i _. ap (λ (k : ℕ). k % 2 ^ 32) (add-comm (getD x i 0) (getD y i 0)))
+    tab-ext (λ i. add (getD x i 0) (getD y i 0)) (λ i. add (getD y i 0) (getD x i 0)) m
+    (λ i _. ap (λ (k : ℕ). k % 2 ^ 32) (add-comm (getD x i 0) (getD y i 0)))
 
 -- y is x after the rounds
-pub added-rows : (n : ℕ) (x y : List ℕ) → rows n y ≡ map (rounds 10) (rows n x) → rows n (sums (16 * n) x y) ≡ map blockFrom (rows n x)
+pub added-rows : (n : ℕ) (x y : List ℕ) → rows n y ≡ map (rounds 10) (rows n x)
+    → rows n (sums (16 * n) x y) ≡ map blockFrom (rows n x)
 unfolding rows blockFrom
-added-rows n x y e = each-ext (λ l. col n l (sums (16 * n) x y)) (λ l. blockFrom (col n l x)) n state ∙ sym (map-each blockFrom (λ l. col n l x) n)
+added-rows n x y e =
+    each-ext (λ l. col n l (sums (16 * n) x y)) (λ l. blockFrom (col n l x)) n state
+    ∙ sym (map-each blockFrom (λ l. col n l x) n)
   where
     turned : (l : ℕ) → l < n → col n l y ≡ rounds 10 (col n l x)
     turned l h =
-        sym (getD-each (λ l. col n l y) n l h) ∙ ap (λ (r : List (List ℕ)). getD r l []) (e ∙ map-each (rounds 10) (λ l. col n l x) n)
+        sym (getD-each (λ l. col n l y) n l h)
+        ∙ ap (λ (r : List (List ℕ)). getD r l []) (e ∙ map-each (rounds 10) (λ l. col n l x) n)
         ∙ getD-each (λ l. rounds 10 (col n l x)) n l h
 
     state : (l : ℕ) → l < n → col n l (sums (16 * n) x y) ≡ blockFrom (col n l x)
-    state l h = ap (col n l) (sums-comm (16 * n) x y) ∙ added-col n l y x h ∙ ap (λ (s : List ℕ). added s (col n l x)) (turned l h)
+    state l h =
+        ap (col n l) (sums-comm (16 * n) x y) ∙ added-col n l y x h
+        ∙ ap (λ (s : List ℕ). added s (col n l x)) (turned l h)
 
 -- no double round, and one more
 pub rounds-none : (n : ℕ) (x : List ℕ) → rows n x ≡ map (rounds 0) (rows n x)
@@ -67,7 +79,8 @@ one-more : (k : ℕ) (s : List ℕ) → doubleRound (rounds k s) ≡ rounds (suc
 unfolding rounds
 one-more k s = refl
 
-pub rounds-more : (n k : ℕ) (x y z : List ℕ) → rows n x ≡ map (rounds k) (rows n z) → rows n y ≡ map doubleRound (rows n x) → rows n y ≡ map (rounds (k + 1)) (rows n z)
+pub rounds-more : (n k : ℕ) (x y z : List ℕ) → rows n x ≡ map (rounds k) (rows n z)
+    → rows n y ≡ map doubleRound (rows n x) → rows n y ≡ map (rounds (k + 1)) (rows n z)
 rounds-more n k x y z e f = rw (add-one k) (f ∙ ap (map doubleRound) e ∙ go (rows n z))
   where
     go : (z : List (List ℕ)) → map doubleRound (map (rounds k) z) ≡ map (rounds (suc k)) z

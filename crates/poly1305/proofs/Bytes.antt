@@ -23,7 +23,8 @@ number-append [] t = omega arith
 number-append (b ∷ s) t = rw (number-append s t, pow-suc) (omega arith)
 
 -- four words, each with what is above it
-words : (w0 w1 w2 w3 : ℕ) {n0 n1 n2 n3 : ℕ} → n0 ≡ w0 + n1 * 2 ^ 32 → n1 ≡ w1 + n2 * 2 ^ 32 → n2 ≡ w2 + n3 * 2 ^ 32 → n3 ≡ w3 + 0 * 2 ^ 32
+words : (w0 w1 w2 w3 : ℕ) {n0 n1 n2 n3 : ℕ} → n0 ≡ w0 + n1 * 2 ^ 32
+    → n1 ≡ w1 + n2 * 2 ^ 32 → n2 ≡ w2 + n3 * 2 ^ 32 → n3 ≡ w3 + 0 * 2 ^ 32
     → n0 ≡ w0 + w1 * 2 ^ 32 + w2 * 2 ^ 64 + w3 * 2 ^ 96
 words w0 w1 w2 w3 e0 e1 e2 e3 =
     let e0 = m-eq {m = 0} e0 in
@@ -33,7 +34,8 @@ words w0 w1 w2 w3 e0 e1 e2 e3 =
     ring= _ _ (w0 ∷ w1 ∷ w2 ∷ w3 ∷ []) (search reify depth 40 fits 9000) refl
 
 pub number16 : (m : List ℕ) (i : ℕ) → i + 16 ≤ length m
-    → number (take 16 (drop i m)) ≡ wordAt m i + wordAt m (i + 4) * 2 ^ 32 + wordAt m (i + 8) * 2 ^ 64 + wordAt m (i + 12) * 2 ^ 96
+    → number (take 16 (drop i m))
+    ≡ wordAt m i + wordAt m (i + 4) * 2 ^ 32 + wordAt m (i + 8) * 2 ^ 64 + wordAt m (i + 12) * 2 ^ 96
 unfolding number
 number16 m i h =
     words (wordAt m i) (wordAt m (i + 4)) (wordAt m (i + 8)) (wordAt m (i + 12))
@@ -60,7 +62,24 @@ clamped ha hb hc hd = omega arith
 
 clamp-take : (k : List ℕ) → clamp (take 16 k) ≡ clamp k
 unfolding clamp
-clamp-take k = rw (at 0 tt, at 1 tt, at 2 tt, at 3 tt, at 4 tt, at 5 tt, at 6 tt, at 7 tt, at 8 tt, at 9 tt, at 10 tt, at 11 tt, at 12 tt, at 13 tt, at 14 tt, at 15 tt)
+clamp-take k = rw (
+  at 0 tt,
+  at 1 tt,
+  at 2 tt,
+  at 3 tt,
+  at 4 tt,
+  at 5 tt,
+  at 6 tt,
+  at 7 tt,
+  at 8 tt,
+  at 9 tt,
+  at 10 tt,
+  at 11 tt,
+  at 12 tt,
+  at 13 tt,
+  at 14 tt,
+  at 15 tt,
+)
   where
     at : (i : ℕ) → T (ltb i 16) → getD (take 16 k) i 0 ≡ getD k i 0
     at i t = getD-take 16 k i 0 (lit< t)
@@ -76,15 +95,23 @@ clamp-number k = words _ _ _ _ (number4 _ _ _ _ _) (number4 _ _ _ _ _) (number4 
 
 -- r from its four words
 r-is : (k : List ℕ) → ((i : ℕ) → getD k i 0 < 256)
-    → wordAt k 0 % 2 ^ 28 + wordAt k 4 % 2 ^ 28 / 4 * 4 * 2 ^ 32 + wordAt k 8 % 2 ^ 28 / 4 * 4 * 2 ^ 64 + wordAt k 12 % 2 ^ 28 / 4 * 4 * 2 ^ 96 ≡ rOf k
+    → wordAt k 0 % 2 ^ 28 + wordAt k 4 % 2 ^ 28 / 4 * 4 * 2 ^ 32
+    + wordAt k 8 % 2 ^ 28 / 4 * 4 * 2 ^ 64 + wordAt k 12 % 2 ^ 28 / 4 * 4 * 2 ^ 96 ≡ rOf k
 unfolding rOf wordAt
 r-is k b =
-    rw (clamped0 (b 0) (b 1) (b 2) (b 3), clamped (b 4) (b 5) (b 6) (b 7), clamped (b 8) (b 9) (b 10) (b 11), clamped (b 12) (b 13) (b 14) (b 15))
+    rw (
+      clamped0 (b 0) (b 1) (b 2) (b 3),
+      clamped (b 4) (b 5) (b 6) (b 7),
+      clamped (b 8) (b 9) (b 10) (b 11),
+      clamped (b 12) (b 13) (b 14) (b 15),
+    )
     (sym (ap number (clamp-take k) ∙ clamp-number k))
 
-s-is : (k : List ℕ) → length k ≡ 32 → wordAt k 16 + wordAt k 20 * 2 ^ 32 + wordAt k 24 * 2 ^ 64 + wordAt k 28 * 2 ^ 96 ≡ sOf k
+s-is : (k : List ℕ) → length k ≡ 32
+    → wordAt k 16 + wordAt k 20 * 2 ^ 32 + wordAt k 24 * 2 ^ 64 + wordAt k 28 * 2 ^ 96 ≡ sOf k
 unfolding sOf
-s-is k l = sym (ap number (sym (take-all 16 (drop 16 k) (omega (arith, length-drop 16 k)))) ∙ number16 k 16 (omega arith))
+s-is k l =
+    sym (ap number (sym (take-all 16 (drop 16 k) (omega (arith, length-drop 16 k)))) ∙ number16 k 16 (omega arith))
 
 pub r-law : (k : List ℕ) (l0 l1 l2 l3 : ℕ) {v w0 w1 w2 w3 : ℕ} → ((i : ℕ) → getD k i 0 < 256)
     → v ≡ w0 + w1 * 2 ^ 32 + w2 * 2 ^ 64 + w3 * 2 ^ 96 + 0 * 2 ^ 104
@@ -115,8 +142,10 @@ four-bytes n t y h =
     let e4 : t / 2 ^ 24 / 256 + y * 1 ≡ y = omega arith in
     one-byte (2 ^ 24) (suc (suc (suc n))) t y
     ∙ ap (λ (l : List ℕ). t % 256 ∷ l) (one-byte (2 ^ 16) (suc (suc n)) (t / 256) y
-    ∙ ap (λ (l : List ℕ). t / 256 % 256 ∷ l) (ap (λ (u : ℕ). bytes (suc (suc n)) (u + y * 2 ^ 16)) e2 ∙ one-byte (2 ^ 8) (suc n) (t / 2 ^ 16) y
-    ∙ ap (λ (l : List ℕ). t / 2 ^ 16 % 256 ∷ l) (ap (λ (u : ℕ). bytes (suc n) (u + y * 2 ^ 8)) e3 ∙ one-byte 1 n (t / 2 ^ 24) y
+    ∙ ap (λ (l : List ℕ). t / 256 % 256 ∷ l)
+    (ap (λ (u : ℕ). bytes (suc (suc n)) (u + y * 2 ^ 16)) e2 ∙ one-byte (2 ^ 8) (suc n) (t / 2 ^ 16) y
+    ∙ ap (λ (l : List ℕ). t / 2 ^ 16 % 256 ∷ l)
+    (ap (λ (u : ℕ). bytes (suc n) (u + y * 2 ^ 8)) e3 ∙ one-byte 1 n (t / 2 ^ 24) y
     ∙ ap (λ (x : ℕ). t / 2 ^ 24 % 256 ∷ bytes n x) e4)))
 
 sixteen : (a b c d : ℕ) → a < 2 ^ 32 → b < 2 ^ 32 → c < 2 ^ 32 → d < 2 ^ 32
@@ -132,7 +161,9 @@ sixteen a b c d ha hb hc hd =
     nested : a + b * 2 ^ 32 + c * 2 ^ 64 + d * 2 ^ 96 ≡ a + (b + (c + (d + 0 * 2 ^ 32) * 2 ^ 32) * 2 ^ 32) * 2 ^ 32
     nested = ring= _ _ (a ∷ b ∷ c ∷ d ∷ []) (search reify depth 40 fits 9000) refl
 
-over-zeros : (a b c d : ℕ) → over 12 (le32 d) (over 8 (le32 c) (over 4 (le32 b) (over 0 (le32 a) (replicate 16 0)))) ≡ le32 a ++ (le32 b ++ (le32 c ++ le32 d))
+over-zeros : (a b c d : ℕ)
+    → over 12 (le32 d) (over 8 (le32 c) (over 4 (le32 b) (over 0 (le32 a) (replicate 16 0))))
+    ≡ le32 a ++ (le32 b ++ (le32 c ++ le32 d))
 unfolding over le32
 over-zeros a b c d = refl
 

@@ -16,12 +16,14 @@ use Rattle.poly1305.specs.Laws.{absorb-mod, absorbAll-append, firstPiece
 use Rattle.poly1305.proofs.Bytes.{number-append}
 
 -- `step`: a block is added, and the sum multiplied
-pub step-is : (h r : ℕ) {n c e d x : ℕ} → c ≡ n → e ≡ h + c → Mod prime d (e * r) → Mod prime x d → Mod prime x ((h + n) * r)
+pub step-is : (h r : ℕ) {n c e d x : ℕ} → c ≡ n → e ≡ h + c → Mod prime d (e * r) → Mod prime x d
+    → Mod prime x ((h + n) * r)
 step-is h r f g k l = m-trans l (m-trans k (m-eq (ap (λ (y : ℕ). y * r) (g ∙ ap (λ (y : ℕ). h + y) f))))
 
 -- one piece more, where n is its number with the bit beyond it
 pub absorb-next : (r a : ℕ) (ps : List (List ℕ)) (p : List ℕ) {b x n : ℕ}
-    → Mod prime b (absorbAll r a ps) → Mod prime x ((b + n) * r) → n ≡ number (p ++ (1 ∷ [])) → Mod prime x (absorbAll r a (ps ++ (p ∷ [])))
+    → Mod prime b (absorbAll r a ps) → Mod prime x ((b + n) * r) → n ≡ number (p ++ (1 ∷ []))
+    → Mod prime x (absorbAll r a (ps ++ (p ∷ [])))
 unfolding absorbAll absorb
 absorb-next r a ps p {b} h k e =
     m-trans k
@@ -61,7 +63,11 @@ pub absorbed-more : (r t h : ℕ) (m : List ℕ) {a x : ℕ} (at : ℕ) → Abso
     → Mod prime x ((a + (number (take 16 (drop at m)) + t)) * r) → Absorbed r t h m x (at + 16)
 unfolding unreduced piece
 absorbed-more r t h m {a} {x} at A l k =
-    record { within = l; whole = omega (arith, A .whole); is = rw next (m-trans k (m-mul (m-add (A .is) (m-eq block)) m-refl)) }
+    record {
+      within = l;
+      whole = omega (arith, A .whole);
+      is = rw next (m-trans k (m-mul (m-add (A .is) (m-eq block)) m-refl));
+    }
   where
     next : (at + 16) / 16 ≡ suc (at / 16)
     next = omega arith
@@ -73,7 +79,8 @@ absorbed-more r t h m {a} {x} at A l k =
     block = ap (λ (i : ℕ). number (take 16 (drop i m)) + t) start
 
 -- no whole block is left
-pub absorbed-all : (r t h : ℕ) (m : List ℕ) {a : ℕ} (at : ℕ) → Absorbed r t h m a at → length m - at < 16 → Mod prime a (unreduced r t h m (length m / 16))
+pub absorbed-all : (r t h : ℕ) (m : List ℕ) {a : ℕ} (at : ℕ) → Absorbed r t h m a at → length m - at < 16
+    → Mod prime a (unreduced r t h m (length m / 16))
 absorbed-all r t h m {a} at A l = rw (sym count) (A .is)
   where
     count : at / 16 ≡ length m / 16
@@ -84,16 +91,20 @@ length-piece : (m : List ℕ) (n : ℕ) → 16 * suc n ≤ length m → length (
 unfolding piece
 length-piece m n h = length-take-le 16 (drop (16 * n) m) (omega (arith, length-drop (16 * n) m))
 
-blocks-pieces : (r a : ℕ) (m : List ℕ) (n : ℕ) → 16 * n ≤ length m → Mod prime (unreduced r (2 ^ 24 * 2 ^ 104) a m n) (absorbAll r a (firstPieces m n))
+blocks-pieces : (r a : ℕ) (m : List ℕ) (n : ℕ) → 16 * n ≤ length m
+    → Mod prime (unreduced r (2 ^ 24 * 2 ^ 104) a m n) (absorbAll r a (firstPieces m n))
 unfolding unreduced firstPieces absorbAll
 blocks-pieces r a m zero h = m-refl
-blocks-pieces r a m (suc n) h = absorb-next r a (firstPieces m n) (piece m n) (blocks-pieces r a m n (omega arith)) m-refl (bit-above (piece m n) (length-piece m n h))
+blocks-pieces r a m (suc n) h =
+    absorb-next r a (firstPieces m n) (piece m n)
+    (blocks-pieces r a m n (omega arith)) m-refl (bit-above (piece m n) (length-piece m n h))
 
 -- a single block
 one-block : (r t a : ℕ) (b : List ℕ) → length b ≡ 16 → unreduced r t a b (length b / 16) ≡ (a + (number b + t)) * r
 unfolding unreduced piece
 one-block r t a b l =
-    ap (λ (n : ℕ). unreduced r t a b (n / 16)) l ∙ ap (λ (s : List ℕ). (a + (number s + t)) * r) (take-all 16 b (omega arith))
+    ap (λ (n : ℕ). unreduced r t a b (n / 16)) l
+    ∙ ap (λ (s : List ℕ). (a + (number s + t)) * r) (take-all 16 b (omega arith))
 
 -- ---- what is left after the whole pieces
 
@@ -111,18 +122,22 @@ drop-zeros (suc n) k = ap (λ (i : ℕ). drop (suc n) (replicate {A = ℕ} i 0))
 
 -- `rest`: the bytes from at on, copied over zeros
 pub rest-is : (m : List ℕ) (at : ℕ) → at ≡ length m - length m % 16
-    → over 0 (take (length m - at) (drop at m)) (replicate 16 0) ≡ piece m (length m / 16) ++ replicate (16 - length m % 16) 0
+    → over 0 (take (length m - at) (drop at m)) (replicate 16 0)
+    ≡ piece m (length m / 16) ++ replicate (16 - length m % 16) 0
 rest-is m at e =
     ap (λ (l : List ℕ). over 0 l (replicate 16 0)) same
     ∙ over-eq (piece m (length m / 16)) (replicate 16 0) 0 (omega (arith, length-left m))
     ∙ ap (λ (l : List ℕ). piece m (length m / 16) ++ l) (ap (λ (i : ℕ). drop i (replicate {A = ℕ} 16 0)) short
-    ∙ ap (λ (i : ℕ). drop (length m % 16) (replicate {A = ℕ} i 0)) full ∙ drop-zeros (length m % 16) (16 - length m % 16))
+    ∙ ap (λ (i : ℕ). drop (length m % 16) (replicate {A = ℕ} i 0)) full
+    ∙ drop-zeros (length m % 16) (16 - length m % 16))
   where
     start : at ≡ 16 * (length m / 16)
     start = omega arith
 
     same : take (length m - at) (drop at m) ≡ piece m (length m / 16)
-    same = take-all (length m - at) (drop at m) (omega (arith, length-drop at m)) ∙ ap (λ (i : ℕ). drop i m) start ∙ sym (left m)
+    same =
+        take-all (length m - at) (drop at m) (omega (arith, length-drop at m))
+        ∙ ap (λ (i : ℕ). drop i m) start ∙ sym (left m)
 
     short : 0 + length (piece m (length m / 16)) ≡ length m % 16
     short = omega (arith, length-left m)
@@ -151,11 +166,13 @@ module _ (m : List ℕ) where
   none-padded h = none-left h ∙ ap pieces (sym (padded-same m h))
 
   some-padded : (length m % 16 ≡ 0 → ⊥)
-      → firstPieces m (length m / 16) ++ ((piece m (length m / 16) ++ replicate (16 - length m % 16) 0) ∷ []) ≡ pieces (m ++ pad16 m)
+      → firstPieces m (length m / 16) ++ ((piece m (length m / 16) ++ replicate (16 - length m % 16) 0) ∷ [])
+      ≡ pieces (m ++ pad16 m)
   unfolding pieces firstPieces piece pad16
   some-padded h = sym
       (ap (firstPieces (m ++ pad16 m)) count
-      ∙ ap₂ (λ (l : List (List ℕ)) (p : List ℕ). l ++ (p ∷ [])) (firstPieces-of m (pad16 m) (length m / 16) (omega arith))
+      ∙ ap₂ (λ (l : List (List ℕ)) (p : List ℕ). l ++ (p ∷ []))
+      (firstPieces-of m (pad16 m) (length m / 16) (omega arith))
       (ap (take 16) (drop-append-le (16 * (length m / 16)) m (pad16 m) (omega arith))
       ∙ take-all 16 (drop (16 * (length m / 16)) m ++ pad16 m) full
       ∙ ap₂ (λ (l : List ℕ) (i : ℕ). l ++ replicate i 0) (sym (left m)) some))
@@ -167,17 +184,27 @@ module _ (m : List ℕ) where
       count = omega (arith, length-append m (pad16 m), length-pad16 m)
 
       full : length (drop (16 * (length m / 16)) m ++ pad16 m) ≤ 16
-      full = omega (arith, length-append (drop (16 * (length m / 16)) m) (pad16 m), length-drop (16 * (length m / 16)) m, length-pad16 m)
+      full = omega (
+        arith,
+        length-append (drop (16 * (length m / 16)) m) (pad16 m),
+        length-drop (16 * (length m / 16)) m,
+        length-pad16 m,
+      )
 
 -- ---- the last piece
 
 module _ (m : List ℕ) where
   sixteen : length (piece m (length m / 16) ++ replicate (16 - length m % 16) 0) ≡ 16
-  sixteen = omega
-      (arith, length-append (piece m (length m / 16)) (replicate (16 - length m % 16) 0), length-left m, length-replicate {A = ℕ} (16 - length m % 16) 0)
+  sixteen = omega (
+    arith,
+    length-append (piece m (length m / 16)) (replicate (16 - length m % 16) 0),
+    length-left m,
+    length-replicate {A = ℕ} (16 - length m % 16) 0,
+  )
 
   -- with a 1 after it, and zeros after that
-  marked : number (set (piece m (length m / 16) ++ replicate (16 - length m % 16) 0) (length m % 16) 1) + 0 * 2 ^ 104 ≡ number (piece m (length m / 16) ++ (1 ∷ []))
+  marked : number (set (piece m (length m / 16) ++ replicate (16 - length m % 16) 0) (length m % 16) 1) + 0 * 2 ^ 104
+      ≡ number (piece m (length m / 16) ++ (1 ∷ []))
   marked =
       add-zero (number (set (piece m (length m / 16) ++ replicate (16 - length m % 16) 0) (length m % 16) 1))
       ∙ ap number
@@ -199,22 +226,29 @@ module _ (r h : ℕ) (m : List ℕ) {a : ℕ} (A : Mod prime a (unreduced r (2 ^
   pub absorb-none : length m % 16 ≡ 0 → Mod prime a (absorbAll r h (pieces m))
   absorb-none e = rw (none-left m e) at first
 
-  pub absorb-left : (b : List ℕ) {x : ℕ} → (length m % 16 ≡ 0 → ⊥) → b ≡ piece m (length m / 16) ++ replicate (16 - length m % 16) 0
-      → Mod prime x (unreduced r (0 * 2 ^ 104) a (set b (length m % 16) 1) (length (set b (length m % 16) 1) / 16)) → Mod prime x (absorbAll r h (pieces m))
+  pub absorb-left : (b : List ℕ) {x : ℕ} → (length m % 16 ≡ 0 → ⊥)
+      → b ≡ piece m (length m / 16) ++ replicate (16 - length m % 16) 0
+      → Mod prime x (unreduced r (0 * 2 ^ 104) a (set b (length m % 16) 1) (length (set b (length m % 16) 1) / 16))
+      → Mod prime x (absorbAll r h (pieces m))
   absorb-left b n e k =
       rw (some-left m n) at
       (absorb-next r h (firstPieces m (length m / 16)) (piece m (length m / 16)) first
-      (m-trans k (m-eq (one-block r (0 * 2 ^ 104) a (set b (length m % 16) 1) (length-set b (length m % 16) 1 ∙ ap length e ∙ sixteen m))))
+      (m-trans k (m-eq (one-block r (0 * 2 ^ 104) a (set b (length m % 16) 1)
+      (length-set b (length m % 16) 1 ∙ ap length e ∙ sixteen m))))
       (ap (λ (l : List ℕ). number (set l (length m % 16) 1) + 0 * 2 ^ 104) e ∙ marked m))
 
   -- `absorb_padded`
   pub padded-none : length m % 16 ≡ 0 → Mod prime a (absorbAll r h (pieces (m ++ pad16 m)))
   padded-none e = rw (none-padded m e) at first
 
-  pub padded-left : (b : List ℕ) {x : ℕ} → (length m % 16 ≡ 0 → ⊥) → b ≡ piece m (length m / 16) ++ replicate (16 - length m % 16) 0
-      → Mod prime x (unreduced r (2 ^ 24 * 2 ^ 104) a b (length b / 16)) → Mod prime x (absorbAll r h (pieces (m ++ pad16 m)))
+  pub padded-left : (b : List ℕ) {x : ℕ} → (length m % 16 ≡ 0 → ⊥)
+      → b ≡ piece m (length m / 16) ++ replicate (16 - length m % 16) 0
+      → Mod prime x (unreduced r (2 ^ 24 * 2 ^ 104) a b (length b / 16))
+      → Mod prime x (absorbAll r h (pieces (m ++ pad16 m)))
   padded-left b n e k =
       rw (some-padded m n) at
-      (absorb-next r h (firstPieces m (length m / 16)) (piece m (length m / 16) ++ replicate (16 - length m % 16) 0) first
+      (absorb-next r h (firstPieces m (length m / 16))
+      (piece m (length m / 16) ++ replicate (16 - length m % 16) 0) first
       (m-trans k (m-eq (one-block r (2 ^ 24 * 2 ^ 104) a b (ap length e ∙ sixteen m))))
-      (ap (λ (l : List ℕ). number l + 2 ^ 24 * 2 ^ 104) e ∙ bit-above (piece m (length m / 16) ++ replicate (16 - length m % 16) 0) (sixteen m)))
+      (ap (λ (l : List ℕ). number l + 2 ^ 24 * 2 ^ 104) e
+      ∙ bit-above (piece m (length m / 16) ++ replicate (16 - length m % 16) 0) (sixteen m)))

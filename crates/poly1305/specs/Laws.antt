@@ -18,10 +18,12 @@ use Rattle.poly1305.specs.Poly1305.{piece, firstPieces, pieces, absorb, 
 pub absorb-mod : (r : ℕ) {a b : ℕ} (block : List ℕ) → Mod prime a b → Mod prime (absorb r a block) (absorb r b block)
 unfolding absorb
 absorb-mod r {a} {b} block h =
-    m-trans (m-mod prime _) (m-trans (m-mul (m-add h m-refl) m-refl) (m-sym (m-mod prime ((b + number (block ++ (1 ∷ []))) * r))))
+    m-trans (m-mod prime _)
+    (m-trans (m-mul (m-add h m-refl) m-refl) (m-sym (m-mod prime ((b + number (block ++ (1 ∷ []))) * r))))
 
 -- congruent accumulators stay congruent
-pub absorbAll-mod : (r : ℕ) {a b : ℕ} (p : List (List ℕ)) → Mod prime a b → Mod prime (absorbAll r a p) (absorbAll r b p)
+pub absorbAll-mod : (r : ℕ) {a b : ℕ} (p : List (List ℕ)) → Mod prime a b
+    → Mod prime (absorbAll r a p) (absorbAll r b p)
 unfolding absorbAll
 absorbAll-mod r [] h = h
 absorbAll-mod r (block ∷ p) h = absorbAll-mod r p (absorb-mod r block h)
@@ -46,15 +48,20 @@ absorbAll-then r a b p q h k = m-trans k (m-trans (absorbAll-mod r q h) (m-eq (s
 pub firstPieces-of : (a b : List ℕ) (n : ℕ) → 16 * n ≤ length a → firstPieces (a ++ b) n ≡ firstPieces a n
 unfolding firstPieces piece
 firstPieces-of a b zero h = refl
-firstPieces-of a b (suc n) h = ap₂ (λ (l : List (List ℕ)) (p : List ℕ). l ++ (p ∷ [])) (firstPieces-of a b n (omega arith))
-    (ap (take 16) (drop-append-le (16 * n) a b (omega arith)) ∙ take-append-le 16 (drop (16 * n) a) b (omega (arith, length-drop (16 * n) a)))
+firstPieces-of a b (suc n) h =
+    ap₂ (λ (l : List (List ℕ)) (p : List ℕ). l ++ (p ∷ [])) (firstPieces-of a b n (omega arith))
+    (ap (take 16) (drop-append-le (16 * n) a b (omega arith))
+    ∙ take-append-le 16 (drop (16 * n) a) b (omega (arith, length-drop (16 * n) a)))
 
-pub firstPieces-add : (a b : List ℕ) (n k : ℕ) → length a ≡ 16 * n → firstPieces (a ++ b) (n + k) ≡ firstPieces a n ++ firstPieces b k
+pub firstPieces-add : (a b : List ℕ) (n k : ℕ) → length a ≡ 16 * n
+    → firstPieces (a ++ b) (n + k) ≡ firstPieces a n ++ firstPieces b k
 unfolding firstPieces piece
-firstPieces-add a b n zero h = ap (firstPieces (a ++ b)) (add-zero n) ∙ firstPieces-of a b n (omega arith) ∙ sym (append-nil (firstPieces a n))
+firstPieces-add a b n zero h =
+    ap (firstPieces (a ++ b)) (add-zero n) ∙ firstPieces-of a b n (omega arith) ∙ sym (append-nil (firstPieces a n))
 firstPieces-add a b n (suc k) h =
     ap (firstPieces (a ++ b)) (add-suc n k)
-    ∙ ap₂ (λ (l : List (List ℕ)) (p : List ℕ). l ++ (p ∷ [])) (firstPieces-add a b n k h) (ap (take 16) (ap (λ (i : ℕ). drop i (a ++ b)) at ∙ drop-append-add a b (16 * k)))
+    ∙ ap₂ (λ (l : List (List ℕ)) (p : List ℕ). l ++ (p ∷ [])) (firstPieces-add a b n k h)
+    (ap (take 16) (ap (λ (i : ℕ). drop i (a ++ b)) at ∙ drop-append-add a b (16 * k)))
     ∙ append-assoc (firstPieces a n) (firstPieces b k) (piece b k ∷ [])
   where
     at : 16 * (n + k) ≡ length a + 16 * k
@@ -76,7 +83,8 @@ pieces-short m h l = ap (firstPieces m) count ∙ ap (λ (p : List ℕ). p ∷ [
 
 pub pieces-append : (a b : List ℕ) → length a % 16 ≡ 0 → pieces (a ++ b) ≡ pieces a ++ pieces b
 unfolding pieces
-pieces-append a b h = ap (firstPieces (a ++ b)) count ∙ firstPieces-add a b ((length a + 15) / 16) ((length b + 15) / 16) (omega arith)
+pieces-append a b h =
+    ap (firstPieces (a ++ b)) count ∙ firstPieces-add a b ((length a + 15) / 16) ((length b + 15) / 16) (omega arith)
   where
     count : (length (a ++ b) + 15) / 16 ≡ (length a + 15) / 16 + (length b + 15) / 16
     count = omega (arith, length-append a b)
@@ -105,7 +113,8 @@ whole-append a b h k = omega (arith, length-append a b)
 pub padded-then : (r a b : ℕ) (p m : List ℕ) {c : ℕ} → length p % 16 ≡ 0 → Mod prime b (absorbAll r a (pieces p))
     → Mod prime c (absorbAll r b (pieces (m ++ pad16 m))) → Mod prime c (absorbAll r a (pieces (p ++ (m ++ pad16 m))))
 padded-then r a b p m {c} h k l =
-    subst (λ (q : List (List ℕ)). Mod prime c (absorbAll r a q)) (sym (pieces-append p (m ++ pad16 m) h)) (absorbAll-then r a b (pieces p) (pieces (m ++ pad16 m)) k l)
+    subst (λ (q : List (List ℕ)). Mod prime c (absorbAll r a q)) (sym (pieces-append p (m ++ pad16 m) h))
+    (absorbAll-then r a b (pieces p) (pieces (m ++ pad16 m)) k l)
 
 -- ---- the tag
 
@@ -123,7 +132,9 @@ unfolding value
 value-zero = refl
 
 -- an accumulator that is congruent to that of the message has its tag: t as `tag` gives it, r and s as `key` gives them
-pub mac-law : (key m : List ℕ) {r s a : ℕ} {t : List ℕ} → r ≡ rOf key → s ≡ sOf key → Mod prime a (absorbAll r 0 (pieces m)) → t ≡ tagOf (modPrime a) s → t ≡ mac key m
+pub mac-law : (key m : List ℕ) {r s a : ℕ} {t : List ℕ} → r ≡ rOf key → s ≡ sOf key
+    → Mod prime a (absorbAll r 0 (pieces m)) → t ≡ tagOf (modPrime a) s → t ≡ mac key m
 unfolding mac modPrime
 mac-law key m {s = s} e f h g =
-    g ∙ ap₂ tagOf (h .same ∙ mod-eq-of-lt (absorbAll-below _ (pieces m) (lit< tt)) ∙ ap (λ (r : ℕ). absorbAll r 0 (pieces m)) e) f
+    g ∙ ap₂ tagOf
+    (h .same ∙ mod-eq-of-lt (absorbAll-below _ (pieces m) (lit< tt)) ∙ ap (λ (r : ℕ). absorbAll r 0 (pieces m)) e) f

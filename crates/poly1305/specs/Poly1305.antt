@@ -1,4 +1,5 @@
--- Poly1305, as RFC 8439, 2.5 and 2.5.1 define it. A byte is a number below 256; a key and a message are lists of bytes. Assumes nothing.
+-- Poly1305, as RFC 8439, 2.5 and 2.5.1 define it. A byte is a number below 256; a key and a message are lists of bytes.
+-- Assumes nothing.
 use mathlib.Core.List.{List, [], _∷_, _++_}
 use Prim.Native.Nat.{ℕ, zero, suc, _+_, _*_, _-_, _/_, _%_, _^_}
 use lib.ListN.{length, getD, take, drop, replicate}
@@ -37,7 +38,8 @@ unfoldable pub absorbAll : ℕ → ℕ → List (List ℕ) → ℕ
 absorbAll r a [] = a
 absorbAll r a (block ∷ s) = absorbAll r (absorb r a block) s
 
--- "the value of the secret key "s" is added to the accumulator, and the 128 least significant bits are serialized in little-endian order to form the tag"
+-- "the value of the secret key "s" is added to the accumulator, and the 128 least significant bits are serialized in
+-- little-endian order to form the tag"
 unfoldable pub tagOf : ℕ → ℕ → List ℕ
 tagOf a s = bytes 16 ((a + s) % 2 ^ 128)
 

@@ -38,7 +38,8 @@ fn step(h: [u64; 5], r: [u64; 5], m: &[u8], at: usize, top: u64) -> [u64; 5]
     requires { ⌜ at + 16 ≤ length (now m) ⌝ }
     requires { ⌜ top ≤ 2 ^ 24 ⌝ }
     ensures { λ a. ⌜ Limbs a ⌝ }
-    ensures { λ a. ⌜ Mod prime (value a) ((value h + (number (take 16 (drop at (now (m .entry)))) + top * 2 ^ 104)) * value r) ⌝ }
+    ensures { λ a. ⌜ Mod prime (value a)
+        ((value h + (number (take 16 (drop at (now (m .entry)))) + top * 2 ^ 104)) * value r) ⌝ }
 {
     let c = block(m, at, top);
     let e = limbs::plus(h, c);
@@ -53,7 +54,8 @@ fn absorb_blocks(h: [u64; 5], r: [u64; 5], m: &[u8], top: u64) -> [u64; 5]
     requires { ⌜ Limbs r ⌝ }
     requires { ⌜ top ≤ 2 ^ 24 ⌝ }
     ensures { λ a. ⌜ Limbs a ⌝ }
-    ensures { λ a. ⌜ Mod prime (value a) (unreduced (value r) (top * 2 ^ 104) (value h) (now (m .entry)) (length (now (m .entry)) / 16)) ⌝ }
+    ensures { λ a. ⌜ Mod prime (value a)
+        (unreduced (value r) (top * 2 ^ 104) (value h) (now (m .entry)) (length (now (m .entry)) / 16)) ⌝ }
 {
     let mut a = h;
     let mut at: usize = 0;
@@ -67,7 +69,8 @@ fn absorb_blocks(h: [u64; 5], r: [u64; 5], m: &[u8], top: u64) -> [u64; 5]
 
 // What follows the whole pieces of m, with zeros up to 16 bytes.
 fn rest(m: &[u8]) -> [u8; 16]
-    ensures { λ r. ⌜ r ≡ piece (now (m .entry)) (length (now (m .entry)) / 16) ++ replicate (16 - length (now (m .entry)) % 16) 0 ⌝ }
+    ensures { λ r. ⌜ r ≡ piece (now (m .entry)) (length (now (m .entry)) / 16)
+        ++ replicate (16 - length (now (m .entry)) % 16) 0 ⌝ }
 {
     let at = m.len() - m.len() % 16;
     let mut b = [0u8; 16];
@@ -81,7 +84,8 @@ pub fn absorb_padded(h: [u64; 5], r: [u64; 5], m: &[u8]) -> [u64; 5]
     requires { ⌜ Limbs h ⌝ }
     requires { ⌜ Limbs r ⌝ }
     ensures { λ a. ⌜ Limbs a ⌝ }
-    ensures { λ a. ⌜ Mod prime (value a) (absorbAll (value r) (value h) (pieces (now (m .entry) ++ pad16 (now (m .entry))))) ⌝ }
+    ensures { λ a. ⌜ Mod prime (value a)
+        (absorbAll (value r) (value h) (pieces (now (m .entry) ++ pad16 (now (m .entry))))) ⌝ }
 {
     let a = absorb_blocks(h, r, m, 16777216);
     if m.len() % 16 == 0 {

@@ -37,7 +37,8 @@ module _ (p : ℕ) (key : Key) (seed : List ℕ) (u : ℕ) where
   unfolding asWalk walkOf D.walk
   starts = refl
 
-  pub one-more : (i d : ℕ) (w x : Walk) (c : Correction) (b : List ℕ) → asWalk w ≡ walkOf p key seed u i → c ≡ getD (key .corrections) i none
+  pub one-more : (i d : ℕ) (w x : Walk) (c : Correction) (b : List ℕ)
+      → asWalk w ≡ walkOf p key seed u i → c ≡ getD (key .corrections) i none
       → d ≡ only (bits 32 u i) 1 → b ≡ openedBlock (i + 1) (w .seed) d
       → asWalk x ≡ taken xors (unpacked c) (odd d) (child b) (asWalk w) → asWalk x ≡ walkOf p key seed u (i + 1)
   unfolding walkOf D.walk D.nextWalk correctionAt node asWalk

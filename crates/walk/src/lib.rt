@@ -56,8 +56,10 @@ pub struct Walks {
 
 // A level of both walks, to side d and to side e: two blocks at once.
 fn both_taken(w: Walks, level: u32, c: Correction, d: u32, e: u32) -> Walks
-    ensures { λ r. ⌜ asWalk (r .a) ≡ takenBy xors (unpacked c) (odd d) (child (openedBlock level (w .a .seed) d)) (asWalk (w .a)) ⌝ }
-    ensures { λ r. ⌜ asWalk (r .b) ≡ takenBy xors (unpacked c) (odd e) (child (openedBlock level (w .b .seed) e)) (asWalk (w .b)) ⌝ }
+    ensures { λ r. ⌜ asWalk (r .a)
+        ≡ takenBy xors (unpacked c) (odd d) (child (openedBlock level (w .a .seed) d)) (asWalk (w .a)) ⌝ }
+    ensures { λ r. ⌜ asWalk (r .b)
+        ≡ takenBy xors (unpacked c) (odd e) (child (openedBlock level (w .b .seed) e)) (asWalk (w .b)) ⌝ }
 {
     let nonce = node::nonce(level);
     let a = w.a;

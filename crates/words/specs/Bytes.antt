@@ -1,4 +1,5 @@
--- Words as bytes, little-endian (01, "Measures"; RFC 8439, 2.3), and the rotation of a word (RFC 8439, 2.1). Assumes nothing.
+-- Words as bytes, little-endian (01, "Measures"; RFC 8439, 2.3), and the rotation of a word (RFC 8439, 2.1).
+-- Assumes nothing.
 use mathlib.Core.Path.{_≡_, refl, sym, ap, _∙_}
 use mathlib.Core.List.{List, [], _∷_, _++_, append-assoc, append-nil}
 use Prim.Native.Nat.{ℕ, zero, suc, _+_, _-_, _*_, _/_, _%_, _^_, _<_}
@@ -35,7 +36,8 @@ wordsAt n b = tab (λ i. wordAt b (4 * i)) n
 pub bytesOf-append : (p q : List ℕ) → bytesOf (p ++ q) ≡ bytesOf p ++ bytesOf q
 unfolding bytesOf
 bytesOf-append [] q = refl
-bytesOf-append (x ∷ p) q = ap (λ (l : List ℕ). le32 x ++ l) (bytesOf-append p q) ∙ sym (append-assoc (le32 x) (bytesOf p) (bytesOf q))
+bytesOf-append (x ∷ p) q =
+    ap (λ (l : List ℕ). le32 x ++ l) (bytesOf-append p q) ∙ sym (append-assoc (le32 x) (bytesOf p) (bytesOf q))
 
 pub length-bytesOf : (p : List ℕ) → length (bytesOf p) ≡ 4 * length p
 unfolding bytesOf le32
@@ -43,7 +45,8 @@ length-bytesOf [] = refl
 length-bytesOf (x ∷ p) = omega (arith, length-bytesOf p)
 
 -- byte i of some words is a byte of one of them
-pub getD-bytesOf : (w : List ℕ) (i : ℕ) → i < 4 * length w → getD (bytesOf w) i 0 ≡ getD (le32 (getD w (i / 4) 0)) (i % 4) 0
+pub getD-bytesOf : (w : List ℕ) (i : ℕ) → i < 4 * length w
+    → getD (bytesOf w) i 0 ≡ getD (le32 (getD w (i / 4) 0)) (i % 4) 0
 unfolding bytesOf le32
 getD-bytesOf [] i h = absurd (omega arith)
 getD-bytesOf (x ∷ w) zero h = refl
@@ -56,12 +59,14 @@ getD-bytesOf (x ∷ w) (suc (suc (suc (suc i)))) h =
     rw (q, r) (getD-bytesOf w i (omega arith))
 
 -- one word more of those that are stored from `at` on
-pub over-word : (g : ℕ → ℕ) (s t u : List ℕ) (at i : ℕ) → t ≡ over at (bytesOf (tab g i)) s → u ≡ over (at + 4 * i) (le32 (g i)) t
+pub over-word : (g : ℕ → ℕ) (s t u : List ℕ) (at i : ℕ)
+    → t ≡ over at (bytesOf (tab g i)) s → u ≡ over (at + 4 * i) (le32 (g i)) t
     → u ≡ over at (bytesOf (tab g (i + 1))) s
 unfolding tab bytesOf
 over-word g s t u at i e f =
     let l : length (bytesOf (tab g i)) ≡ 4 * i = length-bytesOf (tab g i) ∙ ap (λ (k : ℕ). 4 * k) (length-tab g i) in
-    rw (add-one i, bytesOf-append (tab g i) (g i ∷ []), append-nil (le32 (g i))) (over-next (bytesOf (tab g i)) (le32 (g i)) s t u at (4 * i) l e f)
+    rw (add-one i, bytesOf-append (tab g i) (g i ∷ []), append-nil (le32 (g i)))
+    (over-next (bytesOf (tab g i)) (le32 (g i)) s t u at (4 * i) l e f)
 
 -- the bytes of the first k words
 pub take-bytesOf : (k : ℕ) (w : List ℕ) → bytesOf (take k w) ≡ take (4 * k) (bytesOf w)
@@ -88,5 +93,6 @@ wordAt-bytesOf w i l h =
         let r : k % 4 ≡ j = omega arith in
         getD-bytesOf w k (omega arith) ∙ rw (q, r) refl
 
-    sum : (x : ℕ) → x < 2 ^ 32 → x % 256 + x / 2 ^ 8 % 256 * 2 ^ 8 + x / 2 ^ 16 % 256 * 2 ^ 16 + x / 2 ^ 24 % 256 * 2 ^ 24 ≡ x
+    sum : (x : ℕ) → x < 2 ^ 32
+        → x % 256 + x / 2 ^ 8 % 256 * 2 ^ 8 + x / 2 ^ 16 % 256 * 2 ^ 16 + x / 2 ^ 24 % 256 * 2 ^ 24 ≡ x
     sum x h = rw (← (shr-shr x 16 8), ← (shr-shr x 8 8)) (omega arith)

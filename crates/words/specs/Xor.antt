@@ -46,7 +46,9 @@ xor-back = bin-ind (λ (n : ℕ). (b : ℕ) → bitXor n (bitXor n b) ≡ b) (λ
         let l : d < 2 = differ-lt (the-bit n) (the-bit b) in
         let h : x / 2 ≡ bitXor (n / 2) (b / 2) = omega arith in
         let o : x % 2 ≡ d = omega arith in
-        xor-step n x ∙ ap₂ (λ (p q : ℕ). p * 2 + q) (ap (bitXor (n / 2)) h ∙ ih) (ap (differ (n % 2)) o ∙ differ-back (the-bit n) (the-bit b)) ∙ omega arith
+        xor-step n x
+        ∙ ap₂ (λ (p q : ℕ). p * 2 + q) (ap (bitXor (n / 2)) h ∙ ih)
+        (ap (differ (n % 2)) o ∙ differ-back (the-bit n) (the-bit b)) ∙ omega arith
 
 pub xor-twice : (a b : ℕ) → bitXor (bitXor a b) b ≡ a
 xor-twice a b = xor-comm (bitXor a b) b ∙ ap (bitXor b) (xor-comm a b) ∙ xor-back b a

@@ -33,7 +33,8 @@ slice-aggregate-absorb-padded c =
     let at-copy2 = c .before .before in
     let at-copy = at-copy2 .before .before .before in
     let start = at-copy .before .before .before .before in
-    run-length (start .args .text .now) (start .args .both .now) _ _ _ (start .pre .1 .1 .0) (start .pre .1 .1 .1) refl (at-copy .copy .ensures) (at-copy2 .copy2 .ensures)
+    run-length (start .args .text .now) (start .args .both .now) _ _ _ (start .pre .1 .1 .0)
+    (start .pre .1 .1 .1) refl (at-copy .copy .ensures) (at-copy2 .copy2 .ensures)
 
 absorb-padded-requires : tie.Need-absorb-padded-requires
 absorb-padded-requires c κs = search needs
@@ -43,8 +44,11 @@ returns c =
     let at-copy2 = c .before .before .before in
     let at-copy = at-copy2 .before .before .before in
     let start = at-copy .before .before .before .before in
-    let run = c .absorb-padded .ensures in
-    (run .0, run-law (start .args .text .now) (start .args .both .now) _ _ _ (start .pre .1 .1 .0) (start .pre .1 .1 .1) refl (at-copy .copy .ensures) (at-copy2 .copy2 .ensures) _ _ (run .1))
+    let run = c .absorb-padded .ensures in (
+      run .0,
+      run-law (start .args .text .now) (start .args .both .now) _ _ _ (start .pre .1 .1 .0)
+          (start .pre .1 .1 .1) refl (at-copy .copy .ensures) (at-copy2 .copy2 .ensures) _ _ (run .1),
+    )
 
 pub absorb-short-spec : {M : Type 1} → statement M
 absorb-short-spec =

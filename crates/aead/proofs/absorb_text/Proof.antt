@@ -18,8 +18,11 @@ absorb-padded-requires-2 c κs = search needs
 returns-2 : tie.Need-returns-2
 returns-2 c =
     let text = c .before in
-    let start = text .before .before .before .before in
-    (c .absorb-padded2 .ensures .0, text-law (start .args .text .now) (start .args .both .now) _ _ _ (start .pre .1 .1) (text .absorb-padded .ensures .1) (c .absorb-padded2 .ensures .1))
+    let start = text .before .before .before .before in (
+      c .absorb-padded2 .ensures .0,
+      text-law (start .args .text .now) (start .args .both .now) _ _ _ (start .pre .1 .1)
+          (text .absorb-padded .ensures .1) (c .absorb-padded2 .ensures .1),
+    )
 
 pub absorb-text-spec : {M : Type 1} → statement M
 absorb-text-spec =

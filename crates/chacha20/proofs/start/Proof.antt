@@ -43,7 +43,8 @@ array-read-t38 c = search needs
 returns : tie.Need-returns
 unfolding start
 returns c =
-    ap₂ (λ (k n : List ℕ). 0x61707865 ∷ 0x3320646e ∷ 0x79622d32 ∷ 0x6b206574 ∷ (k ++ (c .args .counter ∷ n))) (all 8 (c .args .t1) (search needs)) (all 3 (c .args .t3) (search needs))
+    ap₂ (λ (k n : List ℕ). 0x61707865 ∷ 0x3320646e ∷ 0x79622d32 ∷ 0x6b206574 ∷ (k ++ (c .args .counter ∷ n)))
+    (all 8 (c .args .t1) (search needs)) (all 3 (c .args .t3) (search needs))
 
 pub start-spec : {M : Type 1} → statement M
 start-spec =

@@ -31,7 +31,11 @@ loop-less c = search needs
 
 loop-again : tie.Need-loop-again Inv-loop μ-loop
 unfolding rounds doubleRound
-loop-again c = (search needs, rw add-one (c .diagonal-round .ensures ∙ ap diagonalRound (c .before .column-round .ensures ∙ ap columnRound (c .before .before .before .loop .inv .1))))
+loop-again c = (
+  search needs,
+  rw add-one (c .diagonal-round .ensures
+      ∙ ap diagonalRound (c .before .column-round .ensures ∙ ap columnRound (c .before .before .before .loop .inv .1))),
+)
 
 returns : tie.Need-returns Inv-loop μ-loop
 returns c = let done : c .before .loop .i ≡ 10 = omega arith in rw done at (c .before .loop .inv .1)

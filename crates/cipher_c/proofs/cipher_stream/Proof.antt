@@ -23,7 +23,9 @@ returns c =
     let at-nonce-words = at-stream .before .before in
     let at-key-words = at-nonce-words .before in
     let start = at-key-words .before .before in
-    at-stream .stream .ensures ∙ ap₂ (λ k n. stream k n (length (start .args .out .now))) (at-key-words .key-words .ensures) (at-nonce-words .nonce-words .ensures)
+    at-stream .stream .ensures
+    ∙ ap₂ (λ k n. stream k n (length (start .args .out .now)))
+    (at-key-words .key-words .ensures) (at-nonce-words .nonce-words .ensures)
 
 pub cipher-stream-spec : {M : Type 1} → statement M
 cipher-stream-spec =

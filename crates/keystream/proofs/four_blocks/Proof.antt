@@ -20,7 +20,8 @@ returns c =
     let at-blocks = c .before .before in
     let at-starts = at-blocks .before .before in
     c .in-order .ensures
-    ∙ in-order 4 _ _ _ _ (search needs) (search needs) (at-blocks .four-blocks .ensures ∙ ap (map blockFrom) (at-starts .four-starts .ensures) ∙ blocks-of-starts 4 _ _ _)
+    ∙ in-order 4 _ _ _ _ (search needs) (search needs)
+    (at-blocks .four-blocks .ensures ∙ ap (map blockFrom) (at-starts .four-starts .ensures) ∙ blocks-of-starts 4 _ _ _)
 
 pub four-blocks-spec : {M : Type 1} → statement M
 four-blocks-spec = tie.close (tie.spec four-starts-requires four-blocks-requires in-order-requires returns)

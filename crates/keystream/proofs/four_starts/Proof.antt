@@ -10,7 +10,8 @@ use Rattle.keystream.proofs.four_starts.Statement.{statement}
 use Rattle.keystream.proofs.four_starts.Tie as tie
 
 abbrev Inv-loop : tie.InvT-loop
-Inv-loop x₀ key counter nonce n₀ l₀ x n l = (l ≤ 4) × (n ≡ add counter l) × (rows 4 x ≡ upTo l (starts 4 key counter nonce) (rows 4 x₀))
+Inv-loop x₀ key counter nonce n₀ l₀ x n l =
+    (l ≤ 4) × (n ≡ add counter l) × (rows 4 x ≡ upTo l (starts 4 key counter nonce) (rows 4 x₀))
 
 abbrev μ-loop : tie.MeasureT-loop
 μ-loop x₀ key counter nonce n₀ l₀ x n l = 4 - l
@@ -36,11 +37,14 @@ loop-less c = search needs
 
 loop-again : tie.Need-loop-again Inv-loop μ-loop
 unfolding add
-loop-again c = (
-  search needs,
-  omega (arith, c .add .ensures, c .before .before .before .before .before .loop .inv .1),
-  start-more 4 _ _ _ _ _ _ _ _ _ (search needs) (c .before .before .before .before .before .loop .inv .1) (c .before .before .before .before .before .loop .inv .2) (c .before .before .start .ensures) (c .before .set-lane .ensures),
-)
+loop-again c =
+    let at-start = c .before .before in
+    let at-loop = at-start .before .before .before in (
+      search needs,
+      omega (arith, c .add .ensures, at-loop .loop .inv .1),
+      start-more 4 _ _ _ _ _ _ _ _ _ (search needs) (at-loop .loop .inv .1)
+          (at-loop .loop .inv .2) (at-start .start .ensures) (c .before .set-lane .ensures),
+    )
 
 returns : tie.Need-returns Inv-loop μ-loop
 returns c = start-all 4 _ _ _ _ _ (c .before .loop .l) (omega arith) (c .before .loop .inv .2)

@@ -10,7 +10,8 @@ use Rattle.keystream.proofs.in_order.Statement.{statement}
 use Rattle.keystream.proofs.in_order.Tie as tie
 
 abbrev Inv-loop : tie.InvT-loop
-Inv-loop x k₀ i₀ k i = (i ≤ 64) × (k ≡ tab (λ j. getD x (4 * (j % 16) + j / 16) 0) i ++ drop i k₀) × (length k ≡ length k₀)
+Inv-loop x k₀ i₀ k i =
+    (i ≤ 64) × (k ≡ tab (λ j. getD x (4 * (j % 16) + j / 16) 0) i ++ drop i k₀) × (length k ≡ length k₀)
 
 abbrev μ-loop : tie.MeasureT-loop
 μ-loop x k₀ i₀ k i = 64 - i
@@ -48,8 +49,11 @@ loop-again c =
     let at-loop = c .before .before in
     let x = at-loop .before .args .x .now in
     let i = at-loop .loop .i in
-    let rule : ℕ → ℕ = λ j. getD x (4 * (j % 16) + j / 16) 0 in
-    (search needs, ap (λ l. set l i (rule i)) (at-loop .loop .inv .1) ∙ tab-more rule i _ (search needs), simp length-set (omega arith))
+    let rule : ℕ → ℕ = λ j. getD x (4 * (j % 16) + j / 16) 0 in (
+      search needs,
+      ap (λ l. set l i (rule i)) (at-loop .loop .inv .1) ∙ tab-more rule i _ (search needs),
+      simp length-set (omega arith),
+    )
 
 returns : tie.Need-returns Inv-loop μ-loop
 returns c =

@@ -49,7 +49,10 @@ add-t1-2 : tie.Need-add-t1-2
 add-t1-2 c = record { fits = sum0-fits (word1 _ (c .before .before .pre .l1)) (c .wide2 .ensures .1) }
 
 add-t1-3 : tie.Need-add-t1-3
-add-t1-3 c = record { fits = sum-fits (word1 _ (c .before .before .pre .l1)) (c .wide2 .ensures .1) (sum0-fits (word0 _ (c .before .before .pre .l0)) (c .before .wide .ensures .1)) }
+add-t1-3 c = record {
+  fits = sum-fits (word1 _ (c .before .before .pre .l1)) (c .wide2 .ensures .1)
+      (sum0-fits (word0 _ (c .before .before .pre .l0)) (c .before .wide .ensures .1));
+}
 
 array-read-t2 : tie.Need-array-read-t2
 array-read-t2 c = search needs
@@ -77,7 +80,10 @@ add-t2-3 c =
     let at-wide2 = c .before in
     let at-wide = at-wide2 .before in
     let start = at-wide .before in
-    record { fits = sum-fits (word2 _ (start .pre .l2)) (c .wide3 .ensures .1) (sum-fits (word1 _ (start .pre .l1)) (at-wide2 .wide2 .ensures .1) (sum0-fits (word0 _ (start .pre .l0)) (at-wide .wide .ensures .1))) }
+    record {
+      fits = sum-fits (word2 _ (start .pre .l2)) (c .wide3 .ensures .1) (sum-fits (word1 _ (start .pre .l1))
+          (at-wide2 .wide2 .ensures .1) (sum0-fits (word0 _ (start .pre .l0)) (at-wide .wide .ensures .1)));
+    }
 
 array-read-t3 : tie.Need-array-read-t3
 array-read-t3 c = search needs
@@ -106,7 +112,11 @@ add-t3-3 c =
     let at-wide2 = at-wide3 .before in
     let at-wide = at-wide2 .before in
     let start = at-wide .before in
-    record { fits = sum-fits (word3 _ (start .pre .l3)) (c .wide4 .ensures .1) (sum-fits (word2 _ (start .pre .l2)) (at-wide3 .wide3 .ensures .1) (sum-fits (word1 _ (start .pre .l1)) (at-wide2 .wide2 .ensures .1) (sum0-fits (word0 _ (start .pre .l0)) (at-wide .wide .ensures .1)))) }
+    record {
+      fits = sum-fits (word3 _ (start .pre .l3)) (c .wide4 .ensures .1)
+          (sum-fits (word2 _ (start .pre .l2)) (at-wide3 .wide3 .ensures .1) (sum-fits (word1 _ (start .pre .l1))
+          (at-wide2 .wide2 .ensures .1) (sum0-fits (word0 _ (start .pre .l0)) (at-wide .wide .ensures .1))));
+    }
 
 cast-t21 : tie.Need-cast-t21
 cast-t21 c = record { fits = mod-lt _ (lit< tt) }

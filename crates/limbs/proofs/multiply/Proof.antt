@@ -95,8 +95,10 @@ returns c =
     let c0 = at1 .before .column .ensures in
     let c1 = at1 .column2 .ensures in
     let c2 = at2 .column3 .ensures in
-    let c4 = c .column5 .ensures in
-    (record { l0 = c0 .0; l1 = c1 .0; l2 = c2 .0; l3 = c3 .0; l4 = c4 .0 }, product _ _ _ _ _ _ _ (c0 .1) (c1 .1) (c2 .1) (c3 .1) (c4 .1))
+    let c4 = c .column5 .ensures in (
+      record { l0 = c0 .0; l1 = c1 .0; l2 = c2 .0; l3 = c3 .0; l4 = c4 .0 },
+      product _ _ _ _ _ _ _ (c0 .1) (c1 .1) (c2 .1) (c3 .1) (c4 .1),
+    )
 
 pub multiply-spec : {M : Type 1} → statement M
 multiply-spec =

@@ -27,13 +27,19 @@ array-read-d3 : tie.Need-array-read-d3
 array-read-d3 c = search needs
 
 add-d3 : tie.Need-add-d3
-add-d3 c = record { fits = fits62 (hand (lit≤ tt) (limb (c .pre .l3)) (hand (lit≤ tt) (limb (c .pre .l2)) (hand (lit≤ tt) (limb (c .pre .l1)) (start (c .pre .l0) (lit< tt))))) }
+add-d3 c = record {
+  fits = fits62 (hand (lit≤ tt) (limb (c .pre .l3))
+      (hand (lit≤ tt) (limb (c .pre .l2)) (hand (lit≤ tt) (limb (c .pre .l1)) (start (c .pre .l0) (lit< tt)))));
+}
 
 array-read-d4 : tie.Need-array-read-d4
 array-read-d4 c = search needs
 
 add-d4 : tie.Need-add-d4
-add-d4 c = record { fits = fits62 (hand (lit≤ tt) (limb (c .pre .l4)) (hand (lit≤ tt) (limb (c .pre .l3)) (hand (lit≤ tt) (limb (c .pre .l2)) (hand (lit≤ tt) (limb (c .pre .l1)) (start (c .pre .l0) (lit< tt)))))) }
+add-d4 c = record {
+  fits = fits62 (hand (lit≤ tt) (limb (c .pre .l4)) (hand (lit≤ tt) (limb (c .pre .l3))
+      (hand (lit≤ tt) (limb (c .pre .l2)) (hand (lit≤ tt) (limb (c .pre .l1)) (start (c .pre .l0) (lit< tt))))));
+}
 
 returns : tie.Need-returns
 returns c = over-is _ (c .pre) (carried-out _ 5 _ _ _ _ _ refl refl refl refl refl)

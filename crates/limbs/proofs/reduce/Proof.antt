@@ -24,28 +24,47 @@ array-read-d3 : tie.Need-array-read-d3
 array-read-d3 c = search needs
 
 add-d3 : tie.Need-add-d3
-add-d3 c = record { fits = fits62 (hand (lit≤ tt) (c .pre .l3) (hand (lit≤ tt) (c .pre .l2) (hand (lit≤ tt) (c .pre .l1) (alone (c .pre .l0))))) }
+add-d3 c = record {
+  fits = fits62 (hand (lit≤ tt) (c .pre .l3)
+      (hand (lit≤ tt) (c .pre .l2) (hand (lit≤ tt) (c .pre .l1) (alone (c .pre .l0)))));
+}
 
 array-read-d4 : tie.Need-array-read-d4
 array-read-d4 c = search needs
 
 add-d4 : tie.Need-add-d4
-add-d4 c = record { fits = fits62 (hand (lit≤ tt) (c .pre .l4) (hand (lit≤ tt) (c .pre .l3) (hand (lit≤ tt) (c .pre .l2) (hand (lit≤ tt) (c .pre .l1) (alone (c .pre .l0)))))) }
+add-d4 c = record {
+  fits = fits62 (hand (lit≤ tt) (c .pre .l4)
+      (hand (lit≤ tt) (c .pre .l3) (hand (lit≤ tt) (c .pre .l2) (hand (lit≤ tt) (c .pre .l1) (alone (c .pre .l0))))));
+}
 
 array-read-e0 : tie.Need-array-read-e0
 array-read-e0 c = search needs
 
 mul-e0 : tie.Need-mul-e0
-mul-e0 c = record { fits = fits62 (alone (five (hand (lit≤ tt) (c .pre .l4) (hand (lit≤ tt) (c .pre .l3) (hand (lit≤ tt) (c .pre .l2) (hand (lit≤ tt) (c .pre .l1) (alone (c .pre .l0)))))))) }
+mul-e0 c = record {
+  fits = fits62 (alone (five (hand (lit≤ tt) (c .pre .l4)
+      (hand (lit≤ tt) (c .pre .l3) (hand (lit≤ tt) (c .pre .l2) (hand (lit≤ tt) (c .pre .l1) (alone (c .pre .l0))))))));
+}
 
 add-e0 : tie.Need-add-e0
-add-e0 c = record { fits = fits62 (first _ (five (hand (lit≤ tt) (c .pre .l4) (hand (lit≤ tt) (c .pre .l3) (hand (lit≤ tt) (c .pre .l2) (hand (lit≤ tt) (c .pre .l1) (alone (c .pre .l0)))))))) }
+add-e0 c = record {
+  fits = fits62 (first _ (five (hand (lit≤ tt) (c .pre .l4)
+      (hand (lit≤ tt) (c .pre .l3) (hand (lit≤ tt) (c .pre .l2) (hand (lit≤ tt) (c .pre .l1) (alone (c .pre .l0))))))));
+}
 
 add-t14 : tie.Need-add-t14
-add-t14 c = record { fits = fits62 (second _ (first _ (five (hand (lit≤ tt) (c .pre .l4) (hand (lit≤ tt) (c .pre .l3) (hand (lit≤ tt) (c .pre .l2) (hand (lit≤ tt) (c .pre .l1) (alone (c .pre .l0))))))))) }
+add-t14 c =
+    record {
+      fits = fits62 (second _ (first _ (five (hand (lit≤ tt) (c .pre .l4) (hand (lit≤ tt) (c .pre .l3)
+          (hand (lit≤ tt) (c .pre .l2) (hand (lit≤ tt) (c .pre .l1) (alone (c .pre .l0)))))))));
+    }
 
 returns : tie.Need-returns
-returns c = (reduced-below _ (c .pre) _ _ _ _ _ refl refl refl refl refl, reduced-value _ (c .pre) _ _ _ _ _ refl refl refl refl refl)
+returns c = (
+  reduced-below _ (c .pre) _ _ _ _ _ refl refl refl refl refl,
+  reduced-value _ (c .pre) _ _ _ _ _ refl refl refl refl refl,
+)
 
 pub reduce-spec : {M : Type 1} → statement M
 reduce-spec =

@@ -34,18 +34,26 @@ array-read-d3 : tie.Need-array-read-d3
 array-read-d3 c = search needs
 
 add-d3 : tie.Need-add-d3
-add-d3 c = record { fits = fits62 (hand (lit≤ tt) (limb (c .before .pre .l3)) (hand (lit≤ tt) (limb (c .before .pre .l2)) (hand (lit≤ tt) (limb (c .before .pre .l1)) (start (c .before .pre .l0) (small (c .over-prime .ensures .0)))))) }
+add-d3 c = record {
+  fits = fits62 (hand (lit≤ tt) (limb (c .before .pre .l3)) (hand (lit≤ tt) (limb (c .before .pre .l2))
+      (hand (lit≤ tt) (limb (c .before .pre .l1)) (start (c .before .pre .l0) (small (c .over-prime .ensures .0))))));
+}
 
 array-read-d4 : tie.Need-array-read-d4
 array-read-d4 c = search needs
 
 add-d4 : tie.Need-add-d4
-add-d4 c = record { fits = fits62 (hand (lit≤ tt) (limb (c .before .pre .l4)) (hand (lit≤ tt) (limb (c .before .pre .l3)) (hand (lit≤ tt) (limb (c .before .pre .l2)) (hand (lit≤ tt) (limb (c .before .pre .l1)) (start (c .before .pre .l0) (small (c .over-prime .ensures .0))))))) }
+add-d4 c = record {
+  fits = fits62 (hand (lit≤ tt) (limb (c .before .pre .l4))
+      (hand (lit≤ tt) (limb (c .before .pre .l3)) (hand (lit≤ tt) (limb (c .before .pre .l2))
+      (hand (lit≤ tt) (limb (c .before .pre .l1)) (start (c .before .pre .l0) (small (c .over-prime .ensures .0)))))));
+}
 
 returns : tie.Need-returns
 returns c = (
   record { l0 = least _; l1 = least _; l2 = least _; l3 = least _; l4 = least _ },
-  remains _ (c .before .pre) (c .over-prime .ensures .1) (carried _ (5 * c .over-prime .result) _ _ _ _ _ refl refl refl refl refl),
+  remains _ (c .before .pre) (c .over-prime .ensures .1)
+      (carried _ (5 * c .over-prime .result) _ _ _ _ _ refl refl refl refl refl),
 )
 
 pub remainder-spec : {M : Type 1} → statement M

@@ -80,14 +80,26 @@ array-read-only-8 c = search needs
 only-requires-8 : tie.Need-only-requires-8
 only-requires-8 c κs = search needs
 
+-- Each half names the steps it uses: `search` goes through all
+-- that is in scope, and with more names it would stop short.
 returns : tie.Need-returns
 returns c =
-    (λ i.
-    bitXor (getD (c .before .before .before .before .before .before .before .before .args .t2) 0 0) (c .before .before .before .before .before .before .before .only .ensures i) ∷ bitXor (getD (c .before .before .before .before .before .before .before .before .args .t2) 1 0) (c .before .before .before .before .before .before .only2 .ensures i)
-    ∷ bitXor (getD (c .before .before .before .before .before .before .before .before .args .t2) 2 0) (c .before .before .before .before .before .only3 .ensures i) ∷ bitXor (getD (c .before .before .before .before .before .before .before .before .args .t2) 3 0) (c .before .before .before .before .only4 .ensures i)
-    ∷ bitXor (getD (c .before .before .before .before .before .before .before .before .args .t2) 4 0) (c .before .before .before .only5 .ensures i) ∷ bitXor (getD (c .before .before .before .before .before .before .before .before .args .t2) 5 0) (c .before .before .only6 .ensures i)
-    ∷ bitXor (getD (c .before .before .before .before .before .before .before .before .args .t2) 6 0) (c .before .only7 .ensures i) ∷ bitXor (getD (c .before .before .before .before .before .before .before .before .args .t2) 7 0) (c .only8 .ensures i) ∷ [])
-    ∙ seed-corrected (c .before .before .before .before .before .before .before .before .args .t2) (c .before .before .before .before .before .before .before .before .args .t3) (search needs) (search needs) (odd (c .before .before .before .before .before .before .before .before .args .flag))
+    (let at-only7 = c .before in
+    let at-only6 = at-only7 .before in
+    let at-only5 = at-only6 .before in
+    let at-only4 = at-only5 .before in
+    let at-only3 = at-only4 .before in
+    let at-only2 = at-only3 .before in
+    let at-only = at-only2 .before in
+    let t2 = at-only .before .args .t2 in
+    λ i.
+    bitXor (getD t2 0 0) (at-only .only .ensures i) ∷ bitXor (getD t2 1 0) (at-only2 .only2 .ensures i)
+    ∷ bitXor (getD t2 2 0) (at-only3 .only3 .ensures i) ∷ bitXor (getD t2 3 0) (at-only4 .only4 .ensures i)
+    ∷ bitXor (getD t2 4 0) (at-only5 .only5 .ensures i) ∷ bitXor (getD t2 5 0) (at-only6 .only6 .ensures i)
+    ∷ bitXor (getD t2 6 0) (at-only7 .only7 .ensures i) ∷ bitXor (getD t2 7 0) (c .only8 .ensures i) ∷ [])
+    ∙ (let at-only4 = c .before .before .before .before in
+    let args = at-only4 .before .before .before .before .args in
+    seed-corrected (args .t2) (args .t3) (search needs) (search needs) (odd (args .flag)))
 
 pub corrected-spec : {M : Type 1} → statement M
 corrected-spec =

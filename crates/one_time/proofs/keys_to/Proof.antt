@@ -36,7 +36,8 @@ returns c =
     let at-copy = at-second .before .before .before in
     let at-first = at-copy .before .before .before in
     let start = at-first .before in
-    sixteen (start .args .key .now) (at-first .eight-keys .result) _ _ (start .args .a) (start .args .b) (start .args .count) refl (at-first .eight-keys .ensures) (at-copy .copy .ensures) _ _
+    sixteen (start .args .key .now) (at-first .eight-keys .result) _ _ (start .args .a) (start .args .b)
+    (start .args .count) refl (at-first .eight-keys .ensures) (at-copy .copy .ensures) _ _
     (at-second .eight-keys2 .ensures) (at-copy2 .copy2 .ensures) (start .pre)
 
 returns-2 : tie.Need-returns-2
@@ -44,7 +45,8 @@ returns-2 c =
     let at-copy = c .before .before in
     let at-first = at-copy .before .before .before in
     let start = at-first .before in
-    first-eight (start .args .key .now) (at-first .eight-keys .result) _ _ (start .args .a) (start .args .b) (start .args .count) refl (at-first .eight-keys .ensures) (at-copy .copy .ensures) (omega arith)
+    first-eight (start .args .key .now) (at-first .eight-keys .result) _ _ (start .args .a) (start .args .b)
+    (start .args .count) refl (at-first .eight-keys .ensures) (at-copy .copy .ensures) (omega arith)
 
 pub keys-to-spec : {M : Type 1} → statement M
 keys-to-spec =

@@ -28,7 +28,8 @@ loop-less : tie.Need-loop-less Inv-loop μ-loop
 loop-less c = search needs
 
 loop-again : tie.Need-loop-again Inv-loop μ-loop
-loop-again c = (search needs, rounds-more 4 _ _ _ _ (c .before .before .before .loop .inv .1) (c .double-rounds .ensures))
+loop-again c =
+    (search needs, rounds-more 4 _ _ _ _ (c .before .before .before .loop .inv .1) (c .double-rounds .ensures))
 
 add-words-requires : tie.Need-add-words-requires Inv-loop μ-loop
 add-words-requires c κs = search needs
@@ -36,7 +37,8 @@ add-words-requires c κs = search needs
 returns : tie.Need-returns Inv-loop μ-loop
 returns c =
     let done : c .before .before .before .before .loop .i ≡ 10 = omega arith in
-    ap (rows 4) (c .add-words .ensures) ∙ added-rows 4 _ _ (rw done at (c .before .before .before .before .loop .inv .1))
+    ap (rows 4) (c .add-words .ensures)
+    ∙ added-rows 4 _ _ (rw done at (c .before .before .before .before .loop .inv .1))
 
 pub four-blocks-spec : {M : Type 1} → statement M
 four-blocks-spec =

@@ -29,7 +29,8 @@ loop-less : tie.Need-loop-less Inv-loop μ-loop
 loop-less c = search needs
 
 loop-again : tie.Need-loop-again Inv-loop μ-loop
-loop-again c = (c .step .ensures .0, absorbed-more _ _ _ _ _ (c .before .before .loop .inv .1) (omega arith) (c .step .ensures .1))
+loop-again c =
+    (c .step .ensures .0, absorbed-more _ _ _ _ _ (c .before .before .loop .inv .1) (omega arith) (c .step .ensures .1))
 
 returns : tie.Need-returns Inv-loop μ-loop
 returns c = (c .before .loop .inv .0, absorbed-all _ _ _ _ _ (c .before .loop .inv .1) (omega arith))

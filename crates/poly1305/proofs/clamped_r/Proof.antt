@@ -54,7 +54,8 @@ returns c =
           (at1 .wide2 .ensures .0 ∙ at1 .before .clamped .ensures)
           (at2 .wide3 .ensures .0 ∙ at2 .before .clamped2 .ensures)
           (at3 .wide4 .ensures .0 ∙ at3 .before .clamped3 .ensures)
-          (at0 .before .load .ensures) (at1 .before .before .load2 .ensures) (at2 .before .before .load3 .ensures) (at3 .before .before .load4 .ensures),
+          (at0 .before .load .ensures) (at1 .before .before .load2 .ensures)
+          (at2 .before .before .load3 .ensures) (at3 .before .before .load4 .ensures),
     )
 
 pub clamped-r-spec : {M : Type 1} → statement M

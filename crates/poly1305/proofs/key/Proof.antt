@@ -23,8 +23,14 @@ returns c =
     let at3 = c .before .before in
     let at2 = at3 .before .before in
     let at1 = at2 .before .before in
-    let r = at1 .before .before .clamped-r .ensures in
-    (r .0, (r .1, s-law _ (c .before .load-arg4 .given .0) (at1 .load .ensures) (at2 .load2 .ensures) (at3 .load3 .ensures) (c .load4 .ensures)))
+    let r = at1 .before .before .clamped-r .ensures in (
+      r .0,
+      (
+        r .1,
+        s-law _ (c .before .load-arg4 .given .0) (at1 .load .ensures)
+            (at2 .load2 .ensures) (at3 .load3 .ensures) (c .load4 .ensures),
+      ),
+    )
 
 pub key-spec : {M : Type 1} → statement M
 key-spec =

@@ -19,8 +19,11 @@ returns : tie.Need-returns
 returns c =
     let block = c .before .before .before in
     let plus = c .before .before in
-    let multiply = c .before in
-    (c .reduce .ensures .0, step-is _ _ (block .block .ensures .1) (plus .plus .ensures .1) (multiply .multiply .ensures .1) (c .reduce .ensures .1))
+    let multiply = c .before in (
+      c .reduce .ensures .0,
+      step-is _ _ (block .block .ensures .1) (plus .plus .ensures .1)
+          (multiply .multiply .ensures .1) (c .reduce .ensures .1),
+    )
 
 pub step-spec : {M : Type 1} → statement M
 step-spec =

@@ -71,7 +71,10 @@ returns c =
     let c3 = c4 .before in
     let c2 = c3 .before in
     let c1 = c2 .before in
-    λ i. c1 .add .ensures i ∷ c2 .add2 .ensures i ∷ c3 .add3 .ensures i ∷ c4 .add4 .ensures i ∷ c5 .add5 .ensures i ∷ c6 .add6 .ensures i ∷ c7 .add7 .ensures i ∷ c8 .add8 .ensures i ∷ c9 .add9 .ensures i ∷ c10 .add10 .ensures i ∷ c11 .add11 .ensures i ∷ c12 .add12 .ensures i ∷ c13 .add13 .ensures i ∷ c14 .add14 .ensures i ∷ c15 .add15 .ensures i ∷ c16 .add16 .ensures i ∷ []
+    λ i. c1 .add .ensures i ∷ c2 .add2 .ensures i ∷ c3 .add3 .ensures i ∷ c4 .add4 .ensures i
+    ∷ c5 .add5 .ensures i ∷ c6 .add6 .ensures i ∷ c7 .add7 .ensures i ∷ c8 .add8 .ensures i
+    ∷ c9 .add9 .ensures i ∷ c10 .add10 .ensures i ∷ c11 .add11 .ensures i ∷ c12 .add12 .ensures i
+    ∷ c13 .add13 .ensures i ∷ c14 .add14 .ensures i ∷ c15 .add15 .ensures i ∷ c16 .add16 .ensures i ∷ []
 
 pub add-states-spec : {M : Type 1} → statement M
 add-states-spec =

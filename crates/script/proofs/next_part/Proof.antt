@@ -9,7 +9,9 @@ use Rattle.script.proofs.next_part.Statement.{statement}
 use Rattle.script.proofs.next_part.Tie as tie
 
 abbrev Inv-loop : tie.InvT-loop
-Inv-loop text from mark start end₀ end = (start ≤ end) × (end ≤ length text) × (start ≡ min from (length text)) × ((k : ℕ) → k < end → start ≤ k → getD text k 0 ≡ mark → ⊥)
+Inv-loop text from mark start end₀ end =
+    (start ≤ end) × (end ≤ length text) × (start ≡ min from (length text))
+    × ((k : ℕ) → k < end → start ≤ k → getD text k 0 ≡ mark → ⊥)
 
 abbrev μ-loop : tie.MeasureT-loop
 μ-loop text from mark start end₀ end = length text - end
@@ -30,13 +32,25 @@ loop-less : tie.Need-loop-less Inv-loop μ-loop
 loop-less c = search needs
 
 loop-again : tie.Need-loop-again Inv-loop μ-loop
-loop-again c = (search needs, search needs, search needs, below-more _ _ (c .before .before .before .loop .inv .3) (λ low. c .if1 .left))
+loop-again c = (
+  search needs,
+  search needs,
+  search needs,
+  below-more _ _ (c .before .before .before .loop .inv .3) (λ low. c .if1 .left),
+)
 
 add-t6 : tie.Need-add-t6 Inv-loop μ-loop
 add-t6 c = search needs
 
 returns : tie.Need-returns Inv-loop μ-loop
-returns c = record { starts = search needs; ordered = search needs; within = search needs; follows = refl; unmarked = c .before .loop .inv .3; marked = λ l. ⊎-elim (λ w. absurd (omega arith)) (λ w. w .2 .taken) (c .loop-test .came) }
+returns c = record {
+  starts = search needs;
+  ordered = search needs;
+  within = search needs;
+  follows = refl;
+  unmarked = c .before .loop .inv .3;
+  marked = λ l. ⊎-elim (λ w. absurd (omega arith)) (λ w. w .2 .taken) (c .loop-test .came);
+}
 
 pub next-part-spec : {M : Type 1} → statement M
 next-part-spec =

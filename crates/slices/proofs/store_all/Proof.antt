@@ -9,7 +9,8 @@ use Rattle.slices.proofs.store_all.Statement.{statement}
 use Rattle.slices.proofs.store_all.Tie as tie
 
 abbrev Inv-loop : tie.InvT-loop
-Inv-loop out₀ at w i₀ out i = (i ≤ length w) × (out ≡ over at (bytesOf (tab (λ i. getD w i 0) i)) out₀) × (length out ≡ length out₀)
+Inv-loop out₀ at w i₀ out i =
+    (i ≤ length w) × (out ≡ over at (bytesOf (tab (λ i. getD w i 0) i)) out₀) × (length out ≡ length out₀)
 
 abbrev μ-loop : tie.MeasureT-loop
 μ-loop out₀ at w i₀ out i = length w - i
@@ -41,7 +42,13 @@ loop-less c = search needs
 
 loop-again : tie.Need-loop-again Inv-loop μ-loop
 loop-again c =
-    (search needs, over-word (λ i. getD (c .before .before .before .before .before .before .before .before .before .args .w .now) i 0) _ _ _ _ _ (c .before .before .before .before .before .before .loop .inv .1) (c .before .before .store .ensures), search needs)
+    let at-store = c .before .before in
+    let at-loop = at-store .before .before .before .before in
+    let start = at-loop .before .before .before in (
+      search needs,
+      over-word (λ i. getD (start .args .w .now) i 0) _ _ _ _ _ (at-loop .loop .inv .1) (at-store .store .ensures),
+      search needs,
+    )
 
 same-length : tie.Need-same-length Inv-loop μ-loop
 same-length c = search needs
@@ -49,7 +56,8 @@ same-length c = search needs
 returns : tie.Need-returns Inv-loop μ-loop
 returns c =
     let all : c .before .loop .i ≡ length (c .before .before .before .before .args .w .now) = omega arith in
-    rw all at (c .before .loop .inv .1) ∙ ap (λ l. over (c .before .before .before .before .args .at) (bytesOf l) (c .before .before .before .before .args .out .now)) (tab-getD (c .before .before .before .before .args .w .now))
+    rw all at (c .before .loop .inv .1) ∙ ap (λ l. over (c .before .before .before .before .args .at) (bytesOf l)
+    (c .before .before .before .before .args .out .now)) (tab-getD (c .before .before .before .before .args .w .now))
 
 pub store-all-spec : {M : Type 1} → statement M
 store-all-spec =

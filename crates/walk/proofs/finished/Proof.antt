@@ -29,7 +29,9 @@ returns c =
     let at-only = at-add2 .before in
     let at-add = at-only .before in
     let start = at-add .before .before in
-    c .by-sign .ensures ∙ ap (bySign (odd (start .args .party))) (at-add2 .add2 .ensures ∙ ap₂ add (at-add .add .ensures) (at-only .only .ensures))
+    c .by-sign .ensures
+    ∙ ap (bySign (odd (start .args .party)))
+    (at-add2 .add2 .ensures ∙ ap₂ add (at-add .add .ensures) (at-only .only .ensures))
 
 pub finished-spec : {M : Type 1} → statement M
 finished-spec =

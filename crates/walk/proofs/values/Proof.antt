@@ -8,7 +8,8 @@ use Rattle.walk.proofs.values.Tie as tie
 
 abbrev Inv-loop : tie.InvT-loop
 Inv-loop key party u v corrections w₀ i₀ w i =
-    (i ≤ 32) × (asWalk (w .a) ≡ walkOf party key (w₀ .a .seed) u i) × (asWalk (w .b) ≡ walkOf party key (w₀ .a .seed) v i)
+    (i ≤ 32) × (asWalk (w .a) ≡ walkOf party key (w₀ .a .seed) u i)
+    × (asWalk (w .b) ≡ walkOf party key (w₀ .a .seed) v i)
 
 abbrev μ-loop : tie.MeasureT-loop
 μ-loop key party u v corrections w₀ i₀ w i = 32 - i

@@ -12,7 +12,8 @@ sub-requires c κs = search needs
 
 returns : tie.Need-returns
 returns c =
-    masked _ (c .before .args .x) _ (c .sub .ensures ∙ ap (sub 0) (and-mask (c .before .args .flag) 1 ∙ sym (only-odd (c .before .args .flag)))) (search needs)
+    masked _ (c .before .args .x) _ (c .sub .ensures
+    ∙ ap (sub 0) (and-mask (c .before .args .flag) 1 ∙ sym (only-odd (c .before .args .flag)))) (search needs)
 
 pub only-spec : {M : Type 1} → statement M
 only-spec = tie.close (tie.spec sub-requires returns)
