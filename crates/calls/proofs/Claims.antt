@@ -1,10 +1,16 @@
--- Demand 3, whole: no wrong report, no reuse, always answered, never stuck, can be ended, can be dropped, not empty. Assumes nothing.
-use mathlib.Core.Path.{sym, ap, subst, _∙_}
+-- Demand 3, whole: no wrong report, no reuse, always answered, never stuck, can be ended, can be dropped, not empty,
+-- and what the verdict is. Assumes nothing.
+use mathlib.Core.Path.{_≡_, sym, ap, subst, _∙_}
+use mathlib.Core.Bool.{Bool, true, cond}
 use mathlib.Core.List.{List, [], _∷_}
-use Prim.Native.Nat.{ℕ}
+use Prim.Native.Nat.{ℕ, _<_}
+use borrow.Author.Tests.{lt-ltb}
+use Rattle.measure.specs.declared.Terms.{Terms}
+use Rattle.measure.specs.Measure.{isCode}
+use Rattle.measure.specs.Laws.{any-length, reached-plain}
 use Rattle.dealing.specs.Dealing.{Deal}
 use Rattle.calls.specs.Lists.{Box, Starts, Started, beginning, Call, camera, office, joined, after, events, history, Admissible}
-use Rattle.calls.specs.Demand.{openSets, nothingMade, Answered, Free, NoWrongReport, NoReuse, AlwaysAnswered, NeverStuck, CanEnd, CanDrop, NotEmpty, Demand3}
+use Rattle.calls.specs.Demand.{openSets, nothingMade, Answered, Free, NoWrongReport, NoReuse, AlwaysAnswered, NeverStuck, CanEnd, CanDrop, NotEmpty, VerdictIs, Demand3}
 use Rattle.calls.proofs.Once.{single}
 use Rattle.calls.proofs.History.{look, in-deals, in-vectors}
 use Rattle.calls.proofs.Invariant.{Inv, starts, door-long}
@@ -66,11 +72,22 @@ can-drop s f cs a b o =
     let (e, n) = dropped-then s h (after (beginning s) cs) (always s f cs a) b o in
     (ap (λ x. x ∷ h) e, ap (λ x. openSets b (x ∷ h)) e ∙ n)
 
+coded : (terms : Terms) → terms .code < 3 → isCode (terms .code) ≡ true
+unfolding isCode
+coded terms h = lt-ltb _ _ h
+
 not-empty : NotEmpty
 unfolding NotEmpty
-not-empty =
-    (λ s f cs a n terms small coded long F. examples n terms small coded long can-end s f cs a F, some-starts)
+not-empty = (
+  λ s f cs a n terms small c some most F.
+      examples n terms small (coded terms c) (any-length terms some most) can-end s f cs a F,
+  some-starts,
+)
+
+verdict-is : VerdictIs
+unfolding VerdictIs
+verdict-is d x y = ap (λ (b : Bool). cond b 1 0) (reached-plain (d .terms) _ _)
 
 pub demand-3 : Demand3
 unfolding Demand3
-demand-3 = (no-wrong-report, no-reuse, always-answered, never-stuck, can-end, can-drop, not-empty)
+demand-3 = (no-wrong-report, no-reuse, always-answered, never-stuck, can-end, can-drop, not-empty, verdict-is)

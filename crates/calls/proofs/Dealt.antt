@@ -10,7 +10,6 @@ use Rattle.algebra.specs.Bit.{only}
 use Rattle.words.specs.List.{length-tab}
 use Rattle.measure.specs.declared.Terms.{Terms}
 use Rattle.measure.specs.Measure.{isCode, lengthFits, allInRange, thresholdFits, ownWord, carried}
-use Rattle.measure.specs.Laws.{length-fits}
 use Rattle.share.specs.Share.{plus, answer, share}
 use Rattle.share.specs.Share as Share
 use Rattle.content.specs.declared.Set.{Set}
@@ -45,9 +44,7 @@ pub record Sound (d : Deal) : Type 0 where
   pub threshold-fits : thresholdFits (d .terms) (d .t) ≡ true
 
 pub set-proper : (d : Deal) (b : Box) → Sound d → Proper (setOf d b)
-set-proper d b k =
-    let long = length-fits (d .terms) (k .length-fits) in
-    proper d (partyOf b) (k .number-fits) (k .code-fits) (long .0) (long .1) (party-fits b)
+set-proper d b k = proper d (partyOf b) (k .number-fits) (k .code-fits) (k .length-fits) (party-fits b)
 
 -- a box's masked vector and own
 abbrev pub maskOf : Deal → Box → List ℕ → List ℕ

@@ -12,13 +12,10 @@ use lib.ListN.{length, getD}
 use Rattle.algebra.specs.Bit.{both}
 use Rattle.words.specs.List.{same}
 use Rattle.measure.specs.Measure.{isCode, lengthFits}
-use Rattle.measure.specs.Laws.{any-length}
 use Rattle.messages.specs.declared.Label.{Label}
 use Rattle.messages.specs.Messages.{unless, ifTaken}
 use Rattle.messages.specs.Laws.{passed}
-use Rattle.content.specs.Content.{field, setIn, contentFits, noSet}
-use Rattle.content.specs.Content as Content
-use Rattle.content.specs.Laws as ContentLaws
+use Rattle.content.specs.Content.{nameField, partyField, field, setIn, contentFits, noSet}
 use Rattle.half.specs.Half.{whyNot, whyNotOpened, setNumber, openedSet}
 use Rattle.dealer.specs.declared.Dealer.{Dealer}
 use Rattle.dealer.specs.Dealer as DealerCalls
@@ -186,12 +183,11 @@ content-fits : (name : List ℕ) (party count m : ℕ) (c : List ℕ) → conten
     → isCode (setIn m c .terms .code) && lengthFits (setIn m c .terms) ≡ true
 unfolding contentFits setIn
 content-fits name party count m c e =
-    let named = both (same (field c 0) name) _ e in
-    let owned = both (eqb (getD (field c 1) 0 0) party) _ (named .1) in
+    let named = both (same (field c nameField) name) _ e in
+    let owned = both (eqb (getD (field c partyField) 0 0) party) _ (named .1) in
     let coded = both (isCode (setIn m c .terms .code)) _ (owned .1) in
-    let long = both (Content.lengthFits (setIn m c .terms .n)) _ (coded .1) in
-    let n = ContentLaws.length-fits (setIn m c .terms .n) (long .0) in
-    ap₂ _&&_ (coded .0) (any-length (setIn m c .terms) (n .0) (n .1))
+    let long = both (lengthFits (setIn m c .terms)) _ (coded .1) in
+    ap₂ _&&_ (coded .0) (long .0)
 
 opened-fits : (key name : List ℕ) (party last : ℕ) (x : List ℕ) → whyNot key name party last x ≡ 0
     → isCode (openedSet key x .terms .code) && lengthFits (openedSet key x .terms) ≡ true

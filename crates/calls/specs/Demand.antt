@@ -1,4 +1,4 @@
--- Demand 3 (01, "A door's list of calls"): what a list's accepted calls were, and the seven claims over every list.
+-- Demand 3 (01, "A door's list of calls"): what a list's accepted calls were, and the eight claims: over every list, and what the verdict is.
 -- No proof stands here. Assumes nothing.
 use mathlib.Core.Path.{_≡_}
 use mathlib.Core.Bool.{Bool, true, false, cond}
@@ -7,6 +7,7 @@ use mathlib.Core.Logic.{_⊎_}
 use Prim.Native.Nat.{ℕ, suc, _+_, _-_, _^_, _<_, _≤_}
 use lib.Dec.{eqb}
 use lib.ListN.{length}
+use lib.Signed.{leZ}
 use Rattle.algebra.specs.Word.{signed}
 use Rattle.measure.specs.declared.Terms.{Terms}
 use Rattle.measure.specs.Measure.{measure, reached, isCode, lengthFits, allInRange, thresholdFits}
@@ -220,7 +221,8 @@ Answered d v (finish b m) x = (a : ℕ) × (x ≡ sent b (d .number) (answer a))
 Answered d v (drop b) x = ⊥
 Answered d v (join m n) x = x ≡ joined (d .number) (verdict d (v camera) (v office))
 
--- "In range means that code, lengths, output buffers, threshold and elements are as refusals 2, 4, 5 and 8 ask"
+-- "In range means that code, lengths, output buffers, threshold and elements are as refusals 2, 4, 5 and 8 ask" (the
+-- buffers stand in `Ready`)
 pub record InRange (d : Deal) (v : Box → List ℕ) : Type 0 where
   pub number-fits : d .number < 2 ^ 64
   pub code-fits : isCode (d .terms .code) ≡ true
@@ -295,14 +297,20 @@ pub record Example (s : Starts) (cs : List Call) (n : ℕ) (terms : Terms) (bit 
   pub says : verdict d (v camera) (v office) ≡ bit
 
 -- after every admissible list that leaves no set open, under every number that is free, for every measure and length:
--- one run says 1 and one says 0; and there are accepted starts, with every number from 1 on free
+-- one run says 1 and one says 0; and there are accepted starts, with number 1 free
 unfoldable pub NotEmpty : Type 0
 NotEmpty = ((s : Starts) → Started s → (cs : List Call) → Admissible s cs → (n : ℕ) (terms : Terms) → n < 2 ^ 64
-    → isCode (terms .code) ≡ true → lengthFits terms ≡ true → Free s (history s cs) n
+    → terms .code < 3 → 1 ≤ terms .n → terms .n ≤ 512 → Free s (history s cs) n
     → Example s cs n terms 1 × Example s cs n terms 0)
     × ((s : Starts) × Started s × Free s [] 1)
+
+-- ---- what the verdict is
+
+-- "Reached means measure ≥ T, for all three": the lock is to say 1 there, and 0 everywhere else
+unfoldable pub VerdictIs : Type 0
+VerdictIs = (d : Deal) (x y : List ℕ) → verdict d x y ≡ cond (leZ (signed (d .t)) (measure (d .terms) x y)) 1 0
 
 -- ---- demand 3, whole
 
 unfoldable pub Demand3 : Type 0
-Demand3 = NoWrongReport × NoReuse × AlwaysAnswered × NeverStuck × CanEnd × CanDrop × NotEmpty
+Demand3 = NoWrongReport × NoReuse × AlwaysAnswered × NeverStuck × CanEnd × CanDrop × NotEmpty × VerdictIs

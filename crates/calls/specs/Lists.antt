@@ -6,8 +6,8 @@ use mathlib.Core.List.{List, [], _∷_}
 use Prim.Native.Nat.{ℕ, _/_, _^_, _<_}
 use lib.ListN.{length}
 use Rattle.messages.specs.declared.Label.{Label}
-use Rattle.messages.specs.Messages.{vectorKind, wordKind, answerKind, ifTaken, padded}
-use Rattle.content.specs.Content.{part}
+use Rattle.messages.specs.Messages.{cameraParty, officeParty, vectorKind, wordKind, answerKind, ifTaken, padded}
+use Rattle.content.specs.Content.{blockBytes, part}
 use Rattle.half.specs.Half.{blockAt, setNumber}
 use Rattle.dealer.specs.declared.Dealer.{Dealer}
 use Rattle.dealer.specs.declared.DealerAnswer.{DealerAnswer}
@@ -28,8 +28,8 @@ pub data Box : Type 0 where
   camera office : Box
 
 abbrev pub partyOf : Box → ℕ
-partyOf camera = 0
-partyOf office = 1
+partyOf camera = cameraParty
+partyOf office = officeParty
 
 abbrev pub other : Box → Box
 other camera = office
@@ -97,7 +97,7 @@ pub data Call : Type 0 where
   -- party 0's answer and party 1's
   join : Message ℕ → Message ℕ → Call
 
--- what an accepted call 2, 3 or 4 sends: the vector handed in and the masked vector, a word, an answer
+-- what an accepted call 2, 3 or 4 sends, and for call 2 the vector handed in before it: a masked vector, a word, an answer
 pub data Body : Type 0 where
   vector : List ℕ → List ℕ → Body
   word : ℕ → Body
@@ -196,7 +196,7 @@ Fits (join m n) = Unit {0}
 
 -- "Each whole block of 512 bytes handed to a load equals one that an earlier accepted deal of the list wrote for that box"
 abbrev pub Written : List Event → Box → List ℕ → Type 0
-Written e b block = (d : Deal) × (f : Box → List ℕ) × In (dealt d f) e × (i : ℕ) × (i < length (f b) / 512) × (block ≡ blockAt (f b) i)
+Written e b block = (d : Deal) × (f : Box → List ℕ) × In (dealt d f) e × (i : ℕ) × (i < length (f b) / blockBytes) × (block ≡ blockAt (f b) i)
 
 -- "A message of the kind the call takes, under this door's padded name, was sent earlier in the list, with the same sender, number and content. Any other message is free":
 -- S b n content says that box b sent it under n
@@ -214,7 +214,7 @@ SentAnswer e b n content = In (sent b n (answer content)) e
 
 abbrev pub Admits : List ℕ → List Event → Call → Type 0
 Admits door e (deal d out0 out1) = Unit {0}
-Admits door e (load b h) = (i : ℕ) → i < length h / 512 → Written e b (blockAt h i)
+Admits door e (load b h) = (i : ℕ) → i < length h / blockBytes → Written e b (blockAt h i)
 Admits door e (mask b v out) = Unit {0}
 Admits door e (take b m) = Sent door vectorKind (SentVector e) m
 Admits door e (finish b m) = Sent door wordKind (SentWord e) m

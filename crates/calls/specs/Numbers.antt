@@ -26,7 +26,7 @@ pub record Numbers (s : Starts) (h : List Event) (w : World) : Type 0 where
   pub deals-rise : Rise (s .dealerFloor) (map (λ d. d .number) (collect dealsIn h))
   pub loads-rise : (b : Box) → Rise (s .boxFloor b) (collect (loadsBy b) h)
   pub joins-rise : Rise (s .lockFloor) (collect joinsIn h)
-  -- a box has one set open or none, and at phase 0 none
+  -- a box has one set open or none; at phase 0, and only there, none
   pub one-open : (b : Box) → openSets b h ≤ 1
   pub none-open : (b : Box) → (w .box b .check .phase ≡ idlePhase) ↔ (openSets b h ≡ 0)
   -- "Drop ends the open set", and is refused 3 "with no open set"

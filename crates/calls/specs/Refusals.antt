@@ -3,6 +3,7 @@
 use mathlib.Core.Path.{_≡_}
 use mathlib.Core.List.{List, [], _∷_}
 use Prim.Native.Nat.{ℕ}
+use Rattle.messages.specs.Messages.{cameraParty, officeParty}
 use Rattle.dealer.specs.Dealer as DealerCalls
 use Rattle.party.specs.Party as BoxCalls
 use Rattle.calls.specs.Lists.{World, Call, deal, load, mask, take, finish, drop, join, refused, step}
@@ -20,7 +21,7 @@ lent (join m n) = []
 -- the same buffers after it, by the definitions that the contracts name: "each lent byte afterwards can be worked out"
 abbrev pub lentAfter : World → Call → List (List ℕ)
 lentAfter w (deal d out0 out1) =
-    DealerCalls.dealOut (w .dealer) d out0 out1 0 ∷ DealerCalls.dealOut (w .dealer) d out0 out1 1 ∷ []
+    DealerCalls.dealOut (w .dealer) d out0 out1 cameraParty ∷ DealerCalls.dealOut (w .dealer) d out0 out1 officeParty ∷ []
 lentAfter w (load b h) = []
 lentAfter w (mask b v out) = BoxCalls.maskOut (w .box b) v out ∷ []
 lentAfter w (take b m) = []

@@ -1,11 +1,11 @@
 -- What a half holds (01, "The sealed half"): the plain content of a set for a party, as a list of fields in order, and
--- the set read back from it. A field more is a name for its place, its width, its bytes, and where it is read back. Bytes
--- are numbers below 256. Assumes nothing.
+-- the set read back from it. A field more is a name for its place, its width, its bytes, and where it is read back.
+-- Bytes are numbers below 256. Assumes nothing.
 use mathlib.Core.Path.{_≡_}
 use mathlib.Core.Bool.{Bool, true, _&&_}
 use mathlib.Core.List.{List, [], _∷_, _++_, map}
-use Prim.Native.Nat.{ℕ, zero, suc, _+_, _*_, _-_, _/_, _^_, _<_, _≤_}
-use lib.Dec.{eqb, leb, ltb}
+use Prim.Native.Nat.{ℕ, zero, suc, _+_, _*_, _-_, _/_, _^_, _<_}
+use lib.Dec.{eqb, ltb}
 use lib.ListN.{length, getD, take, drop, replicate}
 use Rattle.words.specs.Numbers.{bytes, number}
 use Rattle.words.specs.List.{same, flat}
@@ -13,16 +13,12 @@ use Rattle.words.specs.Bytes.{le32, bytesOf, wordAt, wordsAt}
 use Rattle.node.specs.declared.Correction.{Correction}
 use Rattle.node.specs.declared.Key.{Key}
 use Rattle.measure.specs.declared.Terms.{Terms}
-use Rattle.measure.specs.Measure.{isCode}
+use Rattle.measure.specs.Measure.{mostElements, isCode, lengthFits}
 use Rattle.content.specs.declared.Set.{Set}
 
 -- n elements of a list, from `at` on
 unfoldable pub part : ℕ → ℕ → List ℕ → List ℕ
 part at n l = take n (drop at l)
-
--- the most elements of a vector, and so the places of an array of its words (01, "Forms by place": "fixed arrays of 512 words")
-abbrev pub mostElements : ℕ
-mostElements = 512
 
 -- "A block is 512 bytes", "484 sealed bytes" among them; "a half 3 to 16 whole blocks"; and what all these hold
 abbrev pub blockBytes : ℕ
@@ -37,7 +33,7 @@ mostBlocks = 16
 abbrev pub roomBytes : ℕ
 roomBytes = mostBlocks * textBytes
 
--- an array of a vector's words, "zero-filled past L"
+-- an array of a vector's words (01, "Forms by place"): "fixed arrays of 512 words, zero-filled past L"
 unfoldable pub fill : List ℕ → List ℕ
 fill l = l ++ replicate (mostElements - length l) 0
 
@@ -47,9 +43,9 @@ fill l = l ++ replicate (mostElements - length l) 0
 unfoldable pub correctionBytes : Correction → List ℕ
 correctionBytes c = bytesOf (c .seed) ++ (le32 (c .word) ++ (c .flags ∷ []))
 
--- "name (16 bytes, zero after its end), party, measure code, L (2 bytes, little-endian), own mask (L words), the party's
--- share of X's mask, then of Y's (L words each), its c and r words, key seed, 32 corrections of 37 bytes (..), final
--- word": each field by its place among them, ..
+-- "name (16 bytes, zero after its end), party, measure code, L (2 bytes, little-endian), own mask (L words), the
+-- party's share of X's mask, then of Y's (L words each), its c and r words, key seed, 32 corrections of 37 bytes (..),
+-- final word": each field by its place among them, ..
 abbrev pub nameField : ℕ
 nameField = 0
 
@@ -186,9 +182,6 @@ noSet =
 
 -- ---- 01's eleventh refusal: "Opened content has another name or party, a code, L or flag byte out of range, a block count that doesn't fit L, or non-zero fill"
 
-unfoldable pub lengthFits : ℕ → Bool
-lengthFits n = leb 1 n && leb n mostElements
-
 unfoldable pub flagsFit : List Correction → Bool
 flagsFit [] = true
 flagsFit (c ∷ l) = ltb (c .flags) 4 && flagsFit l
@@ -204,7 +197,7 @@ contentFits name party count b =
     same (field b nameField) name
     && (eqb (getD (field b partyField) 0 0) party
     && (isCode (terms .code)
-    && (lengthFits (terms .n)
+    && (lengthFits terms
     && (eqb (blockCount (terms .n)) count
     && (flagsFit (keyIn b .corrections) && zeros (drop (size (terms .n)) b))))))
 
@@ -229,8 +222,7 @@ FlagBytes l = (i : ℕ) → i < length l → getD l i noCorrection .flags < 256
 pub record Proper (s : Set) : Type 0 where
   pub number-fits : s .number < 2 ^ 64
   pub code-fits : isCode (s .terms .code) ≡ true
-  pub some : 1 ≤ s .terms .n
-  pub most : s .terms .n ≤ mostElements
+  pub length-fits : lengthFits (s .terms) ≡ true
   pub masked : Filled (s .terms .n) (s .mask)
   pub x-filled : Filled (s .terms .n) (s .x)
   pub y-filled : Filled (s .terms .n) (s .y)

@@ -1,10 +1,10 @@
 -- A set that was laid out is read back, and its plain content fits. Assumes nothing.
 use mathlib.Core.Path.{_≡_, refl, sym, ap, ap₂, _∙_, subst}
-use mathlib.Core.Bool.{true, _&&_}
+use mathlib.Core.Bool.{Bool, true, _&&_}
 use mathlib.Core.List.{List, [], _∷_, _++_, map, append-nil}
 use Prim.Native.Nat.{ℕ, zero, suc, _+_, _*_, _-_, _^_, _<_, _≤_}
 use native.Mathlib.Omega.{arith}
-use borrow.Author.Tests.{eq-eqb, eqb-true, le-leb, leb-true, lt-ltb}
+use borrow.Author.Tests.{eq-eqb, eqb-true, lt-ltb}
 use lib.Dec.{eqb}
 use lib.ListN.{length, getD, take, drop, replicate, length-append, length-replicate, length-map}
 use lib.Seq.{take-at, drop-at, take-suc, take-all, getD-take, getD-drop, take-append-add}
@@ -13,16 +13,20 @@ use Rattle.words.specs.Numbers.{bytes, number}
 use Rattle.words.specs.List.{over, same, same-refl, drop-replicate, over-zeros, flat}
 use Rattle.words.specs.Bytes.{le32, bytesOf, wordAt, wordsAt, length-bytesOf}
 use Rattle.node.specs.declared.Correction.{Correction}
-use Rattle.measure.specs.Measure.{isCode}
-use Rattle.measure.specs.Laws.{code-lt}
+use Rattle.node.specs.declared.Key.{Key}
+use Rattle.measure.specs.declared.Terms.{Terms}
+use Rattle.measure.specs.Measure.{mostElements, isCode, lengthFits}
+use Rattle.measure.specs.Laws.{code-lt, length-fits}
 use Rattle.content.specs.declared.Set.{Set}
-use Rattle.content.specs.Content.{mostElements, textBytes, mostBlocks, roomBytes, part, fill, correctionBytes}
-use Rattle.content.specs.Content.{nameField, partyField, codeField, lengthField, maskField, xField, yField, cField, rField, seedField, correctionsField, lastField}
-use Rattle.content.specs.Content.{fields, widths, sumFirst, offset, width, size, blockCount, plain, lengthIn, field, termsIn}
-use Rattle.content.specs.Content.{correctionIn, correctionsIn, keyIn, setIn, noCorrection, lengthFits, flagsFit, zeros, contentFits}
+use Rattle.content.specs.Content.{textBytes, mostBlocks, roomBytes, part, fill, correctionBytes}
+use Rattle.content.specs.Content.{nameField, partyField, codeField, lengthField, maskField, xField, yField}
+use Rattle.content.specs.Content.{cField, rField, seedField, correctionsField, lastField}
+use Rattle.content.specs.Content.{fields, widths, sumFirst, offset, width, size, blockCount, plain}
+use Rattle.content.specs.Content.{lengthIn, field, termsIn, correctionIn, correctionsIn, keyIn, setIn}
+use Rattle.content.specs.Content.{noCorrection, flagsFit, zeros, contentFits}
 use Rattle.content.specs.Content.{Words, Filled, Corrections, FlagBytes, Proper}
-use Rattle.content.specs.Pieces.{sumFirst-suc, length-flat, piece-at, part-flat, take-replicate, wordAt-past, getD-past}
-use Rattle.content.specs.Pieces.{length-even, wordsAt-bytesOf, words-back, wordAt-le32}
+use Rattle.content.specs.Pieces.{sumFirst-suc, length-flat, piece-at, part-flat, take-replicate}
+use Rattle.content.specs.Pieces.{wordAt-past, getD-past, length-even, wordsAt-bytesOf, words-back, wordAt-le32}
 
 -- ---- sizes
 
@@ -49,21 +53,19 @@ pub size-le : (n : ℕ) → size n ≤ textBytes * blockCount n
 unfolding blockCount
 size-le n = omega (arith, size-is n)
 
-pub length-fits : (n : ℕ) → lengthFits n ≡ true → (1 ≤ n) × (n ≤ mostElements)
-unfolding lengthFits
-length-fits n h =
-    let parts = both _ _ h in
-    (leb-true _ _ (parts .0), leb-true _ _ (parts .1))
-
 -- ---- an array of n words
 
 -- n words and the rest of an array of zeros ..
-pub fill-rest : (l a : List ℕ) (n : ℕ) → length l ≡ n → n ≤ mostElements → a ≡ replicate mostElements 0 → l ++ drop n a ≡ fill l
+pub fill-rest : (l a : List ℕ) (n : ℕ) → length l ≡ n → n ≤ mostElements → a ≡ replicate mostElements 0
+    → l ++ drop n a ≡ fill l
 unfolding fill
-fill-rest l a n e h ea = ap (λ (r : List ℕ). l ++ r) (ap (drop n) ea ∙ drop-replicate n mostElements h ∙ ap (λ (k : ℕ). replicate (mostElements - k) 0) (sym e))
+fill-rest l a n e h ea =
+    ap (λ (r : List ℕ). l ++ r)
+    (ap (drop n) ea ∙ drop-replicate n mostElements h ∙ ap (λ (k : ℕ). replicate (mostElements - k) 0) (sym e))
 
 -- .. and written over its start
-pub fill-over : (l a : List ℕ) (n : ℕ) → length l ≡ n → n ≤ mostElements → a ≡ replicate mostElements 0 → over 0 l a ≡ fill l
+pub fill-over : (l a : List ℕ) (n : ℕ) → length l ≡ n → n ≤ mostElements → a ≡ replicate mostElements 0
+    → over 0 l a ≡ fill l
 unfolding fill
 fill-over l a n e h ea = over-zeros l a (length l) mostElements refl (omega arith) ea
 
@@ -132,7 +134,8 @@ zeros-replicate (suc k) = zeros-replicate k
 
 -- ---- L is read from two bytes, the last before the vectors
 
-pub lengthIn-bytes : (b : List ℕ) → lengthIn b ≡ getD b (offset 0 lengthField) 0 + 256 * getD b (offset 0 lengthField + 1) 0
+pub lengthIn-bytes : (b : List ℕ)
+    → lengthIn b ≡ getD b (offset 0 lengthField) 0 + 256 * getD b (offset 0 lengthField + 1) 0
 unfolding lengthIn offset width widths sumFirst part number
 lengthIn-bytes b =
     let at = offset 0 lengthField in
@@ -155,103 +158,148 @@ lengthIn-take k b h =
 -- ---- plain content
 
 module _ (name : List ℕ) (party : ℕ) (s : Set) (named : length name ≡ 16) (p : Proper s) where
-  vector : (a : List ℕ) → Filled (s .terms .n) a → length (bytesOf (take (s .terms .n) a)) ≡ 4 * s .terms .n
-  vector a f = length-bytesOf (take (s .terms .n) a) ∙ ap (λ (k : ℕ). 4 * k) (words-filled (s .terms .n) a f .long)
+  abbrev n : ℕ
+  n = s .terms .n
 
-  lengths : map length (fields name party s) ≡ widths (s .terms .n)
+  -- the bytes of its fields, and the zeros after them
+  abbrev laid : List ℕ
+  laid = flat (fields name party s)
+
+  abbrev rest : List ℕ
+  rest = replicate (textBytes * blockCount n - size n) 0
+
+  bounds : (1 ≤ n) × (n ≤ mostElements)
+  bounds = length-fits (s .terms) (p .length-fits)
+
+  vector : (a : List ℕ) → Filled n a → length (bytesOf (take n a)) ≡ 4 * n
+  vector a f = length-bytesOf (take n a) ∙ ap (λ (k : ℕ). 4 * k) (words-filled n a f .long)
+
+  -- each field has its width
+  lengths : map length (fields name party s) ≡ widths n
   unfolding fields widths bytes le32
   lengths =
+      let cs = s .key .corrections in
       let m = vector (s .mask) (p .masked) in
       let x = vector (s .x) (p .x-filled) in
       let y = vector (s .y) (p .y-filled) in
       let e : length (bytesOf (s .seed)) ≡ 32 = length-bytesOf (s .seed) ∙ omega (arith, p .seed-fits .long) in
-      let c : length (flat (map correctionBytes (s .key .corrections))) ≡ 32 * 37 = length-corrections (s .key .corrections) (p .corrections-fit) ∙ omega (arith, p .levels) in
+      let c : length (flat (map correctionBytes cs)) ≡ 32 * 37 =
+      length-corrections cs (p .corrections-fit) ∙ omega (arith, p .levels) in
       λ k. named k ∷ 1 ∷ 1 ∷ 2 ∷ m k ∷ x k ∷ y k ∷ 4 ∷ 4 ∷ e k ∷ c k ∷ 4 ∷ []
 
-  pub length-fields : length (flat (fields name party s)) ≡ size (s .terms .n)
+  pub length-fields : length laid ≡ size n
   unfolding size fields
   length-fields = length-flat (fields name party s) ∙ ap (λ (ws : List ℕ). sumFirst ws (length ws)) lengths
 
-  pub length-plain : length (plain name party s) ≡ textBytes * blockCount (s .terms .n)
+  pub length-plain : length (plain name party s) ≡ textBytes * blockCount n
   unfolding plain
   length-plain =
-      length-append (flat (fields name party s)) (replicate (textBytes * blockCount (s .terms .n) - size (s .terms .n)) 0)
-      ∙ omega (arith, length-fields, length-replicate {A = ℕ} (textBytes * blockCount (s .terms .n) - size (s .terms .n)) 0, size-le (s .terms .n))
+      length-append laid rest
+      ∙ omega (arith, length-fields, length-replicate {A = ℕ} (textBytes * blockCount n - size n) 0, size-le n)
 
   -- laid out in an array for the most blocks, the plain content is what its own blocks hold
-  pub take-laid : take (textBytes * blockCount (s .terms .n)) (flat (fields name party s) ++ replicate (roomBytes - size (s .terms .n)) 0) ≡ plain name party s
+  pub take-laid : take (textBytes * blockCount n) (laid ++ replicate (roomBytes - size n) 0) ≡ plain name party s
   unfolding plain
   take-laid =
-      let f = flat (fields name party s) in
-      let z : List ℕ = replicate (roomBytes - size (s .terms .n)) 0 in
-      let k = textBytes * blockCount (s .terms .n) - size (s .terms .n) in
-      let e : textBytes * blockCount (s .terms .n) ≡ length f + k = omega (arith, length-fields, size-le (s .terms .n)) in
-      ap (λ (i : ℕ). take i (f ++ z)) e ∙ take-append-add f z k
-      ∙ ap (λ (l : List ℕ). f ++ l) (take-replicate k (roomBytes - size (s .terms .n)) (omega (arith, blocks-bounds (s .terms .n) (p .some) (p .most))))
+      let z : List ℕ = replicate (roomBytes - size n) 0 in
+      let k = textBytes * blockCount n - size n in
+      let e : textBytes * blockCount n ≡ length laid + k = omega (arith, length-fields, size-le n) in
+      let few = blocks-bounds n (bounds .0) (bounds .1) in
+      ap (λ (i : ℕ). take i (laid ++ z)) e ∙ take-append-add laid z k
+      ∙ ap (λ (l : List ℕ). laid ++ l) (take-replicate k (roomBytes - size n) (omega (arith, few)))
 
-  drop-plain : drop (size (s .terms .n)) (plain name party s) ≡ replicate (textBytes * blockCount (s .terms .n) - size (s .terms .n)) 0
+  drop-plain : drop (size n) (plain name party s) ≡ rest
   unfolding plain
-  drop-plain = drop-at (flat (fields name party s)) (replicate (textBytes * blockCount (s .terms .n) - size (s .terms .n)) 0) (size (s .terms .n)) length-fields
+  drop-plain = drop-at laid rest (size n) length-fields
 
   -- what stands where a field's bytes do
-  piece-plain : (f : ℕ) → part (offset (s .terms .n) f) (width (s .terms .n) f) (plain name party s) ≡ getD (fields name party s) f []
+  piece-plain : (f : ℕ) → part (offset n f) (width n f) (plain name party s) ≡ getD (fields name party s) f []
   unfolding plain offset width
   piece-plain f =
-      let n = s .terms .n in
-      let fill : List ℕ = replicate (textBytes * blockCount n - size n) 0 in
-      ap (λ (ws : List ℕ). part (sumFirst ws f) (getD ws f 0) (flat (fields name party s) ++ fill)) (sym lengths)
-      ∙ piece-at (fields name party s) fill f
+      ap (λ (ws : List ℕ). part (sumFirst ws f) (getD ws f 0) (laid ++ rest)) (sym lengths)
+      ∙ piece-at (fields name party s) rest f
 
-  pub lengthIn-plain : lengthIn (plain name party s) ≡ s .terms .n
+  pub lengthIn-plain : lengthIn (plain name party s) ≡ n
   unfolding lengthIn offset width widths sumFirst fields bytes number
-  lengthIn-plain = ap number (piece-plain lengthField) ∙ omega (arith, p .most)
+  lengthIn-plain = ap number (piece-plain lengthField) ∙ omega (arith, bounds .1)
 
   pub field-plain : (f : ℕ) → field (plain name party s) f ≡ getD (fields name party s) f []
   unfolding field
-  field-plain f = ap (λ (n : ℕ). part (offset n f) (width n f) (plain name party s)) lengthIn-plain ∙ piece-plain f
+  field-plain f =
+      ap (λ (m : ℕ). part (offset m f) (width m f) (plain name party s)) lengthIn-plain ∙ piece-plain f
 
-  array : (i : ℕ) (a : List ℕ) → getD (fields name party s) i [] ≡ bytesOf (take (s .terms .n) a) → Filled (s .terms .n) a → fill (wordsAt (lengthIn (plain name party s)) (field (plain name party s) i)) ≡ a
-  array i a e f = ap₂ (λ (n : ℕ) (b : List ℕ). fill (wordsAt n b)) lengthIn-plain (field-plain i ∙ e) ∙ fill-filled (s .terms .n) a f
+  array : (f : ℕ) (a : List ℕ) → getD (fields name party s) f [] ≡ bytesOf (take n a) → Filled n a
+      → fill (wordsAt (lengthIn (plain name party s)) (field (plain name party s) f)) ≡ a
+  array f a e h =
+      ap₂ (λ (m : ℕ) (b : List ℕ). fill (wordsAt m b)) lengthIn-plain (field-plain f ∙ e) ∙ fill-filled n a h
 
-  word : (i x : ℕ) → getD (fields name party s) i [] ≡ le32 x → x < 2 ^ 32 → wordAt (field (plain name party s) i) 0 ≡ x
-  word i x e h = ap (λ (b : List ℕ). wordAt b 0) (field-plain i ∙ e ∙ sym (append-nil (le32 x))) ∙ wordAt-le32 x [] h
+  word : (f x : ℕ) → getD (fields name party s) f [] ≡ le32 x → x < 2 ^ 32 → wordAt (field (plain name party s) f) 0 ≡ x
+  word f x e h =
+      ap (λ (b : List ℕ). wordAt b 0) (field-plain f ∙ e ∙ sym (append-nil (le32 x))) ∙ wordAt-le32 x [] h
 
-  corrections : correctionsIn (field (plain name party s) correctionsField) 32 ≡ s .key .corrections
-  unfolding fields
-  corrections =
+  terms : termsIn (plain name party s) ≡ s .terms
+  unfolding termsIn fields
+  terms =
+      let code = ap (λ (b : List ℕ). getD b 0 0) (field-plain codeField) in
+      λ k. record { code = code k; n = lengthIn-plain k }
+
+  key : keyIn (plain name party s) ≡ s .key
+  unfolding keyIn fields
+  key =
+      let cs = s .key .corrections in
+      let corrections =
       ap (λ (b : List ℕ). correctionsIn b 32) (field-plain correctionsField)
-      ∙ corrections-back (s .key .corrections) (p .corrections-fit) 32 (omega (arith, p .levels))
-      ∙ take-all 32 (s .key .corrections) (omega (arith, p .levels))
+      ∙ corrections-back cs (p .corrections-fit) 32 (omega (arith, p .levels))
+      ∙ take-all 32 cs (omega (arith, p .levels)) in
+      let last = word lastField (s .key .last) refl (p .last-fits) in
+      λ k. record { corrections = corrections k; last = last k }
 
   -- what was laid out is read back
   pub setIn-plain : setIn (s .number) (plain name party s) ≡ s
-  unfolding setIn termsIn keyIn fields
+  unfolding setIn fields
   setIn-plain =
-      let code = ap (λ (b : List ℕ). getD b 0 0) (field-plain codeField) in
-      let n = lengthIn-plain in
       let mask = array maskField (s .mask) refl (p .masked) in
       let x = array xField (s .x) refl (p .x-filled) in
       let y = array yField (s .y) refl (p .y-filled) in
       let c = word cField (s .c) refl (p .c-fits) in
       let r = word rField (s .r) refl (p .r-fits) in
       let seed = ap (wordsAt 8) (field-plain seedField) ∙ words-back 8 (s .seed) (p .seed-fits) in
-      let last = word lastField (s .key .last) refl (p .last-fits) in
-      λ k. record { number = s .number; terms = record { code = code k; n = n k }; mask = mask k; x = x k; y = y k; c = c k; r = r k; seed = seed k; key = record { corrections = corrections k; last = last k } }
+      λ k. record {
+        number = s .number;
+        terms = terms k;
+        mask = mask k;
+        x = x k;
+        y = y k;
+        c = c k;
+        r = r k;
+        seed = seed k;
+        key = key k;
+      }
 
   -- and it fits
-  pub fits-plain : contentFits name party (blockCount (s .terms .n)) (plain name party s) ≡ true
-  unfolding contentFits termsIn keyIn lengthFits fields
+  pub fits-plain : contentFits name party (blockCount n) (plain name party s) ≡ true
+  unfolding contentFits fields
   fits-plain =
-      let named : same (field (plain name party s) nameField) name ≡ true = ap (λ (b : List ℕ). same b name) (field-plain nameField) ∙ same-refl name in
-      let owned = eq-eqb (getD (field (plain name party s) partyField) 0 0) party (ap (λ (b : List ℕ). getD b 0 0) (field-plain partyField)) in
-      let code = ap (λ (b : List ℕ). isCode (getD b 0 0)) (field-plain codeField) ∙ p .code-fits in
-      let long = ap lengthFits lengthIn-plain ∙ ap₂ _&&_ (le-leb 1 (s .terms .n) (p .some)) (le-leb (s .terms .n) mostElements (p .most)) in
-      let count = eq-eqb (blockCount (lengthIn (plain name party s))) (blockCount (s .terms .n)) (ap blockCount lengthIn-plain) in
-      let flags = ap flagsFit corrections ∙ flags-fit (s .key .corrections) (p .corrections-fit) in
-      let rest = ap (λ (n : ℕ). zeros (drop (size n) (plain name party s))) lengthIn-plain ∙ ap zeros drop-plain ∙ zeros-replicate (textBytes * blockCount (s .terms .n) - size (s .terms .n)) in
-      ap₂ _&&_ named (ap₂ _&&_ owned (ap₂ _&&_ code (ap₂ _&&_ long (ap₂ _&&_ count (ap₂ _&&_ flags rest)))))
+      let b : List ℕ = plain name party s in
+      let asked : Terms → Bool =
+      λ t. isCode (t .code) && (lengthFits t && (eqb (blockCount (t .n)) (blockCount n)
+      && (flagsFit (keyIn b .corrections) && zeros (drop (size (t .n)) b)))) in
+      let its-name = ap (λ (l : List ℕ). same l name) (field-plain nameField) ∙ same-refl name in
+      let its-party =
+      eq-eqb (getD (field b partyField) 0 0) party (ap (λ (l : List ℕ). getD l 0 0) (field-plain partyField)) in
+      let count = eq-eqb (blockCount n) (blockCount n) refl in
+      let flags =
+      ap (λ (k : Key). flagsFit (k .corrections)) key ∙ flags-fit (s .key .corrections) (p .corrections-fit) in
+      let filled = ap zeros drop-plain ∙ zeros-replicate (textBytes * blockCount n - size n) in
+      ap₂ _&&_ its-name (ap₂ _&&_ its-party (ap asked terms
+      ∙ ap₂ _&&_ (p .code-fits) (ap₂ _&&_ (p .length-fits) (ap₂ _&&_ count (ap₂ _&&_ flags filled)))))
 
 -- ---- what the code asks of its callers
+
+pub few-blocks : (s : Set) → Proper s → (3 ≤ blockCount (s .terms .n)) × (blockCount (s .terms .n) ≤ mostBlocks)
+few-blocks s p =
+    let bounds = length-fits (s .terms) (p .length-fits) in
+    blocks-bounds (s .terms .n) (bounds .0) (bounds .1)
 
 -- lay_out asks of a set what Proper says of it
 pub code-byte : (s : Set) → Proper s → s .terms .code < 256
@@ -261,19 +309,32 @@ pub flag-bytes : (s : Set) → Proper s → FlagBytes (s .key .corrections)
 unfolding FlagBytes Corrections
 flag-bytes s p i h = omega (arith, p .corrections-fit i h .2)
 
--- where content fits, its L does, and as many blocks as that asks for were opened
-pub fits-length : (name : List ℕ) (party count : ℕ) (b : List ℕ) → contentFits name party count b ≡ true → (lengthFits (lengthIn b) ≡ true) × (blockCount (lengthIn b) ≡ count)
+-- where content fits, its terms do, and as many blocks as L asks for were opened
+pub record Tells (count : ℕ) (b : List ℕ) : Type 0 where
+  pub code-fits : isCode (termsIn b .code) ≡ true
+  pub length-fits : lengthFits (termsIn b) ≡ true
+  pub counted : blockCount (lengthIn b) ≡ count
+  pub flags-fit : flagsFit (keyIn b .corrections) ≡ true
+
+pub fits-tells : (name : List ℕ) (party count : ℕ) (b : List ℕ) → contentFits name party count b ≡ true → Tells count b
 unfolding contentFits termsIn
-fits-length name party count b h =
+fits-tells name party count b h =
     let named = both (same (field b nameField) name) _ h in
     let owned = both (eqb (getD (field b partyField) 0 0) party) _ (named .1) in
-    let coded = both (isCode (getD (field b codeField) 0 0)) _ (owned .1) in
-    let range = both (lengthFits (lengthIn b)) _ (coded .1) in
-    (range .0, eqb-true (blockCount (lengthIn b)) count (both (eqb (blockCount (lengthIn b)) count) _ (range .1) .0))
+    let coded = both (isCode (termsIn b .code)) _ (owned .1) in
+    let long = both (lengthFits (termsIn b)) _ (coded .1) in
+    let count-is = both (eqb (blockCount (lengthIn b)) count) _ (long .1) in
+    record {
+      code-fits = coded .0;
+      length-fits = long .0;
+      counted = eqb-true (blockCount (lengthIn b)) count (count-is .0);
+      flags-fit = both (flagsFit (keyIn b .corrections)) _ (count-is .1) .0;
+    }
 
 -- read_set asks of content what contentFits says of it
-pub fits-reads : (name : List ℕ) (party count : ℕ) (b : List ℕ) → contentFits name party count b ≡ true → length b ≡ textBytes * count
-    → (lengthIn b ≤ mostElements) × (size (lengthIn b) ≤ length b)
+pub fits-reads : (name : List ℕ) (party count : ℕ) (b : List ℕ) → contentFits name party count b ≡ true
+    → length b ≡ textBytes * count → (lengthIn b ≤ mostElements) × (size (lengthIn b) ≤ length b)
+unfolding termsIn
 fits-reads name party count b h l =
-    let fits = fits-length name party count b h in
-    (length-fits (lengthIn b) (fits .0) .1, omega (arith, fits .1, size-le (lengthIn b)))
+    let tells = fits-tells name party count b h in
+    (length-fits (termsIn b) (tells .length-fits) .1, omega (arith, tells .counted, size-le (lengthIn b)))

@@ -1,10 +1,11 @@
 -- Lists cut in pieces of given widths, and words read back from their bytes. Assumes nothing.
-use mathlib.Core.Path.{_≡_, refl, sym, ap, ap₂, _∙_, subst}
+use mathlib.Core.Path.{_≡_, refl, sym, ap, _∙_, subst}
 use mathlib.Core.List.{List, [], _∷_, _++_, map, append-assoc, append-nil}
 use Prim.Native.Nat.{ℕ, zero, suc, _+_, _*_, _-_, _^_, _<_, _≤_}
 use native.Mathlib.Omega.{arith}
 use lib.ListN.{length, getD, take, drop, length-append, length-drop, length-replicate, List·getD-append, replicate, replicate-append-replicate}
-use lib.Seq.{take-append-seam, drop-append-add, drop-drop, getD-append-add, getD-take, getD-drop, take-at, drop-at, length-take-le}
+use lib.Seq.{take-append-seam, drop-append-add, drop-drop, getD-append-add, getD-take, getD-drop, take-at, drop-at}
+use lib.Seq.{length-take-le}
 use Rattle.words.specs.List.{tab, tab-ext, tab-getD, flat}
 use Rattle.words.specs.Bytes.{le32, bytesOf, wordAt, wordsAt, length-bytesOf, wordAt-bytesOf}
 use Rattle.content.specs.Content.{part, sumFirst, Words}

@@ -7,7 +7,7 @@ use lib.Dec.{eqb, leb, ltb}
 use lib.ListN.{length, replicate}
 use Rattle.words.specs.List.{over, same}
 use Rattle.measure.specs.Measure.{isCode, lengthFits, thresholdFits}
-use Rattle.messages.specs.Messages.{badName, badPartyOrCode, wrongLength, shortBuffer, wrongNumber, outOfRange, equalKeys, unless, ifTaken, nameFits, padded, isKey}
+use Rattle.messages.specs.Messages.{badName, badPartyOrCode, wrongLength, shortBuffer, wrongNumber, outOfRange, equalKeys, cameraParty, unless, ifTaken, nameFits, padded, isKey}
 use Rattle.content.specs.Content.{blockBytes, blockCount}
 use Rattle.dealing.specs.Dealing.{Deal, dealtSet}
 use Rattle.half.specs.Half.{half}
@@ -46,7 +46,7 @@ whyNotDeal s d room0 room1 =
     (unless (thresholdFits (d .terms) (d .t)) outOfRange 0))))
 
 unfoldable pub keyOf : Dealer → ℕ → List ℕ
-keyOf s party = cond (eqb party 0) (s .key0) (s .key1)
+keyOf s party = cond (eqb party cameraParty) (s .key0) (s .key1)
 
 -- the half that a deal writes for a party
 unfoldable pub halfFor : Dealer → Deal → ℕ → List ℕ
@@ -61,5 +61,5 @@ deal s d room0 room1 =
 -- what it leaves in the two buffers
 unfoldable pub dealOut : Dealer → Deal → List ℕ → List ℕ → ℕ → List ℕ
 dealOut s d out0 out1 party =
-    let out : List ℕ = cond (eqb party 0) out0 out1 in
+    let out : List ℕ = cond (eqb party cameraParty) out0 out1 in
     ifTaken (whyNotDeal s d (length out0) (length out1)) (over 0 (halfFor s d party) out) out

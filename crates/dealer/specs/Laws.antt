@@ -7,11 +7,10 @@ use borrow.Author.Tests.{eqb-true, leb-true, ltb-true}
 use Rattle.algebra.specs.Bit.{both}
 use Rattle.words.specs.List.{same}
 use lib.ListN.{length}
-use Rattle.measure.specs.Measure.{mostElements, isCode, lengthFits, thresholdFits}
+use Rattle.measure.specs.Measure.{isCode, lengthFits, thresholdFits}
 use Rattle.messages.specs.Messages.{nameFits, isKey}
 use Rattle.messages.specs.Laws.{passed}
 use Rattle.content.specs.Content.{Proper}
-use Rattle.measure.specs.Laws as Measures
 use Rattle.dealing.specs.Dealing.{Deal, dealtSet}
 use Rattle.dealing.specs.Laws.{proper}
 use Rattle.dealer.specs.Dealer.{whyNotDealer, halfSize, whyNotDeal}
@@ -39,8 +38,6 @@ pub record DealTells (s : Dealer) (d : Deal) (room0 room1 : ℕ) : Type 0 where
   pub code-fits : isCode (d .terms .code) ≡ true
   pub seeded : length (d .seed) ≡ 32
   pub length-fits : lengthFits (d .terms) ≡ true
-  pub some : 1 ≤ d .terms .n
-  pub most : d .terms .n ≤ mostElements
   pub room-0 : halfSize (d .terms .n) ≤ room0
   pub room-1 : halfSize (d .terms .n) ≤ room1
   pub above : s .last < d .number
@@ -54,14 +51,11 @@ deal-tells s d room0 room1 h =
     let c = passed _ (b .1) in
     let e = passed _ (c .1) in
     let lengths = both _ _ (b .0) in
-    let long = Measures.length-fits (d .terms) (lengths .1) in
     let rooms = both _ _ (c .0) in
     record {
       code-fits = a .0;
       seeded = eqb-true _ _ (lengths .0);
       length-fits = lengths .1;
-      some = long .0;
-      most = long .1;
       room-0 = leb-true _ _ (rooms .0);
       room-1 = leb-true _ _ (rooms .1);
       above = ltb-true _ _ (e .0);
@@ -71,4 +65,4 @@ deal-tells s d room0 room1 h =
 -- what an accepted deal gives each party
 pub dealt-proper : (s : Dealer) (d : Deal) (room0 room1 party : ℕ) → DealTells s d room0 room1 → d .number < 2 ^ 64 → party ≤ 1
     → Proper (dealtSet d party)
-dealt-proper s d room0 room1 party a number low = proper d party number (a .code-fits) (a .some) (a .most) low
+dealt-proper s d room0 room1 party a number low = proper d party number (a .code-fits) (a .length-fits) low

@@ -66,9 +66,12 @@ impl Dealer {
         out0: &mut [u8],
         out1: &mut [u8],
     ) -> DealerAnswer
-        ensures { λ r. ⌜ r ≡ dealOf self (dealFrom number (now (seed .entry)) terms t) (length (now (out0 .entry))) (length (now (out1 .entry))) ⌝ }
-        ensures { λ _. ⌜ now (out0 .exit) ≡ dealOut self (dealFrom number (now (seed .entry)) terms t) (now (out0 .entry)) (now (out1 .entry)) 0 ⌝ }
-        ensures { λ _. ⌜ now (out1 .exit) ≡ dealOut self (dealFrom number (now (seed .entry)) terms t) (now (out0 .entry)) (now (out1 .entry)) 1 ⌝ }
+        ensures { λ r. ⌜ r ≡ dealOf self (dealFrom number (now (seed .entry)) terms t)
+            (length (now (out0 .entry))) (length (now (out1 .entry))) ⌝ }
+        ensures { λ _. ⌜ now (out0 .exit) ≡ dealOut self (dealFrom number (now (seed .entry)) terms t)
+            (now (out0 .entry)) (now (out1 .entry)) 0 ⌝ }
+        ensures { λ _. ⌜ now (out1 .exit) ≡ dealOut self (dealFrom number (now (seed .entry)) terms t)
+            (now (out0 .entry)) (now (out1 .entry)) 1 ⌝ }
     {
         let why = why_not_deal(
             self.last,
@@ -123,7 +126,8 @@ fn why_not_deal(
     room0: usize,
     room1: usize,
 ) -> u32
-    ensures { λ r. ⌜ ((s : Dealer) (seed : List ℕ) → s .last ≡ last → length seed ≡ long → r ≡ whyNotDeal s (dealFrom number seed terms t) room0 room1) ⌝ }
+    ensures { λ r. ⌜ ((s : Dealer) (seed : List ℕ) → s .last ≡ last → length seed ≡ long
+        → r ≡ whyNotDeal s (dealFrom number seed terms t) room0 room1) ⌝ }
 {
     if !measure::is_code(terms.code) {
         return messages::BAD_PARTY_OR_CODE;
@@ -155,8 +159,10 @@ fn write_halves(
     out1: &mut [u8],
 )
     requires { ⌜ whyNotDeal dealer (dealFrom number (now seed) terms t) (length (now out0)) (length (now out1)) ≡ 0 ⌝ }
-    ensures { λ _. ⌜ now (out0 .exit) ≡ over 0 (halfFor dealer (dealFrom number (now (seed .entry)) terms t) 0) (now (out0 .entry)) ⌝ }
-    ensures { λ _. ⌜ now (out1 .exit) ≡ over 0 (halfFor dealer (dealFrom number (now (seed .entry)) terms t) 1) (now (out1 .entry)) ⌝ }
+    ensures { λ _. ⌜ now (out0 .exit)
+        ≡ over 0 (halfFor dealer (dealFrom number (now (seed .entry)) terms t) 0) (now (out0 .entry)) ⌝ }
+    ensures { λ _. ⌜ now (out1 .exit)
+        ≡ over 0 (halfFor dealer (dealFrom number (now (seed .entry)) terms t) 1) (now (out1 .entry)) ⌝ }
 {
     let seed = slices::bytes_32(seed);
     let dealt = dealing::sets(&seed, number, terms, t);

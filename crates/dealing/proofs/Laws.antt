@@ -16,10 +16,12 @@ use Rattle.node.specs.Node.{keyFor}
 use Rattle.measure.specs.declared.Terms.{Terms}
 use Rattle.share.specs.Share.{plus, otherC, otherR}
 use Rattle.content.specs.declared.Set.{Set}
-use Rattle.content.specs.Content.{mostElements, part, fill}
+use Rattle.measure.specs.Measure.{mostElements}
+use Rattle.content.specs.Content.{part, fill}
 use Rattle.content.specs.Laws.{fill-rest, fill-over}
 use Rattle.content.specs.Pieces.{length-part}
-use Rattle.dealing.specs.Dealing.{setWords, x, y, c0, r, r0, keySeed, maskX, maskY, ownMask, cOf, dealFrom, rOf, setFrom}
+use Rattle.dealing.specs.Dealing.{setWords, x, y, c0, r, r0, keySeed, maskX, maskY, ownMask, cOf, dealFrom, rOf}
+use Rattle.dealing.specs.Dealing.{setFrom}
 use Rattle.dealing.specs.Laws.{other-c-fill}
 
 -- ---- copies
@@ -41,10 +43,12 @@ copy-done w out before at i size done e = sym (take-all i out (omega arith)) ∙
 abbrev pub zeros : ℕ → List ℕ
 zeros k = replicate k 0
 
-pub room : (w : List ℕ) (at n : ℕ) → n ≤ mostElements → at + n ≤ length w → at + length (take n (zeros mostElements)) ≤ length w
+pub room : (w : List ℕ) (at n : ℕ) → n ≤ mostElements → at + n ≤ length w
+    → at + length (take n (zeros mostElements)) ≤ length w
 room w at n most fits = omega (arith, length-take-le n (zeros mostElements) most)
 
-pub words-law : (w a out : List ℕ) (at n : ℕ) → a ≡ zeros mostElements → n ≤ mostElements → at + n ≤ length w → out ≡ part at (length (take n a)) w
+pub words-law : (w a out : List ℕ) (at n : ℕ) → a ≡ zeros mostElements → n ≤ mostElements → at + n ≤ length w
+    → out ≡ part at (length (take n a)) w
     → out ++ drop n a ≡ fill (part at n w)
 words-law w a out at n ea most fits e =
     let size : length (take n a) ≡ n = length-take-le n a (omega (arith, ap length ea)) in
@@ -123,7 +127,8 @@ module _ (terms : Terms) where
         → camera ≡ setWith 0 number terms w mx (getD w (4 * n) 0) (getD w (4 * n + 2) 0) key
         → c1 ≡ otherC n mx my (getD w (4 * n) 0) → r1 ≡ otherR terms (getD w (4 * n + 1) 0) t (getD w (4 * n + 2) 0)
         → office ≡ setWith 1 number terms w my c1 r1 key
-        → (seed : List ℕ) → (camera ≡ setFrom (dealFrom number seed terms t) w 0) × (office ≡ setFrom (dealFrom number seed terms t) w 1)
+        → (seed : List ℕ)
+        → (camera ≡ setFrom (dealFrom number seed terms t) w 0) × (office ≡ setFrom (dealFrom number seed terms t) w 1)
     unfolding setFrom ownMask cOf rOf c0 r r0
     sets-law camera office c1 r1 e ec er f seed =
         let first : ℕ = getD w (4 * n) 0 in

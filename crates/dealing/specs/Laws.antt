@@ -18,11 +18,11 @@ use Rattle.keystream.specs.Keystream.{keyWord, stream}
 use Rattle.node.specs.declared.Correction.{Correction}
 use Rattle.node.specs.Bounds.{Below, Fits, take-below, block-below, key-long, key-fits, last-below}
 use Rattle.measure.specs.declared.Terms.{Terms}
-use Rattle.measure.specs.Measure.{isCode, lengthFits, measure, reached, allInRange, thresholdFits, ownWord, carried, ordinaryWidth}
+use Rattle.measure.specs.Measure.{mostElements, isCode, lengthFits, measure, reached, allInRange, thresholdFits, ownWord, carried, ordinaryWidth}
 use Rattle.share.specs.Share.{plus, inner, otherC, otherR, share, boxWord, answer}
 use Rattle.share.specs.Claims.{join-law}
 use Rattle.content.specs.declared.Set.{Set}
-use Rattle.content.specs.Content.{mostElements, part, fill, noCorrection, Words, Filled, Corrections, Proper}
+use Rattle.content.specs.Content.{part, fill, noCorrection, Words, Filled, Corrections, Proper}
 use Rattle.content.specs.Pieces.{length-part}
 use Rattle.dealing.specs.Dealing.{setWords, x, y, c0, r, r0, keySeed, maskX, maskY, ownMask, cOf, Deal, rOf, setFrom, dealtSet}
 
@@ -67,16 +67,15 @@ module _ (d : Deal) (w : List ℕ) (long : length w ≡ 4 * d .terms .n + 19) (b
   abbrev n : ℕ
   n = d .terms .n
 
-  proper-from : (party : ℕ) → d .number < 2 ^ 64 → isCode (d .terms .code) ≡ true → 1 ≤ n → n ≤ mostElements → party ≤ 1
-      → Proper (setFrom d w party)
+  proper-from : (party : ℕ) → d .number < 2 ^ 64 → isCode (d .terms .code) ≡ true → lengthFits (d .terms) ≡ true
+      → party ≤ 1 → Proper (setFrom d w party)
   unfolding setFrom ownMask maskX maskY cOf rOf x y c0 r0 keySeed Filled Corrections otherC otherR
-  proper-from party hnumber hcode hn most hparty =
+  proper-from party hnumber hcode hlength hparty =
       let before : party * n ≤ 1 * n = mul-le-mul-right n hparty in
       record {
         number-fits = hnumber;
         code-fits = hcode;
-        some = hn;
-        most = most;
+        length-fits = hlength;
         masked = (_, either (eqb party 0), refl);
         x-filled = (_, part-words (party * n) n w (omega arith) below, refl);
         y-filled = (_, part-words ((2 + party) * n) n w (omega arith) below, refl);
@@ -100,7 +99,7 @@ module _ (d : Deal) (w : List ℕ) (long : length w ≡ 4 * d .terms .n + 19) (b
       fits f = (record { long = f .seed-long; below = f .seed-below }, f .word-below, f .flags-below)
 
 pub proper : (d : Deal) (party : ℕ) → d .number < 2 ^ 64 → isCode (d .terms .code) ≡ true
-    → 1 ≤ d .terms .n → d .terms .n ≤ mostElements → party ≤ 1 → Proper (dealtSet d party)
+    → lengthFits (d .terms) ≡ true → party ≤ 1 → Proper (dealtSet d party)
 unfolding dealtSet
 proper d party =
     let n = d .terms .n in

@@ -14,8 +14,8 @@ use Rattle.aead.specs.declared.Sealed.{Sealed}
 use Rattle.aead.specs.Aead.{cipher, tagFor, within, sealed, sealedText}
 use Rattle.aead.specs.Claims.{length-cipher}
 use Rattle.content.specs.declared.Set.{Set}
-use Rattle.content.specs.Content.{part, fields, size, blockCount, Proper}
-use Rattle.content.specs.Laws.{blocks-bounds, take-laid}
+use Rattle.content.specs.Content.{textBytes, roomBytes, part, fields, size, blockCount, Proper}
+use Rattle.content.specs.Laws.{few-blocks, take-laid}
 use Rattle.content.specs.Pieces.{length-part}
 use Rattle.one_time.specs.OneTime.{nonceOf}
 use Rattle.half.specs.Half.{header, block, firstBlocks, half}
@@ -108,15 +108,16 @@ firstBlocks-take key p set m (suc k) h l =
     ap₂ (λ (a b : List ℕ). a ++ block key set k b) (firstBlocks-take key p set m k h (omega arith)) front
 
 module _ (key name : List ℕ) (party : ℕ) (s : Set) (named : length name ≡ 16) (p : Proper s) where
-  pub few-blocks : blockCount (s .terms .n) ≤ 16
-  few-blocks = blocks-bounds (s .terms .n) (p .some) (p .most) .1
-
-  pub half-law : (laid out0 out : List ℕ) (count : ℕ) → laid ≡ flat (fields name party s) ++ replicate (7744 - size (s .terms .n)) 0 → length laid ≡ 7744 → count ≡ blockCount (s .terms .n)
+  pub half-law : (laid out0 out : List ℕ) (count : ℕ)
+      → laid ≡ flat (fields name party s) ++ replicate (roomBytes - size (s .terms .n)) 0 → length laid ≡ roomBytes
+      → count ≡ blockCount (s .terms .n)
       → out ≡ over 0 (firstBlocks key (s .number) laid count) out0 → out ≡ over 0 (half key name party s) out0
   unfolding half
   half-law laid out0 out count e size ec eo =
       eo
       ∙ ap (λ (l : List ℕ). over 0 l out0)
       (ap (firstBlocks key (s .number) laid) ec
-      ∙ firstBlocks-take key laid (s .number) (484 * blockCount (s .terms .n)) (blockCount (s .terms .n)) (omega (arith, few-blocks)) (omega arith)
-      ∙ ap (λ (l : List ℕ). firstBlocks key (s .number) l (blockCount (s .terms .n))) (ap (take (484 * blockCount (s .terms .n))) e ∙ take-laid name party s named p))
+      ∙ firstBlocks-take key laid (s .number) (textBytes * blockCount (s .terms .n)) (blockCount (s .terms .n))
+      (omega (arith, few-blocks s p)) (omega arith)
+      ∙ ap (λ (l : List ℕ). firstBlocks key (s .number) l (blockCount (s .terms .n)))
+      (ap (take (textBytes * blockCount (s .terms .n))) e ∙ take-laid name party s named p))

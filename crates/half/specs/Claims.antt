@@ -16,7 +16,8 @@ use Rattle.messages.specs.Laws.{passed}
 use Rattle.content.specs.declared.Set.{Set}
 use Rattle.content.specs.Content.{textBytes, part, blockCount, plain, lengthIn, contentFits, Proper}
 use Rattle.content.specs.Pieces.{part-is, length-part}
-use Rattle.content.specs.Laws.{head-is, fits-length, blocks-bounds, length-plain, lengthIn-plain, lengthIn-take, setIn-plain, fits-plain}
+use Rattle.content.specs.Laws.{head-is, fits-tells, few-blocks, length-plain, lengthIn-plain, lengthIn-take}
+use Rattle.content.specs.Laws.{setIn-plain, fits-plain}
 use Rattle.half.specs.Half.{block, firstBlocks, half, blockAt, setNumber, blockFits, firstFit, openedBlocks, wholeBlocks, whyNotOpened, whyNot, openedSet}
 use Rattle.half.specs.Laws.{length-blocks, block-at, set-of-block, index-of-block, are-fit, are-opened}
 
@@ -47,7 +48,7 @@ module _ (key name : List ℕ) (party : ℕ) (named : length name ≡ 16) where
     are i l = block-at key (s .number) text count i (omega (arith, long)) l
 
     some-blocks : (3 ≤ count) × (count ≤ 16)
-    some-blocks = blocks-bounds (s .terms .n) (p .some) (p .most)
+    some-blocks = few-blocks s p
 
     pub half-number : setNumber (half key name party s) ≡ s .number
     half-number =
@@ -151,7 +152,7 @@ module _ (key name : List ℕ) (party : ℕ) (named : length name ≡ 16) where
           let whole : 484 * k + 484 ≤ length text = omega (arith, length-plain name party s named p, w .among) in
           let at : blockAt h i ≡ block key (s .number) k (part (484 * k) 484 text) = w .is ∙ are s p k (w .among) in
           let size = length-part text (484 * k) 484 whole in
-          let small : k < 2 ^ 32 = omega (arith, w .among, blocks-bounds (s .terms .n) (p .some) (p .most) .1) in (
+          let small : k < 2 ^ 32 = omega (arith, w .among, some-blocks s p .1) in (
             sym (index-of-block key (s .number) k (part (484 * k) 484 text) size small) ∙ ap (λ (b : List ℕ). number (part 8 4 b)) (sym at) ∙ eqb-true _ i (a .0),
             sym (set-of-block key (s .number) k (part (484 * k) 484 text) size (p .number-fits)) ∙ ap (λ (b : List ℕ). number (part 0 8 b)) (sym at) ∙ eqb-true _ (setNumber h) (b .0),
           )
@@ -166,11 +167,15 @@ module _ (key name : List ℕ) (party : ℕ) (named : length name ≡ 16) where
       proper : Proper deal
       proper = sound deal (wrote 0 none .dealt)
 
-      all-its : (i : ℕ) (l : i < length h / 512) → (i < blockCount (deal .terms .n)) × (blockAt h i ≡ block key (deal .number) i (part (484 * i) 484 (plain name party deal)))
+      all-its : (i : ℕ) (l : i < length h / 512)
+          → (i < blockCount (deal .terms .n))
+          × (blockAt h i ≡ block key (deal .number) i (part (484 * i) 484 (plain name party deal)))
       all-its i l =
           let w = wrote i l in
           let same : w .set ≡ deal = one (w .set) deal (w .dealt) (wrote 0 none .dealt) (placed i l .1 ∙ sym (placed 0 none .1)) in
-          let among : i < blockCount (deal .terms .n) = subst (λ (s : Set). i < blockCount (s .terms .n)) same (subst (λ (k : ℕ). k < blockCount (w .set .terms .n)) (placed i l .0) (w .among)) in
+          let among : i < blockCount (deal .terms .n) =
+          subst (λ (s : Set). i < blockCount (s .terms .n)) same
+          (subst (λ (k : ℕ). k < blockCount (w .set .terms .n)) (placed i l .0) (w .among)) in
           (among, w .is ∙ ap₂ (λ (s : Set) (k : ℕ). blockAt (half key name party s) k) same (placed i l .0) ∙ are deal proper i among)
 
       -- as many blocks as it has
@@ -183,8 +188,9 @@ module _ (key name : List ℕ) (party : ℕ) (named : length name ≡ 16) where
           let enough : 484 * k ≤ length text = omega (arith, length-plain name party deal named proper) in
           let opened : openedBlocks key h k ≡ take (484 * k) text = are-opened key (deal .number) text h k enough (λ i l. all-its i l .1) in
           let n : lengthIn (openedBlocks key h k) ≡ deal .terms .n =
-          ap lengthIn opened ∙ lengthIn-take (textBytes * k) text (omega (arith, head-is 0, t .three)) ∙ lengthIn-plain name party deal named proper in
-          let e = fits-length name party k (openedBlocks key h k) (t .content) .1 in
+          ap lengthIn opened ∙ lengthIn-take (textBytes * k) text (omega (arith, head-is 0, t .three))
+          ∙ lengthIn-plain name party deal named proper in
+          let e = fits-tells name party k (openedBlocks key h k) (t .content) .counted in
           sym (sym (ap blockCount n) ∙ e)
 
       is-its : h ≡ half key name party deal

@@ -42,7 +42,9 @@ setNumber h = number (part 0 8 h)
 -- "A block's index is not its place, its number differs from block 0's, or its tag doesn't fit"
 unfoldable pub blockFits : List ℕ → ℕ → ℕ → List ℕ → Bool
 blockFits key set i b =
-    eqb (number (part 8 4 b)) i && (eqb (number (part 0 8 b)) set && opens key (part 0 12 b) (part 0 12 b) (part 12 textBytes b) (part (12 + textBytes) 16 b))
+    let h : List ℕ = part 0 12 b in
+    eqb (number (part 8 4 b)) i
+    && (eqb (number (part 0 8 b)) set && opens key h h (part 12 textBytes b) (part (12 + textBytes) 16 b))
 
 unfoldable pub firstFit : List ℕ → List ℕ → ℕ → Bool
 firstFit key h zero = true
@@ -51,11 +53,13 @@ firstFit key h (suc i) = firstFit key h i && blockFits key (setNumber h) i (bloc
 -- what its first i blocks open to
 unfoldable pub openedBlocks : List ℕ → List ℕ → ℕ → List ℕ
 openedBlocks key h zero = []
-openedBlocks key h (suc i) = openedBlocks key h i ++ cipher key (part 0 12 (blockAt h i)) (part 12 textBytes (blockAt h i))
+openedBlocks key h (suc i) =
+    openedBlocks key h i ++ cipher key (part 0 12 (blockAt h i)) (part 12 textBytes (blockAt h i))
 
 -- "a half 3 to 16 whole blocks"
 unfoldable pub wholeBlocks : List ℕ → Bool
-wholeBlocks h = eqb (length h % blockBytes) 0 && (leb 3 (length h / blockBytes) && leb (length h / blockBytes) mostBlocks)
+wholeBlocks h =
+    eqb (length h % blockBytes) 0 && (leb 3 (length h / blockBytes) && leb (length h / blockBytes) mostBlocks)
 
 -- why whole blocks are turned down, at a box of this key, padded name and party: 10 and 11; 0 if they are not
 unfoldable pub whyNotOpened : List ℕ → List ℕ → ℕ → List ℕ → ℕ

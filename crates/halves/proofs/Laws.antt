@@ -1,31 +1,29 @@
 -- A dealt set can be sealed, and an opened one laid out again. Assumes nothing.
 use mathlib.Core.Path.{_≡_, refl, sym, ap, _∙_, subst}
-use mathlib.Core.Bool.{Bool, true, _&&_}
+use mathlib.Core.Bool.{true}
 use mathlib.Core.List.{List, [], _∷_}
-use lib.Dec.{eqb, leb, ltb}
-use lib.ListN.{getD, drop}
+use lib.Dec.{ltb}
 use Prim.Native.Nat.{ℕ, zero, suc, _^_, _<_, _≤_}
 use native.Mathlib.Omega.{arith}
-use borrow.Author.Tests.{ltb-true, leb-true}
+use borrow.Author.Tests.{ltb-true}
 use Rattle.algebra.specs.Bit.{both}
-use Rattle.words.specs.List.{same}
 use Rattle.node.specs.declared.Correction.{Correction}
-use Rattle.measure.specs.Measure.{isCode}
-use Rattle.measure.specs.Laws.{code-lt}
+use Rattle.measure.specs.Measure.{mostElements, isCode, lengthFits}
+use Rattle.measure.specs.Laws.{code-lt, length-fits}
 use Rattle.messages.specs.Laws.{passed, taken}
 use Rattle.content.specs.declared.Set.{Set}
-use Rattle.content.specs.Content.{mostElements, nameField, partyField, size, blockCount, field, termsIn, keyIn, setIn, noSet}
-use Rattle.content.specs.Content.{lengthFits, flagsFit, zeros, contentFits, FlagBytes, Proper}
+use Rattle.content.specs.Content.{termsIn, keyIn, setIn, noSet, flagsFit, contentFits, FlagBytes, Proper}
+use Rattle.content.specs.Laws.{fits-tells}
 use Rattle.dealing.specs.Dealing.{Deal, dealtSet}
 use Rattle.dealing.specs.Laws.{proper}
 use Rattle.opening.specs.declared.Examined.{Examined}
 use Rattle.half.specs.Half.{whyNot, whyNotOpened, openedSet}
 use Rattle.opening.specs.Examined.{answerFor, examined}
 
-pub dealt-proper : (d : Deal) (party : ℕ) (s : Set) → s ≡ dealtSet d party → d .number < 2 ^ 64 → isCode (d .terms .code) ≡ true
-    → 1 ≤ d .terms .n → d .terms .n ≤ mostElements → party ≤ 1 → Proper s
-dealt-proper d party s e hnumber hcode some most hparty =
-    subst Proper (sym e) (proper d party hnumber hcode some most hparty)
+pub dealt-proper : (d : Deal) (party : ℕ) (s : Set) → s ≡ dealtSet d party → d .number < 2 ^ 64
+    → isCode (d .terms .code) ≡ true → lengthFits (d .terms) ≡ true → party ≤ 1 → Proper s
+dealt-proper d party s e hnumber hcode hlength hparty =
+    subst Proper (sym e) (proper d party hnumber hcode hlength hparty)
 
 -- ---- what laying a set out asks of it
 
@@ -38,24 +36,19 @@ flag-bytes [] h i l = absurd (omega arith)
 flag-bytes (c ∷ cs) h zero l = omega (arith, ltb-true (c .flags) 4 (both (ltb (c .flags) 4) (flagsFit cs) h .0))
 flag-bytes (c ∷ cs) h (suc i) l = flag-bytes cs (both (ltb (c .flags) 4) (flagsFit cs) h .1) i (omega arith)
 
-fits-laid : (name : List ℕ) (party count number : ℕ) (b : List ℕ) → contentFits name party count b ≡ true → Laid (setIn number b)
-unfolding contentFits setIn termsIn keyIn lengthFits
+fits-laid : (name : List ℕ) (party count number : ℕ) (b : List ℕ) → contentFits name party count b ≡ true
+    → Laid (setIn number b)
+unfolding setIn
 fits-laid name party count number b h =
-    let s : Set = setIn number b in
-    let n = s .terms .n in
-    let flags = flagsFit (s .key .corrections) in
-    let t = tests (same (field b nameField) name) (eqb (getD (field b partyField) 0 0) party) (isCode (s .terms .code))
-    (lengthFits n) (eqb (blockCount n) count) flags (zeros (drop (size n) b)) h in
-    let long = both (leb 1 n) (leb n mostElements) (t .1) .1 in
-    (omega (arith, code-lt (s .terms .code) (t .0)), leb-true n mostElements long, flag-bytes (s .key .corrections) (t .2))
-  where
-    tests : (a b c d e f g : Bool) → a && (b && (c && (d && (e && (f && g))))) ≡ true → (c ≡ true) × (d ≡ true) × (f ≡ true)
-    tests a b c d e f g h =
-        let coded : c && (d && (e && (f && g))) ≡ true = both b _ (both a _ h .1) .1 in
-        let long : d && (e && (f && g)) ≡ true = both c _ coded .1 in
-        (both c _ coded .0, both d _ long .0, both f g (both e _ (both d _ long .1) .1) .0)
+    let tells = fits-tells name party count b h in
+    let terms = termsIn b in (
+      omega (arith, code-lt (terms .code) (tells .code-fits)),
+      length-fits terms (tells .length-fits) .1,
+      flag-bytes (keyIn b .corrections) (tells .flags-fit),
+    )
 
-pub opened-laid : (key name : List ℕ) (party last : ℕ) (h : List ℕ) (e : Examined) → e ≡ examined key name party last h → e .why ≡ 0 → Laid (e .set)
+pub opened-laid : (key name : List ℕ) (party last : ℕ) (h : List ℕ) (e : Examined) → e ≡ examined key name party last h
+    → e .why ≡ 0 → Laid (e .set)
 unfolding examined answerFor whyNot whyNotOpened openedSet
 opened-laid key name party last h e same none =
     let why : whyNot key name party last h ≡ 0 = ap (λ (x : Examined). x .why) (sym same) ∙ none in

@@ -2,8 +2,8 @@
 ghost use mathlib.Core.Path.{_≡_};
 ghost use mathlib.Core.Bool.{true};
 ghost use Prim.Native.Nat.{_≤_};
-ghost use Rattle.measure.specs.Measure.{isCode};
-ghost use Rattle.content.specs.Content.{mostElements, mostBlocks, Proper};
+ghost use Rattle.measure.specs.Measure.{isCode, lengthFits};
+ghost use Rattle.content.specs.Content.{mostBlocks, Proper};
 use crate::fields;
 use crate::fields::Half;
 use crate::fields::Holder;
@@ -11,7 +11,6 @@ use content::BLOCK;
 use content::MOST_BLOCKS;
 use content::ROOM;
 use content::Set;
-use measure::MOST_ELEMENTS;
 use measure::Terms;
 
 // Room for one block more than a half may have.
@@ -63,7 +62,7 @@ fn deal_to(b: Holder, set: Set) -> Dealt
 }
 
 fn deal_in_range(b: Holder, seed: [u8; 32], number: u64, terms: Terms, t: u32) -> Dealt
-    requires { ⌜ (b .party ≤ 1) × (isCode (terms .code) ≡ true) × (1 ≤ terms .n) × (terms .n ≤ mostElements) ⌝ }
+    requires { ⌜ (b .party ≤ 1) × (isCode (terms .code) ≡ true) × (lengthFits terms ≡ true) ⌝ }
     ensures { λ r. ⌜ r .blocks ≤ mostBlocks ⌝ }
 {
     let sets = dealing::sets(&seed, number, terms, t);
@@ -79,15 +78,13 @@ fn deal(h: Half) -> Dealt
     let b = h.holder;
     let seed = h.seed;
     let terms = h.terms;
-    if !measure::threshold_fits(terms.code, h.t) {
+    if !measure::threshold_fits(terms, h.t) {
         return not_dealt(b);
     }
     if b.party <= 1 {
         if measure::is_code(terms.code) {
-            if 1 <= terms.n {
-                if terms.n <= MOST_ELEMENTS {
-                    return deal_in_range(b, seed, h.number, terms, h.t);
-                }
+            if measure::length_fits(terms) {
+                return deal_in_range(b, seed, h.number, terms, h.t);
             }
         }
     }

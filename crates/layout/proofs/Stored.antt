@@ -13,7 +13,8 @@ use Rattle.words.specs.Bytes.{le32, bytesOf, length-bytesOf}
 use Rattle.node.specs.declared.Correction.{Correction}
 use Rattle.node.specs.Node.{none}
 use Rattle.content.specs.declared.Set.{Set}
-use Rattle.content.specs.Content.{mostElements, roomBytes, correctionBytes, noCorrection, FlagBytes}
+use Rattle.measure.specs.Measure.{mostElements}
+use Rattle.content.specs.Content.{roomBytes, correctionBytes, noCorrection, FlagBytes}
 use Rattle.content.specs.Content.{xField, yField, cField, fields, widths, sumFirst, offset, size}
 use Rattle.content.specs.Pieces.{getD-any, length-flat, flat-append}
 
@@ -83,10 +84,12 @@ stand-next : (ps : List (List ℕ)) (q z t u : List ℕ) (at : ℕ) → sumFirst
 unfolding flat
 stand-next ps q z t u at l e f =
     next (flat ps) q z t u at (length-flat ps ∙ l) e f
-    ∙ ap (λ (x : List ℕ). over 0 x z) (ap (λ (x : List ℕ). flat ps ++ x) (sym (append-nil q)) ∙ sym (flat-append ps (q ∷ [])))
+    ∙ ap (λ (x : List ℕ). over 0 x z)
+    (ap (λ (x : List ℕ). flat ps ++ x) (sym (append-nil q)) ∙ sym (flat-append ps (q ∷ [])))
 
 -- all that follows the vectors
-pub tail-law : (c r last : ℕ) (seed cs z t₁ t₂ t₃ t₄ u : List ℕ) → length seed ≡ 8 → length cs ≡ 32 * 37 → length z ≡ 1228
+pub tail-law : (c r last : ℕ) (seed cs z t₁ t₂ t₃ t₄ u : List ℕ) → length seed ≡ 8 → length cs ≡ 32 * 37
+    → length z ≡ 1228
     → t₁ ≡ over 0 (le32 c) z → t₂ ≡ over 4 (le32 r) t₁ → t₃ ≡ over 8 (bytesOf seed) t₂ → t₄ ≡ over 40 cs t₃
     → u ≡ over 1224 (le32 last) t₄ → u ≡ flat (le32 c ∷ le32 r ∷ bytesOf seed ∷ cs ∷ le32 last ∷ [])
 unfolding le32 sumFirst
@@ -103,7 +106,8 @@ tail-law c r last seed cs z t₁ t₂ t₃ t₄ u ls lc lz e₁ e₂ e₃ e₄ e
 
 -- the three vectors between a head and a tail, each where its offset says
 module _ (n : ℕ) (h mask x y t z t₁ t₂ t₃ t₄ u : List ℕ) (le : n ≤ mostElements) (lh : length h ≡ 20)
-    (lm : length mask ≡ mostElements) (lx : length x ≡ mostElements) (ly : length y ≡ mostElements) (lt : length t ≡ 1228)
+    (lm : length mask ≡ mostElements) (lx : length x ≡ mostElements) (ly : length y ≡ mostElements)
+    (lt : length t ≡ 1228)
     (ez : z ≡ replicate roomBytes 0) where
   abbrev own : List ℕ
   own = bytesOf (take n mask)
@@ -133,18 +137,33 @@ module _ (n : ℕ) (h mask x y t z t₁ t₂ t₃ t₄ u : List ℕ) (le : n ≤
       let all = length-flat (h ∷ own ∷ of-x ∷ of-y ∷ t ∷ []) in
       p₅ ∙ over-zeros (flat (h ∷ own ∷ of-x ∷ of-y ∷ t ∷ [])) z (size n) roomBytes (omega arith) (omega arith) ez
 
--- all fields of a set
-pub fields-law : (name : List ℕ) (party : ℕ) (s : Set) (h t u rest : List ℕ)
-    → h ≡ flat (name ∷ (party ∷ []) ∷ (s .terms .code ∷ []) ∷ bytes 2 (s .terms .n) ∷ [])
-    → t ≡ flat (le32 (s .c) ∷ le32 (s .r) ∷ bytesOf (s .seed) ∷ flat (map correctionBytes (s .key .corrections)) ∷ le32 (s .key .last) ∷ [])
-    → u ≡ flat (h ∷ bytesOf (take (s .terms .n) (s .mask)) ∷ bytesOf (take (s .terms .n) (s .x)) ∷ bytesOf (take (s .terms .n) (s .y)) ∷ t ∷ []) ++ rest
-    → u ≡ flat (fields name party s) ++ rest
-unfolding fields flat
-fields-law name party s h t u rest eh et eu =
-    let n = s .terms .n in
-    let before : List (List ℕ) = name ∷ (party ∷ []) ∷ (s .terms .code ∷ []) ∷ bytes 2 n ∷ [] in
-    let vectors : List ℕ → List ℕ = λ l. bytesOf (take n (s .mask)) ++ (bytesOf (take n (s .x)) ++ (bytesOf (take n (s .y)) ++ l)) in
-    let past : List (List ℕ) = le32 (s .c) ∷ le32 (s .r) ∷ bytesOf (s .seed) ∷ flat (map correctionBytes (s .key .corrections)) ∷ le32 (s .key .last) ∷ [] in
-    eu ∙ ap₂ (λ (a b : List ℕ). (a ++ vectors (b ++ [])) ++ rest) eh et
-    ∙ ap (λ (l : List ℕ). (flat before ++ vectors l) ++ rest) (append-nil (flat past))
-    ∙ ap (λ (l : List ℕ). l ++ rest) (sym (flat-append before (bytesOf (take n (s .mask)) ∷ bytesOf (take n (s .x)) ∷ bytesOf (take n (s .y)) ∷ past)))
+-- all fields of a set: those before the vectors, the vectors, and those past them
+module _ (name : List ℕ) (party : ℕ) (s : Set) where
+  abbrev n : ℕ
+  n = s .terms .n
+
+  abbrev before : List (List ℕ)
+  before = name ∷ (party ∷ []) ∷ (s .terms .code ∷ []) ∷ bytes 2 n ∷ []
+
+  abbrev own-mask : List ℕ
+  own-mask = bytesOf (take n (s .mask))
+
+  abbrev share-x : List ℕ
+  share-x = bytesOf (take n (s .x))
+
+  abbrev share-y : List ℕ
+  share-y = bytesOf (take n (s .y))
+
+  abbrev past : List (List ℕ)
+  past =
+      le32 (s .c) ∷ le32 (s .r) ∷ bytesOf (s .seed) ∷ flat (map correctionBytes (s .key .corrections))
+      ∷ le32 (s .key .last) ∷ []
+
+  pub fields-law : (h t u rest : List ℕ) → h ≡ flat before → t ≡ flat past
+      → u ≡ flat (h ∷ own-mask ∷ share-x ∷ share-y ∷ t ∷ []) ++ rest → u ≡ flat (fields name party s) ++ rest
+  unfolding fields flat
+  fields-law h t u rest eh et eu =
+      let vectors : List ℕ → List ℕ = λ l. own-mask ++ (share-x ++ (share-y ++ l)) in
+      eu ∙ ap₂ (λ (a b : List ℕ). (a ++ vectors (b ++ [])) ++ rest) eh et
+      ∙ ap (λ (l : List ℕ). (flat before ++ vectors l) ++ rest) (append-nil (flat past))
+      ∙ ap (λ (l : List ℕ). l ++ rest) (sym (flat-append before (own-mask ∷ share-x ∷ share-y ∷ past)))

@@ -1,4 +1,5 @@
--- The lock (01, "One check at a box"): why a start or a join is turned down, the next state, and what it reports, for any state and anything handed in. Assumes nothing.
+-- The lock (01, "One check at a box" and "When a call is turned down"): why a start or a join is turned down, the next
+-- state, and what it reports, for any state and anything handed in. Assumes nothing.
 use mathlib.Core.Bool.{_&&_}
 use mathlib.Core.List.{List}
 use Prim.Native.Nat.{ℕ}

@@ -17,8 +17,8 @@ abbrev pub mostElements : ℕ
 mostElements = 512
 
 -- 01's table, a row for each code. `squares`: own is the sum of squares, else 0. An element lies from `low` to `high`,
--- a threshold from `least` to `most`. A vector has at most `longest` elements. `sign`: 1 where a set opens measure - T,
--- and -1 where it opens T - measure.
+-- a threshold from `least` to `most`. Two columns more: a vector has at most `longest` elements; `sign` is 1 where a set
+-- opens measure - T, and would be -1 where it opened T - measure.
 pub record Row : Type 0 where
   pub squares : Bool
   pub k : ℤ
@@ -44,16 +44,16 @@ columns squares k low high least most longest sign =
     }
 
 unfoldable pub scalarProduct : Row
-scalarProduct = columns false (pos 1) (negℤ (pos 1024)) (pos 1023) (negℤ (pos (2 ^ 30))) (pos (2 ^ 30)) 512 (pos 1)
+scalarProduct = columns false (pos 1) (negℤ (pos 1024)) (pos 1023) (negℤ (pos (2 ^ 30))) (pos (2 ^ 30)) mostElements (pos 1)
 
 unfoldable pub squaredEuclid : Row
-squaredEuclid = columns true (negℤ (pos 2)) (negℤ (pos 1024)) (pos 1023) (pos 0) (pos (2 ^ 31 - 1)) 512 (pos 1)
+squaredEuclid = columns true (negℤ (pos 2)) (negℤ (pos 1024)) (pos 1023) (pos 0) (pos (2 ^ 31 - 1)) mostElements (pos 1)
 
 unfoldable pub hamming : Row
-hamming = columns true (negℤ (pos 2)) (pos 0) (pos 1) (pos 0) (pos 513) 512 (pos 1)
+hamming = columns true (negℤ (pos 2)) (pos 0) (pos 1) (pos 0) (pos 513) mostElements (pos 1)
 
--- 01's table, column "code". A code above 2 reads as 2: such a code is refused before anything is read here (01, "When
--- a call is turned down", 2).
+-- 01's table, column "code". A code above 2 reads as 2: no accepted call has one (01, "When a call is turned down", 2, 3
+-- and 11).
 unfoldable pub row : ℕ → Row
 row zero = scalarProduct
 row (suc zero) = squaredEuclid
@@ -133,8 +133,7 @@ ownWord terms v = cond (row (terms .code) .squares) (sum (λ i. mul (getD v i 0)
 unfoldable pub carried : Terms → ℕ → List ℕ → List ℕ
 carried terms party v = v
 
--- the width of the interval that an ordinary set answers for: what it opens lies from 0 to this if the threshold is
--- reached
+-- the width of the interval that a set answers for: what it opens lies from 0 to this just if the threshold is reached
 abbrev pub ordinaryWidth : ℕ
 ordinaryWidth = 2 ^ 31 - 1
 

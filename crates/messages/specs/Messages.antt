@@ -70,7 +70,7 @@ padded s = s ++ replicate (16 - length s) 0
 
 -- ---- messages
 
--- "its kind (0 masked vector, 1 word, 2 answer)"
+-- "one byte: 0 masked vector, 1 word, 2 answer"
 abbrev pub vectorKind : ℕ
 vectorKind = 0
 
@@ -91,7 +91,7 @@ officeParty = 1
 unfoldable pub expected : ℕ → List ℕ → ℕ → Label → List ℕ → Bool
 expected kind door sender l name = eqb (l .kind) kind && (same name door && eqb (l .sender) sender)
 
--- 4: "a message's name 16"
+-- 4: "message name 16"
 unfoldable pub isName : List ℕ → Bool
 isName name = eqb (length name) 16
 

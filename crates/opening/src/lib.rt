@@ -50,8 +50,10 @@ fn is_headed(b: &[u8], number: u64, i: u32) -> bool
 fn open_text(key: &[u8; 32], once: &[u8; 32], b: &[u8], out: &mut [u8]) -> bool
     requires { ⌜ (length (now b) ≡ blockBytes) × (length (now out) ≡ textBytes) ⌝ }
     requires { ⌜ now once ≡ polyKey (now key) (part 0 12 (now b)) ⌝ }
-    ensures { λ r. ⌜ r ≡ opens (now (key .entry)) (part 0 12 (now (b .entry))) (part 0 12 (now (b .entry))) (part 12 textBytes (now (b .entry))) (part (12 + textBytes) 16 (now (b .entry))) ⌝ }
-    ensures { λ r. ⌜ (r ≡ true → now (out .exit) ≡ cipher (now (key .entry)) (part 0 12 (now (b .entry))) (part 12 textBytes (now (b .entry)))) ⌝ }
+    ensures { λ r. ⌜ r ≡ opens (now (key .entry)) (part 0 12 (now (b .entry))) (part 0 12 (now (b .entry)))
+        (part 12 textBytes (now (b .entry))) (part (12 + textBytes) 16 (now (b .entry))) ⌝ }
+    ensures { λ r. ⌜ (r ≡ true → now (out .exit)
+        ≡ cipher (now (key .entry)) (part 0 12 (now (b .entry))) (part 12 textBytes (now (b .entry)))) ⌝ }
 {
     let mut nonce = [0u8; 12];
     slices::copy(&mut nonce, 0, &b[0..12]);
@@ -75,7 +77,8 @@ fn open_block(
     requires { ⌜ (length (now b) ≡ blockBytes) × (length (now out) ≡ textBytes) ⌝ }
     requires { ⌜ now once ≡ polyKey (now key) (header number i) ⌝ }
     ensures { λ r. ⌜ r ≡ blockFits (now (key .entry)) number i (now (b .entry)) ⌝ }
-    ensures { λ r. ⌜ (r ≡ true → now (out .exit) ≡ cipher (now (key .entry)) (part 0 12 (now (b .entry))) (part 12 textBytes (now (b .entry)))) ⌝ }
+    ensures { λ r. ⌜ (r ≡ true → now (out .exit)
+        ≡ cipher (now (key .entry)) (part 0 12 (now (b .entry))) (part 12 textBytes (now (b .entry)))) ⌝ }
 {
     if !is_headed(b, number, i) {
         return false;
@@ -86,7 +89,8 @@ fn open_block(
 // Whether the first `count` blocks of h are those of the set; where they are, their text is opened
 // into out.
 fn open_blocks(key: &[u8; 32], number: u64, count: usize, h: &[u8], out: &mut [u8]) -> bool
-    requires { ⌜ (count ≤ mostBlocks) × (blockBytes * count ≤ length (now h)) × (length (now out) ≡ textBytes * count) × (number ≡ setNumber (now h)) ⌝ }
+    requires { ⌜ (count ≤ mostBlocks) × (blockBytes * count ≤ length (now h))
+        × (length (now out) ≡ textBytes * count) × (number ≡ setNumber (now h)) ⌝ }
     ensures { λ r. ⌜ r ≡ firstFit (now (key .entry)) (now (h .entry)) count ⌝ }
     ensures { λ r. ⌜ (r ≡ true → now (out .exit) ≡ openedBlocks (now (key .entry)) (now (h .entry)) count) ⌝ }
 {
@@ -110,7 +114,8 @@ fn open_blocks(key: &[u8; 32], number: u64, count: usize, h: &[u8], out: &mut [u
 }
 
 fn is_whole(bytes: usize) -> bool
-    ensures { λ r. ⌜ r ≡ eqb (bytes % blockBytes) 0 && (leb 3 (bytes / blockBytes) && leb (bytes / blockBytes) mostBlocks) ⌝ }
+    ensures { λ r. ⌜ r ≡ eqb (bytes % blockBytes) 0
+        && (leb 3 (bytes / blockBytes) && leb (bytes / blockBytes) mostBlocks) ⌝ }
 {
     (bytes % BLOCK == 0) & ((3 <= bytes / BLOCK) & (bytes / BLOCK <= MOST_BLOCKS))
 }
@@ -139,7 +144,8 @@ fn open_whole(
     h: &[u8],
     text: &mut [u8],
 ) -> Examined
-    requires { ⌜ (3 ≤ length (now h) / blockBytes) × (length (now h) / blockBytes ≤ mostBlocks) × (number ≡ setNumber (now h)) × (length (now text) ≡ textBytes * (length (now h) / blockBytes)) ⌝ }
+    requires { ⌜ (3 ≤ length (now h) / blockBytes) × (length (now h) / blockBytes ≤ mostBlocks)
+        × (number ≡ setNumber (now h)) × (length (now text) ≡ textBytes * (length (now h) / blockBytes)) ⌝ }
     ensures { λ r. ⌜ r ≡ answerFor (whyNotOpened (now (key .entry)) name party (now (h .entry))) (now (key .entry)) (now (h .entry)) ⌝ }
 {
     let count = h.len() / BLOCK;
@@ -164,7 +170,8 @@ fn open_within(
     h: &[u8],
     room: [u8; ROOM],
 ) -> Examined
-    requires { ⌜ (3 ≤ length (now h) / blockBytes) × (length (now h) / blockBytes ≤ mostBlocks) × (number ≡ setNumber (now h)) ⌝ }
+    requires { ⌜ (3 ≤ length (now h) / blockBytes) × (length (now h) / blockBytes ≤ mostBlocks)
+        × (number ≡ setNumber (now h)) ⌝ }
     ensures { λ r. ⌜ r ≡ answerFor (whyNotOpened (now (key .entry)) name party (now (h .entry))) (now (key .entry)) (now (h .entry)) ⌝ }
 {
     let mut text = room;

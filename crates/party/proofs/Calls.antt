@@ -10,7 +10,7 @@ use lib.ListN.{length, replicate}
 use Rattle.algebra.specs.Bit.{both}
 use Rattle.algebra.specs.Word.{add}
 use Rattle.words.specs.List.{over, length-tab}
-use Rattle.measure.specs.Measure.{isCode, lengthFits, allInRange, ownWord, carried, ordinaryWidth}
+use Rattle.measure.specs.Measure.{mostElements, isCode, lengthFits, allInRange, ownWord, carried, ordinaryWidth}
 use Rattle.measure.specs.Laws.{length-fits}
 use Rattle.share.specs.Share as Share
 use Rattle.share.specs.Share.{plus}
@@ -58,7 +58,7 @@ after-turn : {a b : Bool} (rest : ℕ) → a ≡ b → unless a outOfTurn rest �
 after-turn rest e = ap (λ (t : Bool). unless t outOfTurn rest) e
 
 -- an open set's length fits an array
-open-most : (k : ℕ) (s : Party) → inTurn (suc k) s ≡ true → s .check .set .terms .n ≤ 512
+open-most : (k : ℕ) (s : Party) → inTurn (suc k) s ≡ true → s .check .set .terms .n ≤ mostElements
 unfolding inTurn sound stateFits
 open-most k s e =
     let phase : ℕ = s .check .phase in
@@ -119,7 +119,7 @@ module _ (s : Party) (t : Bool) (et : t ≡ turn loadedPhase s) (v out : List �
     unfolding whyNotMask
     why-mask = ek ∙ after-turn _ (et ∙ turn-is loadedPhase s)
 
-    pub mask-fits : k ≡ 0 → (n ≤ 512) × (length v ≡ n) × (n ≤ length out)
+    pub mask-fits : k ≡ 0 → (n ≤ mostElements) × (length v ≡ n) × (n ≤ length out)
     unfolding whyNotMask
     mask-fits none =
         let a = passed _ (sym why-mask ∙ none) in
@@ -183,7 +183,7 @@ module _ (s : Party) (t : Bool) (et : t ≡ turn maskedPhase s) (l : Label) (nam
     unfolding whyNotTake isName
     why-take = ek ∙ why-message maskedPhase vectorKind s t et l name _
 
-    pub take-fits : k ≡ 0 → (s .check .set .terms .n ≤ 512) × (s .check .set .terms .n ≤ length v)
+    pub take-fits : k ≡ 0 → (s .check .set .terms .n ≤ mostElements) × (s .check .set .terms .n ≤ length v)
     unfolding whyNotTake whyNotMessage isName
     take-fits none =
         let a = passed _ (sym why-take ∙ none) in
@@ -279,6 +279,6 @@ module _ (name : List ℕ) (party : ℕ) (key : List ℕ) (floor k : ℕ) (ek : 
 
 -- ---- arrays
 
-pub masked-law : (n : ℕ) (v mask zeros out : List ℕ) → n ≤ 512 → zeros ≡ replicate 512 0 → out ≡ over 0 (plus n v mask) zeros → out ≡ fill (plus n v mask)
+pub masked-law : (n : ℕ) (v mask zeros out : List ℕ) → n ≤ mostElements → zeros ≡ replicate mostElements 0 → out ≡ over 0 (plus n v mask) zeros → out ≡ fill (plus n v mask)
 unfolding plus
 masked-law n v mask zeros out most ez e = e ∙ fill-over _ zeros n (length-tab _ n) most ez

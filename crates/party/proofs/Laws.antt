@@ -7,7 +7,7 @@ use borrow.Author.Tests.{not-true, not-false, ne-eqb}
 use lib.Dec.{eqb, leb}
 use lib.ListN.{replicate}
 use Rattle.measure.specs.declared.Terms.{Terms}
-use Rattle.measure.specs.Measure.{isCode, lengthFits}
+use Rattle.measure.specs.Measure.{mostElements, isCode, lengthFits}
 use Rattle.share.specs.Share.{share, boxWord}
 use Rattle.content.specs.declared.Set.{Set}
 use Rattle.content.specs.Content.{noSet}
@@ -37,9 +37,9 @@ module _ (party phase : ℕ) (terms : Terms) where
 -- ---- states
 
 pub no-check-law : (s : Set) → s ≡ noSet
-    → record { phase = idlePhase; set = s; masked = replicate 512 0; own = 0; word = 0 } ≡ noCheck
+    → record { phase = idlePhase; set = s; masked = replicate mostElements 0; own = 0; word = 0 } ≡ noCheck
 unfolding noCheck
-no-check-law s e = λ i. record { phase = idlePhase; set = e i; masked = replicate 512 0; own = 0; word = 0 }
+no-check-law s e = λ i. record { phase = idlePhase; set = e i; masked = replicate mostElements 0; own = 0; word = 0 }
 
 pub idle-law : (who : Identity) (last : ℕ) (c : Check) → c ≡ noCheck
     → record { who = who; last = last; check = c } ≡ idle who last

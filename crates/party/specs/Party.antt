@@ -151,7 +151,7 @@ unfoldable pub boxShare : ℕ → ℕ → ℕ → List ℕ → List ℕ → List
 boxShare party n c ownMasked other x y =
     cond (eqb party cameraParty) (Share.share party n c ownMasked other x y) (Share.share party n c other ownMasked x y)
 
--- "its word: k × (share) + own + its r"
+-- "its word: k × (share) + own + its r" (Share.`boxWord`)
 unfoldable pub wordOf : Set → ℕ → List ℕ → ℕ → List ℕ → ℕ
 wordOf set party ownMasked own other =
     Share.boxWord (set .terms) (boxShare party (set .terms .n) (set .c) ownMasked other (set .x) (set .y)) own (set .r)

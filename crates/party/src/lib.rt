@@ -7,7 +7,7 @@ ghost use Prim.Native.Nat.{_-_, _≤_};
 ghost use lib.Dec.{eqb, leb};
 ghost use lib.ListN.{length};
 ghost use Rattle.words.specs.List.{over};
-ghost use Rattle.measure.specs.Measure.{allInRange};
+ghost use Rattle.measure.specs.Measure.{mostElements, allInRange};
 ghost use Rattle.share.specs.Share.{plus};
 ghost use Rattle.messages.specs.Messages.{outOfTurn, wrongLength, shortBuffer, wrongMessage, wrongNumber, outOfRange, officeParty, unless, expected};
 ghost use Rattle.content.specs.Content.{fill};
@@ -208,7 +208,7 @@ fn box_share(
     x: [u32; MOST_ELEMENTS],
     y: [u32; MOST_ELEMENTS],
 ) -> u32
-    requires { ⌜ (n ≤ 512) × (n ≤ length (now other)) ⌝ }
+    requires { ⌜ (n ≤ mostElements) × (n ≤ length (now other)) ⌝ }
     ensures { λ r. ⌜ r ≡ boxShare party n c masked (now (other .entry)) x y ⌝ }
 {
     if party == messages::CAMERA {
@@ -217,9 +217,9 @@ fn box_share(
     share::share_of(party, n, c, other, &masked, &x, &y)
 }
 
-// An array of 512 words: v and the mask, added over the first n places.
+// A vector's array: v and the mask, added over the first n places.
 fn masked_array(n: usize, v: &[u32], mask: &[u32; MOST_ELEMENTS]) -> [u32; MOST_ELEMENTS]
-    requires { ⌜ (n ≤ 512) × (n ≤ length (now v)) ⌝ }
+    requires { ⌜ (n ≤ mostElements) × (n ≤ length (now v)) ⌝ }
     ensures { λ r. ⌜ r ≡ fill (plus n (now (v .entry)) (now (mask .entry))) ⌝ }
 {
     let mut out = [0u32; MOST_ELEMENTS];
@@ -229,7 +229,7 @@ fn masked_array(n: usize, v: &[u32], mask: &[u32; MOST_ELEMENTS]) -> [u32; MOST_
 
 // The same from the start of out.
 fn write_masked(n: usize, v: &[u32], mask: &[u32; MOST_ELEMENTS], out: &mut [u32])
-    requires { ⌜ (n ≤ 512) × (n ≤ length (now v)) × (n ≤ length (now out)) ⌝ }
+    requires { ⌜ (n ≤ mostElements) × (n ≤ length (now v)) × (n ≤ length (now out)) ⌝ }
     ensures { λ _. ⌜ now (out .exit) ≡ over 0 (plus n (now (v .entry)) (now (mask .entry))) (now (out .entry)) ⌝ }
 {
     share::add_vectors(n, v, mask, out);
@@ -296,21 +296,24 @@ impl Party {
         let terms = self.check.set.terms;
         let turn = in_turn(LOADED, self.who.party, self.check.phase, terms);
         let refusal = why_not_mask(turn, terms, v, out.len());
-        let mut next = self;
+        let who = self.who;
+        let mut check = self.check;
         if refusal == 0 {
             let mask = self.check.set.mask;
             write_masked(terms.n, v, &mask, out);
             let kept = masked_array(terms.n, v, &mask);
-            let mut check = self.check;
             check.phase = MASKED;
             check.masked = kept;
             check.own = own_term::own(terms, v);
             check.word = 0;
-            next.check = check;
         }
         PartyAnswer {
             why: refusal,
-            party: next,
+            party: Party {
+                who,
+                last: self.last,
+                check,
+            },
             word: 0,
         }
     }

@@ -1,20 +1,21 @@
 -- What opened content is tested for. Assumes nothing.
 use mathlib.Core.Path.{_≡_, refl, sym, ap, ap₂, _∙_}
-use mathlib.Core.Bool.{Bool, true, false, _&&_, and-true, and-false, and-assoc}
+use mathlib.Core.Bool.{Bool, true, false, not, _&&_, and-true, and-false, and-assoc}
 use mathlib.Core.List.{List, [], _∷_, _++_}
-use Prim.Native.Nat.{ℕ, _+_, _*_, _-_, _<_, _≤_}
+use Prim.Native.Nat.{ℕ, _+_, _*_, _-_, _<_}
 use native.Mathlib.Numerals.{add-one}
 use native.Mathlib.Omega.{arith}
-use borrow.Author.Tests.{le-leb, lt-leb, eq-eqb, ne-eqb}
-use lib.Dec.{eqb, leb, ltb}
+use borrow.Author.Tests.{eq-eqb, ne-eqb, not-true, not-false}
+use lib.Dec.{eqb, ltb}
 use lib.ListN.{length, getD, take, drop, length-drop}
 use lib.Seq.{take-suc, take-all}
 use Rattle.words.specs.List.{same}
 use Rattle.node.specs.declared.Correction.{Correction}
-use Rattle.measure.specs.Measure.{isCode}
 use Rattle.measure.specs.declared.Terms.{Terms}
-use Rattle.content.specs.Content.{mostElements, nameField, partyField, correctionsField, lastField, widths, sumFirst, offset, width, size}
-use Rattle.content.specs.Content.{blockCount, lengthIn, field, termsIn, correctionIn, correctionsIn, keyIn, lengthFits, flagsFit, zeros, contentFits}
+use Rattle.measure.specs.Measure.{isCode, lengthFits}
+use Rattle.content.specs.Content.{nameField, partyField, correctionsField, lastField}
+use Rattle.content.specs.Content.{widths, sumFirst, offset, width, size, blockCount, lengthIn, field, termsIn}
+use Rattle.content.specs.Content.{correctionIn, correctionsIn, keyIn, flagsFit, zeros, contentFits}
 use Rattle.content.specs.Pieces.{getD-part}
 use Rattle.reading.proofs.Read.{between, byte-at}
 
@@ -62,49 +63,48 @@ module _ (name : List ℕ) (party count : ℕ) (b : List ℕ) (terms : Terms) (e
   flags? = flagsFit (keyIn b .corrections)
 
   -- the test, at these terms
-  fits-at : contentFits name party count b
-      ≡ named? && (owned? && (isCode (terms .code) && (lengthFits n && (eqb (blockCount n) count && (flags? && zeros (drop (size n) b))))))
+  abbrev asked : Terms → Bool
+  asked t =
+      isCode (t .code)
+      && (lengthFits t && (eqb (blockCount (t .n)) count && (flags? && zeros (drop (size (t .n)) b))))
+
+  fits-at : contentFits name party count b ≡ named? && (owned? && asked terms)
   unfolding contentFits
-  fits-at =
-      ap (λ (t : Terms). named? && (owned? && (isCode (t .code) && (lengthFits (t .n)
-      && (eqb (blockCount (t .n)) count && (flags? && zeros (drop (size (t .n)) b))))))) (sym et)
+  fits-at = ap (λ (t : Terms). named? && (owned? && asked t)) (sym et)
 
-  out-of-range : lengthFits n ≡ false → false ≡ contentFits name party count b
-  out-of-range e =
-      refused named? owned? (isCode (terms .code))
-      (ap (λ (l : Bool). l && (eqb (blockCount n) count && (flags? && zeros (drop (size n) b)))) e)
+  -- L out of its measure's range
+  pub out-of-range : (fits : Bool) → fits ≡ lengthFits terms → not fits ≡ true → false ≡ contentFits name party count b
+  out-of-range fits e h =
+      let others : Bool = eqb (blockCount n) count && (flags? && zeros (drop (size n) b)) in
+      refused named? owned? (isCode (terms .code)) (ap (λ (l : Bool). l && others) (sym e ∙ not-true fits h))
       ∙ sym fits-at
-
-  pub too-short : n < 1 → false ≡ contentFits name party count b
-  unfolding lengthFits
-  too-short h = out-of-range (ap (λ (l : Bool). l && leb n mostElements) (lt-leb 1 n h))
-
-  pub too-long : mostElements < n → false ≡ contentFits name party count b
-  unfolding lengthFits
-  too-long h = out-of-range (ap (λ (l : Bool). leb 1 n && l) (lt-leb n mostElements h) ∙ and-false (leb 1 n))
 
   -- L asks for another number of blocks
   pub other-count : (k : ℕ) → k ≡ blockCount n → (k ≡ count → ⊥) → false ≡ contentFits name party count b
   other-count k e h =
+      let other : eqb (blockCount n) count ≡ false = ap (λ (m : ℕ). eqb m count) (sym e) ∙ ne-eqb k count h in
+      let others : Bool = flags? && zeros (drop (size n) b) in
       refused named? owned? (isCode (terms .code))
-      (ap (λ (l : Bool). lengthFits n && (l && (flags? && zeros (drop (size n) b)))) (ap (λ (m : ℕ). eqb m count) (sym e) ∙ ne-eqb k count h)
-      ∙ and-false (lengthFits n))
+      (ap (λ (l : Bool). lengthFits terms && (l && others)) other ∙ and-false (lengthFits terms))
       ∙ sym fits-at
 
   -- all that is tested where L and the count fit, each where its field stands
-  pub fits-law : (k owner csAt lastAt end : ℕ) (named coded flags filled : Bool) → 1 ≤ n → n ≤ mostElements → k ≡ blockCount n → k ≡ count
+  pub fits-law : (fits : Bool) (k owner csAt lastAt end : ℕ) (named coded flags filled : Bool)
+      → fits ≡ lengthFits terms → not fits ≡ false → k ≡ blockCount n → k ≡ count
       → csAt ≡ offset n correctionsField → lastAt ≡ offset n lastField → end ≡ size n
       → named ≡ same (take 16 b) name → owner ≡ getD b 16 0 → coded ≡ isCode (terms .code)
-      → flags ≡ flagsFit (correctionsIn (take (lastAt - csAt) (drop csAt b)) 32) → filled ≡ zeros (take (length b - end) (drop end b))
+      → flags ≡ flagsFit (correctionsIn (take (lastAt - csAt) (drop csAt b)) 32)
+      → filled ≡ zeros (take (length b - end) (drop end b))
       → (((named && eqb owner party) && coded) && flags) && filled ≡ contentFits name party count b
-  unfolding lengthFits termsIn keyIn offset width widths sumFirst
-  fits-law k owner csAt lastAt end named coded flags filled h l ek e ec el ee e₀ e₁ e₂ e₃ e₄ =
+  unfolding termsIn keyIn offset width widths sumFirst
+  fits-law fits k owner csAt lastAt end named coded flags filled ef hf ek e ec el ee e₀ e₁ e₂ e₃ e₄ =
       let long : n ≡ lengthIn b = ap (λ (t : Terms). t .n) et in
-      let range : leb 1 n && leb n mostElements ≡ true = ap₂ _&&_ (le-leb 1 n h) (le-leb n mostElements l) in
+      let range : lengthFits terms ≡ true = sym ef ∙ not-false fits hf in
       let many : eqb (blockCount n) count ≡ true = eq-eqb (blockCount n) count (sym ek ∙ e) in
       let p₀ = e₀ ∙ ap (λ (f : List ℕ). same f name) (between b n long nameField 0 16 refl refl) in
       let p₁ = ap (λ (x : ℕ). eqb x party) (e₁ ∙ byte-at b n long partyField 16 refl refl) in
-      let p₃ = e₃ ∙ ap (λ (f : List ℕ). flagsFit (correctionsIn f 32)) (between b n long correctionsField csAt lastAt ec el) in
+      let all-corrections = between b n long correctionsField csAt lastAt ec el in
+      let p₃ = e₃ ∙ ap (λ (f : List ℕ). flagsFit (correctionsIn f 32)) all-corrections in
       let all = take-all (length b - end) (drop end b) (omega (arith, length-drop end b)) in
       let p₄ = e₄ ∙ ap zeros all ∙ ap (λ (m : ℕ). zeros (drop m b)) ee in
       regroup named (eqb owner party) coded flags filled

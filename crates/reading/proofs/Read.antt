@@ -13,13 +13,16 @@ use Rattle.node.specs.declared.Key.{Key}
 use Rattle.node.specs.Node.{none}
 use Rattle.measure.specs.declared.Terms.{Terms}
 use Rattle.content.specs.declared.Set.{Set}
-use Rattle.content.specs.Content.{mostElements, part, fill, lengthIn, field, termsIn, correctionIn, correctionsIn, keyIn, setIn}
-use Rattle.content.specs.Content.{codeField, maskField, xField, yField, cField, rField, seedField, correctionsField, lastField}
+use Rattle.measure.specs.Measure.{mostElements}
+use Rattle.content.specs.Content.{part, fill, lengthIn, field, termsIn, correctionIn, correctionsIn, keyIn, setIn}
+use Rattle.content.specs.Content.{codeField, maskField, xField, yField, cField, rField, seedField, correctionsField}
+use Rattle.content.specs.Content.{lastField}
 use Rattle.content.specs.Content.{widths, sumFirst, offset, width}
 use Rattle.content.specs.Laws.{head-is, offset-next, fill-rest}
 use Rattle.content.specs.Pieces.{getD-part, wordAt-part, wordsAt-part}
 
-pub vector-law : (f w z : List ℕ) (n : ℕ) → n ≤ mostElements → z ≡ replicate mostElements 0 → w ≡ tab (λ i. wordAt f (4 * i)) n ++ drop n z → w ≡ fill (wordsAt n f)
+pub vector-law : (f w z : List ℕ) (n : ℕ) → n ≤ mostElements → z ≡ replicate mostElements 0
+    → w ≡ tab (λ i. wordAt f (4 * i)) n ++ drop n z → w ≡ fill (wordsAt n f)
 unfolding wordsAt
 vector-law f w z n h ez e = e ∙ fill-rest _ z n (length-tab (λ i. wordAt f (4 * i)) n) h ez
 
@@ -92,7 +95,8 @@ module _ (b : List ℕ) (n : ℕ) (en : n ≡ lengthIn b) where
       sym (ap (λ (l : List ℕ). getD l 0 0) here ∙ getD-part at 1 b 0 (omega arith) ∙ ap (λ (i : ℕ). getD b i 0) start)
 
   -- the key
-  pub key-law : (csAt lastAt last : ℕ) (cs : List Correction) → csAt ≡ offset n correctionsField → lastAt ≡ offset n lastField
+  pub key-law : (csAt lastAt last : ℕ) (cs : List Correction) → csAt ≡ offset n correctionsField
+      → lastAt ≡ offset n lastField
       → cs ≡ correctionsIn (take (lastAt - csAt) (drop csAt b)) 32 → last ≡ wordAt b lastAt
       → _≡_ {A = Key} (record { corrections = cs; last = last }) (keyIn b)
   unfolding keyIn width widths
@@ -125,7 +129,8 @@ module _ (set : ℕ) (b : List ℕ) (terms : Terms) (et : terms ≡ termsIn b) (
       → y ≡ fill (wordsAt n (take (cAt - yAt) (drop yAt b))) → c ≡ wordAt b cAt → r ≡ wordAt b rAt
       → seed ≡ wordsAt 8 (take (csAt - seedAt) (drop seedAt b)) → key ≡ keyIn b
       → _≡_ {A = Set}
-      (record { number = set; terms = terms; mask = mask; x = x; y = y; c = c; r = r; seed = seed; key = key }) (setIn set b)
+      (record { number = set; terms = terms; mask = mask; x = x; y = y; c = c; r = r; seed = seed; key = key })
+      (setIn set b)
   unfolding setIn width widths
   set-law c r mask x y seed key em e-x e-y e-c e-r e-s e-k =
       let own = vector-at b n long maskField 20 xAt mask (sym (head-is n)) ex em in

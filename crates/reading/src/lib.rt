@@ -3,7 +3,9 @@ ghost use mathlib.Core.Path.{_≡_};
 ghost use Prim.Native.Nat.{_*_, _<_, _≤_};
 ghost use lib.ListN.{length, getD};
 ghost use Rattle.words.specs.Bytes.{wordsAt};
-ghost use Rattle.content.specs.Content.{mostElements, textBytes, mostBlocks, maskField, offset, size, fill, lengthIn, termsIn, correctionIn, correctionsIn, keyIn, setIn, flagsFit, zeros, contentFits};
+ghost use Rattle.measure.specs.Measure.{mostElements};
+ghost use Rattle.content.specs.Content.{textBytes, mostBlocks, maskField, offset, size, fill, lengthIn, termsIn};
+ghost use Rattle.content.specs.Content.{correctionIn, correctionsIn, keyIn, setIn, flagsFit, zeros, contentFits};
 use content::CODE_AT;
 use content::HEAD;
 use content::LENGTH_AT;
@@ -163,10 +165,7 @@ pub fn content_fits(name: [u8; 16], party: u32, count: usize, b: &[u8]) -> bool
 {
     let terms = terms_in(b);
     let n = terms.n;
-    if n < 1 {
-        return false;
-    }
-    if MOST_ELEMENTS < n {
+    if !measure::length_fits(terms) {
         return false;
     }
     if content::blocks_of(n) != count {

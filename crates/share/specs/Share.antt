@@ -47,7 +47,7 @@ answer w party key seed z =
     let end : ℕ = add w 1 in
     add (sub (valueAt party key seed (sub z end)) (valueAt party key seed z)) (only (odd party) (less z end))
 
--- the gate of call 4 with ideal values: the value of a key for r at u is [u < r]. Width, r, Z
+-- the gate of call 4 with ideal values: the two parties' values of a key for r at u sum to [u < r]. Width, r, Z
 unfoldable pub idealGate : ℕ → ℕ → ℕ → ℕ
 idealGate w r z =
     let end : ℕ = add w 1 in

@@ -4,7 +4,8 @@ use Prim.Native.Nat.{ℕ}
 use lib.ListN.{replicate}
 use Rattle.node.specs.declared.Correction.{Correction}
 use Rattle.content.specs.declared.Set.{Set}
-use Rattle.content.specs.Content.{mostElements, noSet}
+use Rattle.measure.specs.Measure.{mostElements}
+use Rattle.content.specs.Content.{noSet}
 use borrow.Author.Needs.{needs}
 use Rattle.content.proofs.no_set.Statement.{statement}
 use Rattle.content.proofs.no_set.Tie as tie
@@ -20,7 +21,18 @@ returns c = ap none-at (c .no-correction .ensures)
     zeros = replicate mostElements 0
 
     none-at : Correction → Set
-    none-at d = record { number = 0; terms = record { code = 0; n = 0 }; mask = zeros; x = zeros; y = zeros; c = 0; r = 0; seed = replicate 8 0; key = record { corrections = replicate 32 d; last = 0 } }
+    none-at d =
+        record {
+          number = 0;
+          terms = record { code = 0; n = 0 };
+          mask = zeros;
+          x = zeros;
+          y = zeros;
+          c = 0;
+          r = 0;
+          seed = replicate 8 0;
+          key = record { corrections = replicate 32 d; last = 0 };
+        }
 
 pub no-set-spec : {M : Type 1} → statement M
 no-set-spec = tie.close (tie.spec no-correction-requires returns)

@@ -23,7 +23,10 @@ slice-aggregate-sets-from : tie.Need-slice-aggregate-sets-from
 slice-aggregate-sets-from c = sym (length-take-le _ _ (search needs))
 
 sets-from-requires : tie.Need-sets-from-requires
-sets-from-requires c κs = (search needs, omega (arith, length-take-le (4 * c .before .before .args .terms .n + 19) (c .before .draw .result) (search needs)))
+sets-from-requires c κs =
+    let at-draw = c .before in
+    let end = 4 * at-draw .before .args .terms .n + 19 in
+    (search needs, omega (arith, length-take-le end (at-draw .draw .result) (search needs)))
 
 returns : tie.Need-returns
 unfolding dealtSet

@@ -1,7 +1,7 @@
 use mathlib.Core.Path.{sym}
 use lib.Seq.{length-take-le}
 use Rattle.content.specs.Content.{offset, size, blockCount, widths, sumFirst}
-use Rattle.reading.proofs.Checked.{too-short, too-long, other-count, fits-law}
+use Rattle.reading.proofs.Checked.{out-of-range, other-count, fits-law}
 use borrow.Author.Needs.{needs}
 use Rattle.reading.proofs.content_fits.Statement.{statement}
 use Rattle.reading.proofs.content_fits.Tie as tie
@@ -10,30 +10,29 @@ terms-in-requires : tie.Need-terms-in-requires
 unfolding offset widths sumFirst
 terms-in-requires c κs = search needs
 
+length-fits-requires : tie.Need-length-fits-requires
+length-fits-requires c κs = search needs
+
 returns : tie.Need-returns
 returns c =
-    let at-terms = c .before in
+    let at-fits = c .before in
+    let at-terms = at-fits .before in
     let start = at-terms .before .before in
-    too-short (start .args .t1) (start .args .party) (start .args .count) (start .args .b .now) (at-terms .terms-in .result)
-    (at-terms .terms-in .ensures .0) (search needs)
-
-returns-2 : tie.Need-returns-2
-returns-2 c =
-    let at-terms = c .before .before in
-    let start = at-terms .before .before in
-    too-long (start .args .t1) (start .args .party) (start .args .count) (start .args .b .now) (at-terms .terms-in .result)
-    (at-terms .terms-in .ensures .0) (search needs)
+    let a = start .args in
+    out-of-range (a .t1) (a .party) (a .count) (a .b .now) (at-terms .terms-in .result) (at-terms .terms-in .ensures .0)
+    (at-fits .length-fits .result) (at-fits .length-fits .ensures) (c .if1 .taken)
 
 blocks-of-requires : tie.Need-blocks-of-requires
 blocks-of-requires c κs = search needs
 
-returns-3 : tie.Need-returns-3
-returns-3 c =
+returns-2 : tie.Need-returns-2
+returns-2 c =
     let at-blocks = c .before in
     let at-terms = at-blocks .before .before .before in
     let start = at-terms .before .before in
-    other-count (start .args .t1) (start .args .party) (start .args .count) (start .args .b .now) (at-terms .terms-in .result)
-    (at-terms .terms-in .ensures .0) _ (at-blocks .blocks-of .ensures) (search needs)
+    let a = start .args in
+    other-count (a .t1) (a .party) (a .count) (a .b .now) (at-terms .terms-in .result) (at-terms .terms-in .ensures .0)
+    _ (at-blocks .blocks-of .ensures) (search needs)
 
 corrections-at-requires : tie.Need-corrections-at-requires
 corrections-at-requires c κs = search needs
@@ -92,8 +91,8 @@ part-all-zero-end c = search needs
 all-zero-requires : tie.Need-all-zero-requires
 all-zero-requires c κs = search needs
 
-returns-4 : tie.Need-returns-4
-returns-4 c =
+returns-3 : tie.Need-returns-3
+returns-3 c =
     let at-flags = c .before .before in
     let at-code = at-flags .before .before in
     let at-byte = at-code .before in
@@ -102,10 +101,14 @@ returns-4 c =
     let at-last-at = at-size .before in
     let at-corrections-at = at-last-at .before in
     let at-blocks = at-corrections-at .before .before in
-    let at-terms = at-blocks .before .before .before in
+    let at-if1 = at-blocks .before in
+    let at-fits = at-if1 .before in
+    let at-terms = at-fits .before in
     let start = at-terms .before .before in
-    fits-law (start .args .t1) (start .args .party) (start .args .count) (start .args .b .now) (at-terms .terms-in .result)
-    (at-terms .terms-in .ensures .0) _ _ _ _ _ _ _ _ _ (search needs) (search needs) (at-blocks .blocks-of .ensures) (search needs)
+    let a = start .args in
+    fits-law (a .t1) (a .party) (a .count) (a .b .now) (at-terms .terms-in .result) (at-terms .terms-in .ensures .0)
+    (at-fits .length-fits .result) _ _ _ _ _ _ _ _ _ (at-fits .length-fits .ensures) (at-if1 .if1 .left)
+    (at-blocks .blocks-of .ensures) (at-corrections-at .before .if2 .left)
     (at-corrections-at .corrections-at .ensures) (at-last-at .last-at .ensures) (at-size .size-of .ensures)
     (at-equal .equal .ensures) (at-byte .byte .ensures .0) (at-code .is-code .ensures) (at-flags .flags-fit .ensures)
     (c .all-zero .ensures)
@@ -115,10 +118,10 @@ content-fits-spec =
     tie.close
     (tie.spec
     terms-in-requires
+    length-fits-requires
     returns
-    returns-2
     blocks-of-requires
-    returns-3
+    returns-2
     corrections-at-requires
     last-at-requires
     size-of-requires
@@ -135,4 +138,4 @@ content-fits-spec =
     part-all-zero-start
     part-all-zero-end
     all-zero-requires
-    returns-4)
+    returns-3)

@@ -118,10 +118,12 @@ returns c =
     let at-x-at = at-y-at .before in
     let at-terms = at-x-at .before in
     let start = at-terms .before .before in
-    set-law (start .args .number) (start .args .b .now) (at-terms .terms-in .result) (at-terms .terms-in .ensures .0) _ _ _ _ _ _
+    set-law (start .args .number) (start .args .b .now) (at-terms .terms-in .result) (at-terms .terms-in .ensures .0)
+    _ _ _ _ _ _
     (at-x-at .x-at .ensures) (at-y-at .y-at .ensures) (at-c-at .c-at .ensures) (at-r-at .r-at .ensures)
     (at-seed-at .seed-at .ensures) (at-corrections-at .corrections-at .ensures) _ _ _ _ _ _ _
-    (at-mask .vector .ensures) (at-x .vector2 .ensures) (at-y .vector3 .ensures) (at-c .load .ensures) (at-r .load2 .ensures)
+    (at-mask .vector .ensures) (at-x .vector2 .ensures) (at-y .vector3 .ensures) (at-c .load .ensures)
+    (at-r .load2 .ensures)
     (at-seed .seed-in .ensures) (c .key-in .ensures)
 
 pub read-set-spec : {M : Type 1} → statement M

@@ -10,8 +10,11 @@ why-not-deal-requires c κs = search needs
 
 returns : tie.Need-returns
 returns c =
-    let a = c .before .before .before .before .before .args in
-    deal-refused (a .self) (dealFrom (a .number) (a .seed .now) (a .terms) (a .t)) (a .out0 .now) (a .out1 .now) _ (c .before .why-not-deal .ensures (a .self) (a .seed .now) refl refl) (c .if1 .taken)
+    let at-why = c .before in
+    let a = at-why .before .before .before .before .args in
+    let d = dealFrom (a .number) (a .seed .now) (a .terms) (a .t) in
+    let why = at-why .why-not-deal .ensures (a .self) (a .seed .now) refl refl in
+    deal-refused (a .self) d (a .out0 .now) (a .out1 .now) _ why (c .if1 .taken)
 
 write-halves-requires : tie.Need-write-halves-requires
 write-halves-requires c κs =
@@ -28,8 +31,15 @@ same-length-2 c = search needs
 
 returns-2 : tie.Need-returns-2
 returns-2 c =
-    let a = c .before .before .before .before .before .before .before .before .before .before .before .before .before .before .before .args in
-    dealt (a .self) (dealFrom (a .number) (a .seed .now) (a .terms) (a .t)) (a .out0 .now) (a .out1 .now) _ (c .before .before .before .before .before .before .before .before .before .before .before .why-not-deal .ensures (a .self) (a .seed .now) refl refl) _ _ (c .before .before .before .before .before .before .before .before .before .before .if1 .left) (c .before .before .before .before .before .before .before .write-halves .ensures .0) (c .before .before .before .before .before .before .before .write-halves .ensures .1)
+    let at-out1 = c .before .before .before .before in
+    let at-write = at-out1 .before .before .before in
+    let at-if1 = at-write .before .before .before in
+    let at-why-not-deal = at-if1 .before in
+    let a = at-why-not-deal .before .before .before .before .args in
+    let d = dealFrom (a .number) (a .seed .now) (a .terms) (a .t) in
+    let why = at-why-not-deal .why-not-deal .ensures (a .self) (a .seed .now) refl refl in
+    let written = at-write .write-halves .ensures in
+    dealt (a .self) d (a .out0 .now) (a .out1 .now) _ why _ _ (at-if1 .if1 .left) (written .0) (written .1)
 
 pub deal-spec : {M : Type 1} → statement M
 deal-spec =

@@ -15,11 +15,16 @@ returns c = search needs
 is-code-requires : tie.Need-is-code-requires
 is-code-requires c κs = search needs
 
+length-fits-requires : tie.Need-length-fits-requires
+length-fits-requires c κs = search needs
+
 deal-in-range-requires : tie.Need-deal-in-range-requires
 deal-in-range-requires c κs =
-    let at-if3 = c .before .before .before .before in
+    let at-length = c .before in
+    let at-if3 = at-length .before in
     let coded = sym (at-if3 .before .is-code .ensures) ∙ at-if3 .if3 .taken in
-    (search needs, coded, search needs, search needs)
+    let long = sym (at-length .length-fits .ensures) ∙ c .if4 .taken in
+    (search needs, coded, long)
 
 returns-2 : tie.Need-returns-2
 returns-2 c = search needs
@@ -38,6 +43,7 @@ deal-spec =
     not-dealt-requires
     returns
     is-code-requires
+    length-fits-requires
     deal-in-range-requires
     returns-2
     not-dealt-requires-2

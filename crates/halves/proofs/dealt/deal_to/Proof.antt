@@ -1,4 +1,5 @@
-use Rattle.content.specs.Laws.{blocks-bounds, code-byte, flag-bytes}
+use Rattle.measure.specs.Laws.{length-fits}
+use Rattle.content.specs.Laws.{few-blocks, code-byte, flag-bytes}
 use native.Mathlib.Omega.{arith}
 use borrow.Author.Needs.{needs}
 use Rattle.halves.proofs.dealt.deal_to.Statement.{statement}
@@ -11,16 +12,33 @@ slice-aggregate-write-half : tie.Need-slice-aggregate-write-half
 slice-aggregate-write-half c = search needs
 
 write-half-requires : tie.Need-write-half-requires
-write-half-requires c κs = let p = c .before .before .before .before .before .pre .1 in ((omega (arith, c .before .before .before .before .before .pre .0), omega (arith, blocks-bounds _ (p .some) (p .most) .1)), p)
+write-half-requires c κs =
+    let at-name = c .before .before .before in
+    let start = at-name .before .before in
+    let proper = start .pre .1 in
+    ((omega (arith, start .pre .0), omega (arith, few-blocks _ proper)), proper)
 
 lay-out-requires : tie.Need-lay-out-requires
-lay-out-requires c κs = let p = c .before .before .before .before .before .before .before .pre .1 in ((omega (arith, c .before .before .before .before .before .before .before .pre .0), code-byte _ p, p .most), flag-bytes _ p)
+lay-out-requires c κs =
+    let at-half = c .before .before in
+    let at-name = at-half .before .before .before in
+    let start = at-name .before .before in
+    let proper = start .pre .1 in
+    ((omega (arith, start .pre .0), code-byte _ proper, length-fits _ (proper .length-fits) .1), flag-bytes _ proper)
 
 blocks-of-requires : tie.Need-blocks-of-requires
-blocks-of-requires c κs = search needs
+blocks-of-requires c κs =
+    let at-half = c .before .before .before in
+    let at-name = at-half .before .before .before in
+    let start = at-name .before .before in
+    omega (arith, length-fits _ (start .pre .1 .length-fits))
 
 returns : tie.Need-returns
-returns c = let p = c .before .before .before .before .before .before .before .before .before .pre .1 in omega (arith, c .blocks-of .ensures, blocks-bounds _ (p .some) (p .most) .1)
+returns c =
+    let at-half = c .before .before .before .before in
+    let at-name = at-half .before .before .before in
+    let start = at-name .before .before in
+    omega (arith, c .blocks-of .ensures, few-blocks _ (start .pre .1))
 
 pub deal-to-spec : {M : Type 1} → statement M
 deal-to-spec =
