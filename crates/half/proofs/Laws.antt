@@ -22,9 +22,11 @@ use Rattle.half.specs.Half.{header, block, firstBlocks, half}
 use Rattle.half.specs.OneTime.{header-words}
 use Rattle.half.specs.Laws.{part-front, length-tag, length-block, length-blocks, put-over}
 
-pub header-law : (a i x y : ℕ) (out t : List ℕ) → x ≡ a % 2 ^ 32 → y ≡ a / 2 ^ 32 → length out ≡ 12 → t ≡ over 0 (bytesOf (x ∷ y ∷ i ∷ [])) out → t ≡ header a i
+pub header-law : (a i x y : ℕ) (out t : List ℕ) → x ≡ a % 2 ^ 32 → y ≡ a / 2 ^ 32
+    → length out ≡ 12 → t ≡ over 0 (bytesOf (x ∷ y ∷ i ∷ [])) out → t ≡ header a i
 unfolding bytesOf le32 nonceOf
-header-law a i x y out t ex ey size e = e ∙ over-all (bytesOf (x ∷ y ∷ i ∷ [])) out (sym size) ∙ (λ j. nonceOf (ex j) (ey j) i) ∙ header-words a i
+header-law a i x y out t ex ey size e =
+    e ∙ over-all (bytesOf (x ∷ y ∷ i ∷ [])) out (sym size) ∙ (λ j. nonceOf (ex j) (ey j) i) ∙ header-words a i
 
 -- ---- a block
 
@@ -35,17 +37,22 @@ module _ (key h text out0 : List ℕ) (lh : length h ≡ 12) (lt : length text �
   -- after the two copies
   two : (out1 out2 : List ℕ) → out1 ≡ over 0 h out0 → out2 ≡ over 12 text out1 → out2 ≡ h ++ (text ++ rest)
   two out1 out2 e f =
-      let first : out1 ≡ h ++ drop 12 out0 = e ∙ over-after [] h out0 0 refl (omega arith) ∙ ap (λ (k : ℕ). h ++ drop k out0) lh in
-      f ∙ ap (over 12 text) first ∙ over-after h text (drop 12 out0) 12 lh (omega (arith, length-drop 12 out0)) ∙ ap (λ (k : ℕ). h ++ (text ++ drop k (drop 12 out0))) lt
+      let first : out1 ≡ h ++ drop 12 out0 =
+      e ∙ over-after [] h out0 0 refl (omega arith) ∙ ap (λ (k : ℕ). h ++ drop k out0) lh in
+      f ∙ ap (over 12 text) first ∙ over-after h text (drop 12 out0) 12 lh (omega (arith, length-drop 12 out0))
+      ∙ ap (λ (k : ℕ). h ++ (text ++ drop k (drop 12 out0))) lt
 
   module _ (out1 out2 y out : List ℕ) (s : Sealed) (e1 : out1 ≡ over 0 h out0) (e2 : out2 ≡ over 12 text out1) where
     middle : take 484 (drop 12 out2) ≡ text
-    middle = ap (λ (l : List ℕ). take 484 (drop 12 l)) (two out1 out2 e1 e2) ∙ ap (take 484) (drop-at h (text ++ rest) 12 lh) ∙ take-at text rest 484 lt
+    middle =
+        ap (λ (l : List ℕ). take 484 (drop 12 l)) (two out1 out2 e1 e2)
+        ∙ ap (take 484) (drop-at h (text ++ rest) 12 lh) ∙ take-at text rest 484 lt
 
     put : length y ≡ 484 → putMid 12 484 out2 y ≡ h ++ (y ++ rest)
     put ly =
         ap (λ (l : List ℕ). putMid 12 484 l y) (two out1 out2 e1 e2)
-        ∙ ap₂ (λ (a b : List ℕ). a ++ (y ++ b)) (take-at h (text ++ rest) 12 lh) (ap (drop 484) (drop-at h (text ++ rest) 12 lh) ∙ drop-at text rest 484 lt)
+        ∙ ap₂ (λ (a b : List ℕ). a ++ (y ++ b)) (take-at h (text ++ rest) 12 lh)
+        (ap (drop 484) (drop-at h (text ++ rest) 12 lh) ∙ drop-at text rest 484 lt)
 
     length-rest : length rest ≡ 16
     length-rest = omega (arith, length-drop 484 (drop 12 out0), length-drop 12 out0)
@@ -56,7 +63,9 @@ module _ (key h text out0 : List ℕ) (lh : length h ≡ 12) (lt : length text �
 
     tag-is : s ≡ sealed key h h (take 484 (drop 12 out2)) → s .tag ≡ tagFor key h h (cipher key h text)
     unfolding sealed within
-    tag-is e = ap (λ z. z .tag) e ∙ ap (λ (l : List ℕ). sealed key h h l .tag) middle ∙ rw (le-leb (length text) ((2 ^ 32 - 1) * 64) (omega arith)) refl
+    tag-is e =
+        ap (λ z. z .tag) e ∙ ap (λ (l : List ℕ). sealed key h h l .tag) middle
+        ∙ rw (le-leb (length text) ((2 ^ 32 - 1) * 64) (omega arith)) refl
 
     pub length-put : y ≡ sealedText key h (take 484 (drop 12 out2)) → length (putMid 12 484 out2 y) ≡ 512
     length-put e =
@@ -66,7 +75,8 @@ module _ (key h text out0 : List ℕ) (lh : length h ≡ 12) (lt : length text �
     pub length-tag-is : s ≡ sealed key h h (take 484 (drop 12 out2)) → length (s .tag) ≡ 16
     length-tag-is e = ap length (tag-is e) ∙ length-tag key h h (cipher key h text)
 
-    pub write-law : y ≡ sealedText key h (take 484 (drop 12 out2)) → s ≡ sealed key h h (take 484 (drop 12 out2)) → out ≡ over 496 (s .tag) (putMid 12 484 out2 y)
+    pub write-law : y ≡ sealedText key h (take 484 (drop 12 out2))
+        → s ≡ sealed key h h (take 484 (drop 12 out2)) → out ≡ over 496 (s .tag) (putMid 12 484 out2 y)
         → out ≡ h ++ (cipher key h text ++ tagFor key h h (cipher key h text))
     write-law e g f =
         let ly : length y ≡ 484 = ap length (sealed-is e) ∙ length-cipher key h text ∙ lt in
@@ -75,36 +85,44 @@ module _ (key h text out0 : List ℕ) (lh : length h ≡ 12) (lt : length text �
         f ∙ ap (over 496 (s .tag)) (put ly ∙ sym (append-assoc h y rest))
         ∙ over-after (h ++ y) (s .tag) rest 496 lf (omega (arith, length-rest, length-tag-is g))
         ∙ append-assoc h y (s .tag ++ drop (length (s .tag)) rest)
-        ∙ ap (λ (l : List ℕ). h ++ (y ++ l)) (ap (λ (l : List ℕ). s .tag ++ l) (drop-of-length-le rest end) ∙ append-nil (s .tag))
+        ∙ ap (λ (l : List ℕ). h ++ (y ++ l))
+        (ap (λ (l : List ℕ). s .tag ++ l) (drop-of-length-le rest end) ∙ append-nil (s .tag))
         ∙ ap₂ (λ (a b : List ℕ). h ++ (a ++ b)) (sealed-is e) (tag-is g)
 
-  pub is-block : (set i : ℕ) → h ≡ header set i → h ++ (cipher key h text ++ tagFor key h h (cipher key h text)) ≡ block key set i text
+  pub is-block : (set i : ℕ) → h ≡ header set i
+      → h ++ (cipher key h text ++ tagFor key h h (cipher key h text)) ≡ block key set i text
   unfolding block
   is-block set i e = ap (λ (l : List ℕ). l ++ (cipher key l text ++ tagFor key l l (cipher key l text))) e
 
 -- ---- blocks one after the other
 
 -- one block more
-pub blocks-more : (key p out0 out b : List ℕ) (set i k m : ℕ) → 484 * (i + 1) ≤ length p → 512 * (i + 1) ≤ length out0 → length out ≡ length out0 → k ≡ 484 → m ≡ 512
-    → out ≡ over 0 (firstBlocks key set p i) out0 → b ≡ block key set i (take k (drop (484 * i) p)) → putMid (512 * i) m out b ≡ over 0 (firstBlocks key set p (i + 1)) out0
+pub blocks-more : (key p out0 out b : List ℕ) (set i k m : ℕ) → 484 * (i + 1) ≤ length p
+    → 512 * (i + 1) ≤ length out0 → length out ≡ length out0 → k ≡ 484 → m ≡ 512
+    → out ≡ over 0 (firstBlocks key set p i) out0 → b ≡ block key set i (take k (drop (484 * i) p))
+    → putMid (512 * i) m out b ≡ over 0 (firstBlocks key set p (i + 1)) out0
 unfolding firstBlocks part
 blocks-more key p out0 out b set i k m lp lo same ek em e eb =
     let text : List ℕ = part (484 * i) 484 p in
     let is : b ≡ block key set i text = eb ∙ ap (λ (n : ℕ). block key set i (take n (drop (484 * i) p))) ek in
     let lb : length b ≡ 512 = ap length is ∙ length-block key set i text (length-part p (484 * i) 484 (omega arith)) in
     rw (add-one i)
-    (over-next (firstBlocks key set p i) (block key set i text) out0 out (putMid (512 * i) m out b) 0 (512 * i) (length-blocks key set p i (omega arith)) e
-    (put-over (512 * i) m out b (lb ∙ sym em) (omega arith) ∙ ap₂ (λ (n : ℕ) (l : List ℕ). over n l out) (omega arith) is))
+    (over-next (firstBlocks key set p i) (block key set i text) out0 out
+    (putMid (512 * i) m out b) 0 (512 * i) (length-blocks key set p i (omega arith)) e
+    (put-over (512 * i) m out b (lb ∙ sym em) (omega arith)
+    ∙ ap₂ (λ (n : ℕ) (l : List ℕ). over n l out) (omega arith) is))
 
 -- ---- a half
 
 -- blocks of a front that holds them
-firstBlocks-take : (key p : List ℕ) (set m k : ℕ) → m ≤ length p → 484 * k ≤ m → firstBlocks key set p k ≡ firstBlocks key set (take m p) k
+firstBlocks-take : (key p : List ℕ) (set m k : ℕ) → m ≤ length p → 484 * k ≤ m
+    → firstBlocks key set p k ≡ firstBlocks key set (take m p) k
 unfolding firstBlocks
 firstBlocks-take key p set m zero h l = refl
 firstBlocks-take key p set m (suc k) h l =
     let front : part (484 * k) 484 p ≡ part (484 * k) 484 (take m p) =
-    ap (part (484 * k) 484) (sym (take-append-drop m p)) ∙ part-front (take m p) (drop m p) (484 * k) 484 (omega (arith, length-take-le m p h)) in
+    ap (part (484 * k) 484) (sym (take-append-drop m p))
+    ∙ part-front (take m p) (drop m p) (484 * k) 484 (omega (arith, length-take-le m p h)) in
     ap₂ (λ (a b : List ℕ). a ++ block key set k b) (firstBlocks-take key p set m k h (omega arith)) front
 
 module _ (key name : List ℕ) (party : ℕ) (s : Set) (named : length name ≡ 16) (p : Proper s) where

@@ -1,5 +1,6 @@
--- Claim half: the half that a deal writes for a party is taken there and opens to the dealt set; and of any whole blocks that some deals of distinct numbers wrote for that
--- party, only one deal's whole half is taken. A deal is its set here. Assumes nothing.
+-- Claim half: the half that a deal writes for a party is taken there and opens to the dealt set; and of any whole
+-- blocks that some deals of distinct numbers wrote for that party, only one deal's whole half is taken. A deal is its
+-- set here. Assumes nothing.
 use mathlib.Core.Path.{_≡_, refl, sym, ap, ap₂, _∙_, subst}
 use mathlib.Core.Bool.{Bool, true, false, _&&_}
 use mathlib.Core.List.{List, _++_}
@@ -18,7 +19,8 @@ use Rattle.content.specs.Content.{textBytes, part, blockCount, plain, lengthIn,
 use Rattle.content.specs.Pieces.{part-is, length-part}
 use Rattle.content.specs.Laws.{head-is, fits-tells, few-blocks, length-plain, lengthIn-plain, lengthIn-take}
 use Rattle.content.specs.Laws.{setIn-plain, fits-plain}
-use Rattle.half.specs.Half.{block, firstBlocks, half, blockAt, setNumber, blockFits, firstFit, openedBlocks, wholeBlocks, whyNotOpened, whyNot, openedSet}
+use Rattle.half.specs.Half.{block, firstBlocks, half, blockAt, setNumber, blockFits, firstFit, openedBlocks}
+use Rattle.half.specs.Half.{wholeBlocks, whyNotOpened, whyNot, openedSet}
 use Rattle.half.specs.Laws.{length-blocks, block-at, set-of-block, index-of-block, are-fit, are-opened}
 
 -- ---- a set's own half
@@ -54,13 +56,16 @@ module _ (key name : List ℕ) (party : ℕ) (named : length name ≡ 16) where
     half-number =
         number-of (half key name party s)
         ∙ ap (λ (b : List ℕ). number (part 0 8 b)) (are 0 (omega (arith, some-blocks .0)))
-        ∙ set-of-block key (s .number) 0 (part (484 * 0) 484 text) (length-part text (484 * 0) 484 (omega (arith, long, some-blocks .0))) (p .number-fits)
+        ∙ set-of-block key (s .number) 0 (part (484 * 0) 484 text)
+        (length-part text (484 * 0) 484 (omega (arith, long, some-blocks .0))) (p .number-fits)
 
     counted : length (half key name party s) / 512 ≡ count
     counted = omega (arith, length-half)
 
     opens-to : openedBlocks key (half key name party s) count ≡ text
-    opens-to = are-opened key (s .number) text (half key name party s) count (omega (arith, long)) are ∙ take-all (484 * count) text (omega (arith, long))
+    opens-to =
+        are-opened key (s .number) text (half key name party s) count (omega (arith, long)) are
+        ∙ take-all (484 * count) text (omega (arith, long))
 
     -- it is taken where the last number is below its own ..
     pub half-taken : (last : ℕ) → last < s .number → whyNot key name party last (half key name party s) ≡ 0
@@ -74,7 +79,8 @@ module _ (key name : List ℕ) (party : ℕ) (named : length name ≡ 16) where
           le-leb count 16 (some-blocks .1),
           half-number,
           lt-ltb last (s .number) l,
-          are-fit key (s .number) text (half key name party s) count (omega (arith, long)) (p .number-fits) (omega (arith, some-blocks .1)) half-number are,
+          are-fit key (s .number) text (half key name party s) count (omega (arith, long))
+              (p .number-fits) (omega (arith, some-blocks .1)) half-number are,
           opens-to,
           fits-plain name party s named p,
         )
@@ -103,31 +109,47 @@ module _ (key name : List ℕ) (party : ℕ) (named : length name ≡ 16) where
       let c = passed _ (f .1) in
       let a = both (eqb (length h % 512) 0) (leb 3 (length h / 512) && leb (length h / 512) 16) (w .0) in
       let b = both (leb 3 (length h / 512)) (leb (length h / 512) 16) (a .1) in
-      record { whole = omega (arith, eqb-true (length h % 512) 0 (a .0)); three = leb-true 3 (length h / 512) (b .0); fit = f .0; content = c .0 }
+      record {
+        whole = omega (arith, eqb-true (length h % 512) 0 (a .0));
+        three = leb-true 3 (length h / 512) (b .0);
+        fit = f .0;
+        content = c .0;
+      }
 
   -- block i of those that fit
-  fits-at : (h : List ℕ) (k i : ℕ) → firstFit key h k ≡ true → i < k → blockFits key (setNumber h) i (blockAt h i) ≡ true
+  fits-at : (h : List ℕ) (k i : ℕ) → firstFit key h k ≡ true → i < k
+      → blockFits key (setNumber h) i (blockAt h i) ≡ true
   unfolding firstFit
   fits-at h zero i e l = absurd (omega arith)
-  fits-at h (suc k) i e l = last-or (ltb i k) refl (both (firstFit key h k) (blockFits key (setNumber h) k (blockAt h k)) e) (λ e l. fits-at h k i e l)
+  fits-at h (suc k) i e l =
+      last-or (ltb i k) refl (both (firstFit key h k) (blockFits key (setNumber h) k (blockAt h k)) e)
+      (λ e l. fits-at h k i e l)
     where
-      last-or : (t : Bool) → ltb i k ≡ t → (firstFit key h k ≡ true) × (blockFits key (setNumber h) k (blockAt h k) ≡ true)
-          → (firstFit key h k ≡ true → i < k → blockFits key (setNumber h) i (blockAt h i) ≡ true) → blockFits key (setNumber h) i (blockAt h i) ≡ true
+      last-or : (t : Bool) → ltb i k ≡ t
+          → (firstFit key h k ≡ true) × (blockFits key (setNumber h) k (blockAt h k) ≡ true)
+          → (firstFit key h k ≡ true → i < k → blockFits key (setNumber h) i (blockAt h i) ≡ true)
+          → blockFits key (setNumber h) i (blockAt h i) ≡ true
       last-or true q b before = before (b .0) (ltb-true i k q)
-      last-or false q b before = let same : k ≡ i = omega (arith, ltb-false i k q) in subst (λ (j : ℕ). blockFits key (setNumber h) j (blockAt h j) ≡ true) same (b .1)
+      last-or false q b before =
+          let same : k ≡ i = omega (arith, ltb-false i k q) in
+          subst (λ (j : ℕ). blockFits key (setNumber h) j (blockAt h j) ≡ true) same (b .1)
 
   -- blocks that are a list's, all of it, make the list
-  made : (set : ℕ) (p h : List ℕ) (k : ℕ) → 512 * k ≤ length h → ((i : ℕ) → i < k → blockAt h i ≡ block key set i (part (484 * i) 484 p)) → take (512 * k) h ≡ firstBlocks key set p k
+  made : (set : ℕ) (p h : List ℕ) (k : ℕ) → 512 * k ≤ length h
+      → ((i : ℕ) → i < k → blockAt h i ≡ block key set i (part (484 * i) 484 p))
+      → take (512 * k) h ≡ firstBlocks key set p k
   unfolding firstBlocks blockAt
   made set p h zero l f = refl
   made set p h (suc k) l f =
       let more : 512 * suc k ≡ 512 * k + 512 = omega arith in
       rw more
       (take-add (512 * k) 512 h
-      ∙ ap₂ (λ (a b : List ℕ). a ++ b) (made set p h k (omega arith) (λ i g. f i (omega arith))) (part-is (512 * k) 512 h ∙ f k (omega arith)))
+      ∙ ap₂ (λ (a b : List ℕ). a ++ b) (made set p h k (omega arith) (λ i g. f i (omega arith)))
+      (part-is (512 * k) 512 h ∙ f k (omega arith)))
 
   -- some deals, whose sets' numbers are distinct
-  module _ (D : Set → Type 0) (sound : (s : Set) → D s → Proper s) (one : (s t : Set) → D s → D t → s .number ≡ t .number → s ≡ t) where
+  module _ (D : Set → Type 0) (sound : (s : Set) → D s → Proper s)
+      (one : (s t : Set) → D s → D t → s .number ≡ t .number → s ≡ t) where
     -- a block that some deal wrote for this party
     pub record Wrote (b : List ℕ) : Type 0 where
       pub set : Set
@@ -153,8 +175,10 @@ module _ (key name : List ℕ) (party : ℕ) (named : length name ≡ 16) where
           let at : blockAt h i ≡ block key (s .number) k (part (484 * k) 484 text) = w .is ∙ are s p k (w .among) in
           let size = length-part text (484 * k) 484 whole in
           let small : k < 2 ^ 32 = omega (arith, w .among, some-blocks s p .1) in (
-            sym (index-of-block key (s .number) k (part (484 * k) 484 text) size small) ∙ ap (λ (b : List ℕ). number (part 8 4 b)) (sym at) ∙ eqb-true _ i (a .0),
-            sym (set-of-block key (s .number) k (part (484 * k) 484 text) size (p .number-fits)) ∙ ap (λ (b : List ℕ). number (part 0 8 b)) (sym at) ∙ eqb-true _ (setNumber h) (b .0),
+            sym (index-of-block key (s .number) k (part (484 * k) 484 text) size small)
+                ∙ ap (λ (b : List ℕ). number (part 8 4 b)) (sym at) ∙ eqb-true _ i (a .0),
+            sym (set-of-block key (s .number) k (part (484 * k) 484 text) size (p .number-fits))
+                ∙ ap (λ (b : List ℕ). number (part 0 8 b)) (sym at) ∙ eqb-true _ (setNumber h) (b .0),
           )
 
       none : 0 < length h / 512
@@ -172,11 +196,15 @@ module _ (key name : List ℕ) (party : ℕ) (named : length name ≡ 16) where
           × (blockAt h i ≡ block key (deal .number) i (part (484 * i) 484 (plain name party deal)))
       all-its i l =
           let w = wrote i l in
-          let same : w .set ≡ deal = one (w .set) deal (w .dealt) (wrote 0 none .dealt) (placed i l .1 ∙ sym (placed 0 none .1)) in
+          let same : w .set ≡ deal =
+          one (w .set) deal (w .dealt) (wrote 0 none .dealt) (placed i l .1 ∙ sym (placed 0 none .1)) in
           let among : i < blockCount (deal .terms .n) =
           subst (λ (s : Set). i < blockCount (s .terms .n)) same
-          (subst (λ (k : ℕ). k < blockCount (w .set .terms .n)) (placed i l .0) (w .among)) in
-          (among, w .is ∙ ap₂ (λ (s : Set) (k : ℕ). blockAt (half key name party s) k) same (placed i l .0) ∙ are deal proper i among)
+          (subst (λ (k : ℕ). k < blockCount (w .set .terms .n)) (placed i l .0) (w .among)) in (
+            among,
+            w .is ∙ ap₂ (λ (s : Set) (k : ℕ). blockAt (half key name party s) k) same (placed i l .0)
+                ∙ are deal proper i among,
+          )
 
       -- as many blocks as it has
       counts : length h / 512 ≡ blockCount (deal .terms .n)
@@ -186,7 +214,8 @@ module _ (key name : List ℕ) (party : ℕ) (named : length name ≡ 16) where
           let last : k - 1 < k = omega (arith, t .three) in
           let fewer : k ≤ blockCount (deal .terms .n) = omega (arith, all-its (k - 1) last .0) in
           let enough : 484 * k ≤ length text = omega (arith, length-plain name party deal named proper) in
-          let opened : openedBlocks key h k ≡ take (484 * k) text = are-opened key (deal .number) text h k enough (λ i l. all-its i l .1) in
+          let opened : openedBlocks key h k ≡ take (484 * k) text =
+          are-opened key (deal .number) text h k enough (λ i l. all-its i l .1) in
           let n : lengthIn (openedBlocks key h k) ≡ deal .terms .n =
           ap lengthIn opened ∙ lengthIn-take (textBytes * k) text (omega (arith, head-is 0, t .three))
           ∙ lengthIn-plain name party deal named proper in
@@ -197,9 +226,13 @@ module _ (key name : List ℕ) (party : ℕ) (named : length name ≡ 16) where
       unfolding half
       is-its =
           sym (take-all (512 * (length h / 512)) h (omega (arith, t .whole)))
-          ∙ made (deal .number) (plain name party deal) h (length h / 512) (omega (arith, t .whole)) (λ i l. all-its i l .1)
+          ∙ made (deal .number) (plain name party deal) h (length h / 512)
+          (omega (arith, t .whole)) (λ i l. all-its i l .1)
           ∙ ap (firstBlocks key (deal .number) (plain name party deal)) counts
 
     -- Of whole blocks each of which some deal wrote for this party, what is taken is one deal's whole half
-    pub only-whole : (last : ℕ) (h : List ℕ) → ((i : ℕ) → i < length h / 512 → Wrote (blockAt h i)) → whyNot key name party last h ≡ 0 → (s : Set) × D s × (h ≡ half key name party s)
-    only-whole last h wrote e = let t = taken last h e in (deal h wrote t, wrote 0 (none h wrote t) .dealt, is-its h wrote t)
+    pub only-whole : (last : ℕ) (h : List ℕ) → ((i : ℕ) → i < length h / 512 → Wrote (blockAt h i))
+        → whyNot key name party last h ≡ 0 → (s : Set) × D s × (h ≡ half key name party s)
+    only-whole last h wrote e =
+        let t = taken last h e in
+        (deal h wrote t, wrote 0 (none h wrote t) .dealt, is-its h wrote t)

@@ -58,11 +58,19 @@ module _ (key : List ℕ) (set i : ℕ) (text : List ℕ) (long : length text �
 
   pub length-block : length (block key set i text) ≡ 512
   unfolding block
-  length-block = omega (arith, length-append h (sealed ++ tag), length-append sealed tag, length-header set i, length-sealed, length-tag key h h sealed)
+  length-block = omega (
+    arith,
+    length-append h (sealed ++ tag),
+    length-append sealed tag,
+    length-header set i,
+    length-sealed,
+    length-tag key h h sealed,
+  )
 
   pub block-header : part 0 12 (block key set i text) ≡ h
   unfolding block
-  block-header = part-front h (sealed ++ tag) 0 12 (omega (arith, length-header set i)) ∙ part-all h 12 (length-header set i)
+  block-header =
+      part-front h (sealed ++ tag) 0 12 (omega (arith, length-header set i)) ∙ part-all h 12 (length-header set i)
 
   pub block-set : part 0 8 (block key set i text) ≡ bytes 8 set
   unfolding block header
@@ -81,7 +89,8 @@ module _ (key : List ℕ) (set i : ℕ) (text : List ℕ) (long : length text �
   pub block-sealed : part 12 484 (block key set i text) ≡ sealed
   unfolding block
   block-sealed =
-      part-back h (sealed ++ tag) 12 0 484 (omega (arith, length-header set i)) ∙ part-front sealed tag 0 484 (omega (arith, length-sealed)) ∙ part-all sealed 484 length-sealed
+      part-back h (sealed ++ tag) 12 0 484 (omega (arith, length-header set i))
+      ∙ part-front sealed tag 0 484 (omega (arith, length-sealed)) ∙ part-all sealed 484 length-sealed
 
   pub block-tag : part 496 16 (block key set i text) ≡ tag
   unfolding block
@@ -98,8 +107,10 @@ module _ (key : List ℕ) (set i : ℕ) (text : List ℕ) (long : length text �
   index-of-block l = ap number block-index ∙ number-four i l
 
   -- it opens, to the text that was sealed
-  pub block-opens : opens key (part 0 12 (block key set i text)) (part 0 12 (block key set i text)) (part 12 484 (block key set i text)) (part 496 16 (block key set i text)) ≡ true
-  block-opens = rw (block-header, block-sealed, block-tag) (opens-if key h h sealed tag (omega (arith, length-sealed)) refl)
+  pub block-opens : opens key (part 0 12 (block key set i text)) (part 0 12 (block key set i text))
+      (part 12 484 (block key set i text)) (part 496 16 (block key set i text)) ≡ true
+  block-opens =
+      rw (block-header, block-sealed, block-tag) (opens-if key h h sealed tag (omega (arith, length-sealed)) refl)
 
   pub block-text : cipher key (part 0 12 (block key set i text)) (part 12 484 (block key set i text)) ≡ text
   block-text = rw (block-header, block-sealed) (cipher-twice key h text)
@@ -115,24 +126,33 @@ module _ (key : List ℕ) (set : ℕ) (p : List ℕ) where
   unfolding firstBlocks
   length-blocks zero h = refl
   length-blocks (suc k) h =
-      omega
-      (arith, length-append (firstBlocks key set p k) (block key set k (part (484 * k) 484 p)), length-blocks k (omega arith), length-block key set k (part (484 * k) 484 p) (length-part p (484 * k) 484 (omega arith)))
+      omega (
+        arith,
+        length-append (firstBlocks key set p k) (block key set k (part (484 * k) 484 p)),
+        length-blocks k (omega arith),
+        length-block key set k (part (484 * k) 484 p) (length-part p (484 * k) 484 (omega arith)),
+      )
 
   -- block i of them
-  one-more : (k i : ℕ) (t : Bool) → ltb i k ≡ t → 484 * suc k ≤ length p → i < suc k → (i < k → blockAt (firstBlocks key set p k) i ≡ block key set i (part (484 * i) 484 p))
+  one-more : (k i : ℕ) (t : Bool) → ltb i k ≡ t → 484 * suc k ≤ length p → i < suc k
+      → (i < k → blockAt (firstBlocks key set p k) i ≡ block key set i (part (484 * i) 484 p))
       → blockAt (firstBlocks key set p (suc k)) i ≡ block key set i (part (484 * i) 484 p)
   unfolding firstBlocks blockAt
   one-more k i true e h l before =
       let below : i < k = ltb-true i k e in
-      part-front (firstBlocks key set p k) (block key set k (part (484 * k) 484 p)) (512 * i) 512 (omega (arith, length-blocks k (omega arith))) ∙ before below
+      part-front (firstBlocks key set p k) (block key set k (part (484 * k) 484 p))
+      (512 * i) 512 (omega (arith, length-blocks k (omega arith))) ∙ before below
   one-more k i false e h l before =
       let same : i ≡ k = omega (arith, ltb-false i k e) in
-      let size : length (block key set k (part (484 * k) 484 p)) ≡ 512 = length-block key set k (part (484 * k) 484 p) (length-part p (484 * k) 484 (omega arith)) in
-      part-back (firstBlocks key set p k) (block key set k (part (484 * k) 484 p)) (512 * i) 0 512 (omega (arith, length-blocks k (omega arith)))
+      let size : length (block key set k (part (484 * k) 484 p)) ≡ 512 =
+      length-block key set k (part (484 * k) 484 p) (length-part p (484 * k) 484 (omega arith)) in
+      part-back (firstBlocks key set p k) (block key set k (part (484 * k) 484 p))
+      (512 * i) 0 512 (omega (arith, length-blocks k (omega arith)))
       ∙ part-all (block key set k (part (484 * k) 484 p)) 512 size
       ∙ ap (λ (j : ℕ). block key set j (part (484 * j) 484 p)) (sym same)
 
-  pub block-at : (k i : ℕ) → 484 * k ≤ length p → i < k → blockAt (firstBlocks key set p k) i ≡ block key set i (part (484 * i) 484 p)
+  pub block-at : (k i : ℕ) → 484 * k ≤ length p → i < k
+      → blockAt (firstBlocks key set p k) i ≡ block key set i (part (484 * i) 484 p)
   block-at zero i h l = absurd (omega arith)
   block-at (suc k) i h l = one-more k i (ltb i k) refl h l (λ below. block-at k i (omega arith) below)
 
@@ -141,7 +161,8 @@ module _ (key : List ℕ) (set : ℕ) (p : List ℕ) where
     abbrev Are : ℕ → Type 0
     Are k = (i : ℕ) → i < k → blockAt h i ≡ block key set i (part (484 * i) 484 p)
 
-    pub are-fit : (k : ℕ) → 484 * k ≤ length p → set < 2 ^ 64 → k ≤ 2 ^ 32 → setNumber h ≡ set → Are k → firstFit key h k ≡ true
+    pub are-fit : (k : ℕ) → 484 * k ≤ length p → set < 2 ^ 64 → k ≤ 2 ^ 32 → setNumber h ≡ set → Are k
+        → firstFit key h k ≡ true
     unfolding firstFit
     are-fit zero l s m e f = refl
     are-fit (suc k) l s m e f =
@@ -153,7 +174,12 @@ module _ (key : List ℕ) (set : ℕ) (p : List ℕ) where
     are-opened zero l f = refl
     are-opened (suc k) l f =
         let more : 484 * suc k ≡ 484 * k + 484 = omega arith in
-        rw (are-opened k (omega arith) (λ i g. f i (omega arith)), f k (omega arith), block-text key set k (part (484 * k) 484 p) (length-part p (484 * k) 484 (omega arith)), more)
+        rw (
+          are-opened k (omega arith) (λ i g. f i (omega arith)),
+          f k (omega arith),
+          block-text key set k (part (484 * k) 484 p) (length-part p (484 * k) 484 (omega arith)),
+          more,
+        )
         (sym (take-add (484 * k) 484 p))
 
 -- a part put back is written over what was there

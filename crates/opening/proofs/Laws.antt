@@ -29,23 +29,28 @@ load-law b x y h e f = (λ i. e i + f i * 2 ^ 32) ∙ sym (number-words b 0 h)
 
 -- ---- a block's header: x, y and z are its three words
 
-module _ (b : List ℕ) (x y z set i : ℕ) (long : 12 ≤ length b) (ex : x ≡ wordAt b 0) (ey : y ≡ wordAt b 4) (ez : z ≡ wordAt b 8) where
+module _ (b : List ℕ) (x y z set i : ℕ) (long : 12 ≤ length b)
+    (ex : x ≡ wordAt b 0) (ey : y ≡ wordAt b 4) (ez : z ≡ wordAt b 8) where
   pub headed : (s : ℕ) → s ≡ x + y * 2 ^ 32 → eqb z i && eqb s set ≡ eqb (wordAt b 8) i && eqb (setNumber b) set
   headed s e = rw (ez, e ∙ load-law b x y (omega arith) ex ey) refl
 
-  header-is : z ≡ i → x + y * 2 ^ 32 ≡ set → x < 2 ^ 32 → y < 2 ^ 32 → z < 2 ^ 32 → wordsAt 3 (part 0 12 b) ≡ wordsAt 3 (header set i)
+  header-is : z ≡ i → x + y * 2 ^ 32 ≡ set → x < 2 ^ 32 → y < 2 ^ 32 → z < 2 ^ 32
+      → wordsAt 3 (part 0 12 b) ≡ wordsAt 3 (header set i)
   unfolding wordsAt tab
   header-is ei es hx hy hz =
       let low : set % 2 ^ 32 ≡ x = omega arith in
       let high : set / 2 ^ 32 ≡ y = omega arith in
       let made : wordsAt 3 (header set i) ≡ x ∷ y ∷ z ∷ [] =
-      ap (wordsAt 3) (sym (header-words set i)) ∙ nonce-words (set % 2 ^ 32) (set / 2 ^ 32) i (omega arith) (omega arith) (omega arith) ∙ (λ j. low j ∷ high j ∷ sym ei j ∷ []) in
+      ap (wordsAt 3) (sym (header-words set i))
+      ∙ nonce-words (set % 2 ^ 32) (set / 2 ^ 32) i (omega arith) (omega arith) (omega arith)
+      ∙ (λ j. low j ∷ high j ∷ sym ei j ∷ []) in
       let read0 = wordAt-part 0 12 b 0 (omega arith) ∙ sym ex in
       let read1 = wordAt-part 0 12 b 4 (omega arith) ∙ sym ey in
       let read2 = wordAt-part 0 12 b 8 (omega arith) ∙ sym ez in
       (λ j. read0 j ∷ read1 j ∷ read2 j ∷ []) ∙ sym made
 
-  pub headed-words : (s : ℕ) → s ≡ x + y * 2 ^ 32 → x < 2 ^ 32 → y < 2 ^ 32 → z < 2 ^ 32 → eqb z i && eqb s set ≡ true → wordsAt 3 (part 0 12 b) ≡ wordsAt 3 (header set i)
+  pub headed-words : (s : ℕ) → s ≡ x + y * 2 ^ 32 → x < 2 ^ 32 → y < 2 ^ 32 → z < 2 ^ 32 → eqb z i && eqb s set ≡ true
+      → wordsAt 3 (part 0 12 b) ≡ wordsAt 3 (header set i)
   headed-words s e hx hy hz ok =
       let parts = both (eqb z i) (eqb s set) ok in
       header-is (eqb-true z i (parts .0)) (sym e ∙ eqb-true s set (parts .1)) hx hy hz
@@ -54,9 +59,11 @@ pub nonce-part : (b n : List ℕ) → length b ≡ 512 → n ≡ over 0 (take 12
 unfolding part
 nonce-part b n lb e = e ∙ over-all (take 12 b) (replicate 12 0) (length-take-le 12 b (omega arith))
 
--- a block's text: n, t and o are the copies of its nonce, its tag and its sealed bytes, and z is what the opening leaves of o
+-- a block's text: n, t and o are the copies of its nonce, its tag
+-- and its sealed bytes, and z is what the opening leaves of o
 module _ (key b out0 n t o : List ℕ) (r : Bool) (lb : length b ≡ 512) (lo : length out0 ≡ 484)
-    (en : n ≡ over 0 (take 12 (drop 0 b)) (replicate 12 0)) (et : t ≡ over 0 (take 16 (drop 496 b)) (replicate 16 0)) (eo : o ≡ over 0 (take 484 (drop 12 b)) out0)
+    (en : n ≡ over 0 (take 12 (drop 0 b)) (replicate 12 0))
+    (et : t ≡ over 0 (take 16 (drop 496 b)) (replicate 16 0)) (eo : o ≡ over 0 (take 484 (drop 12 b)) out0)
     (er : r ≡ opens key n n o t)
   where
     nonce-is : n ≡ part 0 12 b
@@ -64,16 +71,21 @@ module _ (key b out0 n t o : List ℕ) (r : Bool) (lb : length b ≡ 512) (lo : 
 
     tag-part : t ≡ part 496 16 b
     unfolding part
-    tag-part = et ∙ over-all (take 16 (drop 496 b)) (replicate 16 0) (length-take-le 16 (drop 496 b) (omega (arith, length-drop 496 b)))
+    tag-part =
+        et ∙ over-all (take 16 (drop 496 b)) (replicate 16 0)
+        (length-take-le 16 (drop 496 b) (omega (arith, length-drop 496 b)))
 
     text-part : o ≡ part 12 484 b
     unfolding part
-    text-part = eo ∙ over-all (take 484 (drop 12 b)) out0 (length-take-le 484 (drop 12 b) (omega (arith, length-drop 12 b)) ∙ sym lo)
+    text-part =
+        eo ∙ over-all (take 484 (drop 12 b)) out0
+        (length-take-le 484 (drop 12 b) (omega (arith, length-drop 12 b)) ∙ sym lo)
 
     pub text-opens : r ≡ opens key (part 0 12 b) (part 0 12 b) (part 12 484 b) (part 496 16 b)
     text-opens = er ∙ rw (nonce-is, tag-part, text-part) refl
 
-    pub opened-text : (z : List ℕ) → z ≡ openedTextOf key n n o t → r ≡ true → z ≡ cipher key (part 0 12 b) (part 12 484 b)
+    pub opened-text : (z : List ℕ) → z ≡ openedTextOf key n n o t → r ≡ true
+        → z ≡ cipher key (part 0 12 b) (part 12 484 b)
     unfolding openedTextOf
     opened-text z ez ok = ez ∙ rw (sym er ∙ ok) (ap₂ (cipher key) nonce-is text-part)
 
@@ -98,17 +110,26 @@ unfolding openedBlocks blockAt
 length-opened key h zero l = refl
 length-opened key h (suc i) l =
     let b : List ℕ = part (512 * i) 512 h in
-    let size : length (cipher key (part 0 12 b) (part 12 484 b)) ≡ 484 = length-cipher key (part 0 12 b) (part 12 484 b) ∙ length-part b 12 484 (omega (arith, length-part h (512 * i) 512 (omega arith))) in
-    omega (arith, length-append (openedBlocks key h i) (cipher key (part 0 12 b) (part 12 484 b)), length-opened key h i (omega arith), size)
+    let size : length (cipher key (part 0 12 b) (part 12 484 b)) ≡ 484 = length-cipher key (part 0 12 b) (part 12 484 b)
+    ∙ length-part b 12 484 (omega (arith, length-part h (512 * i) 512 (omega arith))) in
+    omega (
+      arith,
+      length-append (openedBlocks key h i) (cipher key (part 0 12 b) (part 12 484 b)),
+      length-opened key h i (omega arith),
+      size,
+    )
 
 -- one block more
 module _ (key h out0 out b : List ℕ) (set i k m : ℕ) (fit this : Bool) (es : set ≡ setNumber h) (ek : k ≡ 512) where
-  pub fit-more : fit ≡ firstFit key h i → this ≡ blockFits key set i (take k (drop (512 * i) h)) → fit && this ≡ firstFit key h (i + 1)
+  pub fit-more : fit ≡ firstFit key h i → this ≡ blockFits key set i (take k (drop (512 * i) h))
+      → fit && this ≡ firstFit key h (i + 1)
   unfolding firstFit blockAt part
   fit-more e f = rw (add-one i, e, f, es, ek) refl
 
-  pub opened-more : m ≡ 484 → 512 * (i + 1) ≤ length h → 484 * (i + 1) ≤ length out → length b ≡ 484 → (fit ≡ true → out ≡ over 0 (openedBlocks key h i) out0)
-      → (this ≡ true → b ≡ cipher key (part 0 12 (take k (drop (512 * i) h))) (part 12 484 (take k (drop (512 * i) h)))) → fit && this ≡ true
+  pub opened-more : m ≡ 484 → 512 * (i + 1) ≤ length h → 484 * (i + 1) ≤ length out
+      → length b ≡ 484 → (fit ≡ true → out ≡ over 0 (openedBlocks key h i) out0)
+      → (this ≡ true → b ≡ cipher key (part 0 12 (take k (drop (512 * i) h))) (part 12 484 (take k (drop (512 * i) h))))
+      → fit && this ≡ true
       → putMid (484 * i) m out b ≡ over 0 (openedBlocks key h (i + 1)) out0
   unfolding openedBlocks blockAt
   opened-more em lh lo lb f g ok =
@@ -116,13 +137,20 @@ module _ (key h out0 out b : List ℕ) (set i k m : ℕ) (fit this : Bool) (es :
       let fits = both fit this ok in
       let e = f (fits .0) in
       let is : b ≡ cipher key (part 0 12 block) (part 12 484 block) =
-      g (fits .1) ∙ ap (λ (n : ℕ). cipher key (part 0 12 (take n (drop (512 * i) h))) (part 12 484 (take n (drop (512 * i) h)))) ek ∙ unfolded in
+      g (fits .1)
+      ∙ ap (λ (n : ℕ). cipher key (part 0 12 (take n (drop (512 * i) h))) (part 12 484 (take n (drop (512 * i) h)))) ek
+      ∙ unfolded in
       rw (add-one i)
-      (over-next (openedBlocks key h i) (cipher key (part 0 12 block) (part 12 484 block)) out0 out (putMid (484 * i) m out b) 0 (484 * i) (length-opened key h i (omega arith)) e
-      (put-over (484 * i) m out b (lb ∙ sym em) (omega arith) ∙ ap₂ (λ (n : ℕ) (l : List ℕ). over n l out) (omega arith) is))
+      (over-next (openedBlocks key h i) (cipher key (part 0 12 block) (part 12 484 block)) out0 out
+      (putMid (484 * i) m out b) 0 (484 * i) (length-opened key h i (omega arith)) e
+      (put-over (484 * i) m out b (lb ∙ sym em) (omega arith)
+      ∙ ap₂ (λ (n : ℕ) (l : List ℕ). over n l out) (omega arith) is))
     where
-      unfolded : cipher key (part 0 12 (take 512 (drop (512 * i) h))) (part 12 484 (take 512 (drop (512 * i) h))) ≡ cipher key (part 0 12 (part (512 * i) 512 h)) (part 12 484 (part (512 * i) 512 h))
+      unfolded : cipher key (part 0 12 (take 512 (drop (512 * i) h))) (part 12 484 (take 512 (drop (512 * i) h)))
+          ≡ cipher key (part 0 12 (part (512 * i) 512 h)) (part 12 484 (part (512 * i) 512 h))
       unfolded = ap (λ (l : List ℕ). cipher key (part 0 12 l) (part 12 484 l)) (part-is (512 * i) 512 h)
 
-pub opened-all : (key h out0 out : List ℕ) (count : ℕ) → 512 * count ≤ length h → length out0 ≡ 484 * count → out ≡ over 0 (openedBlocks key h count) out0 → out ≡ openedBlocks key h count
-opened-all key h out0 out count l lo e = e ∙ over-all (openedBlocks key h count) out0 (length-opened key h count l ∙ sym lo)
+pub opened-all : (key h out0 out : List ℕ) (count : ℕ) → 512 * count ≤ length h → length out0 ≡ 484 * count
+    → out ≡ over 0 (openedBlocks key h count) out0 → out ≡ openedBlocks key h count
+opened-all key h out0 out count l lo e =
+    e ∙ over-all (openedBlocks key h count) out0 (length-opened key h count l ∙ sym lo)

@@ -10,7 +10,8 @@ use Rattle.half.proofs.write_blocks.Statement.{statement}
 use Rattle.half.proofs.write_blocks.Tie as tie
 
 abbrev Inv-loop : tie.InvT-loop
-Inv-loop key number count p out₀ keys i₀ out i = (i ≤ count) × (length out ≡ length out₀) × (out ≡ over 0 (firstBlocks key number p i) out₀)
+Inv-loop key number count p out₀ keys i₀ out i =
+    (i ≤ count) × (length out ≡ length out₀) × (out ≡ over 0 (firstBlocks key number p i) out₀)
 
 abbrev μ-loop : tie.MeasureT-loop
 μ-loop key number count p out₀ keys i₀ out i = count - i
@@ -86,7 +87,10 @@ loop-again c =
     let at-loop = at-key .before .before .before in
     let args = at-loop .before .before .before .before .args in
     let i = at-loop .loop .i in
-    let next = blocks-more (args .key .now) (args .p .now) (args .out .now) (at-loop .loop .out) (at-block .write-block .last .1 .1 .1 .1 .1 .0) (args .number) i (484 * i + 484 - 484 * i) (512 * i + 512 - 512 * i) (omega arith) (omega arith) (at-loop .loop .inv .1) (omega arith) (omega arith) (at-loop .loop .inv .2) (at-block .write-block .ensures) in
+    let next = blocks-more (args .key .now) (args .p .now) (args .out .now) (at-loop .loop .out)
+    (at-block .write-block .last .1 .1 .1 .1 .1 .0) (args .number) i (484 * i + 484 - 484 * i)
+    (512 * i + 512 - 512 * i) (omega arith) (omega arith) (at-loop .loop .inv .1)
+    (omega arith) (omega arith) (at-loop .loop .inv .2) (at-block .write-block .ensures) in
     (search needs, ap length next ∙ length-over _ _ _, next)
 
 same-length : tie.Need-same-length Inv-loop μ-loop
