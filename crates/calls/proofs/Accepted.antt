@@ -1,4 +1,5 @@
--- What acceptance tells: for each call, over any state and anything handed in, what its tests say where none refuses. Assumes nothing.
+-- What acceptance tells: for each call, over any state and anything handed in, what its tests say where none refuses.
+-- Assumes nothing.
 use mathlib.Core.Path.{_≡_, refl}
 use mathlib.Core.Bool.{Bool, true, not}
 use mathlib.Core.List.{List}
@@ -33,13 +34,19 @@ pub record Heard (kind sender number : ℕ) (door : List ℕ) (l : Label) (name 
   pub number-is : l .number ≡ number
   pub name-is : name ≡ door
 
-pub heard : (kind sender number : ℕ) (door : List ℕ) (l : Label) (name : List ℕ) → expected kind door sender l name ≡ true → l .number ≡ number
+pub heard : (kind sender number : ℕ) (door : List ℕ) (l : Label) (name : List ℕ)
+    → expected kind door sender l name ≡ true → l .number ≡ number
     → Heard kind sender number door l name
 unfolding expected
 heard kind sender number door l name e n =
     let t = both (eqb (l .kind) kind) _ e in
     let u = both (same name door) _ (t .1) in
-    record { kind-is = eqb-true _ _ (t .0); sender-is = eqb-true _ _ (u .1); number-is = n; name-is = same-eq name door (u .0) }
+    record {
+      kind-is = eqb-true _ _ (t .0);
+      sender-is = eqb-true _ _ (u .1);
+      number-is = n;
+      name-is = same-eq name door (u .0);
+    }
 
 -- ---- a box
 
@@ -60,7 +67,11 @@ pub load-tells : (s : Party) (h : List ℕ) → whyNotLoad s h ≡ 0 → LoadTel
 unfolding whyNotLoad
 load-tells s h e =
     let t = passed _ e in
-    record { turn = in-turn 0 s (t .0); examined = t .1; above = half-above (s .who .key) (s .who .name) (s .who .party) (s .last) h (t .1) }
+    record {
+      turn = in-turn 0 s (t .0);
+      examined = t .1;
+      above = half-above (s .who .key) (s .who .name) (s .who .party) (s .last) h (t .1);
+    }
 
 pub record MaskTells (s : Party) (v : List ℕ) (room : ℕ) : Type 0 where
   pub turn : s .check .phase ≡ 1
@@ -87,12 +98,16 @@ pub record MessageTells (phase kind : ℕ) (s : Party) (l : Label) (name : List 
   pub hears : Heard kind (1 - s .who .party) (s .check .set .number) (s .who .name) l name
 
 message-tells : (phase kind : ℕ) (s : Party) (l : Label) (name : List ℕ) (lengths : Bool)
-    → unless (inTurn phase s) 3 (unless lengths 4 (unless (expected kind (s .who .name) (1 - s .who .party) l name) 6 (unless (eqb (l .number) (s .check .set .number)) 7 0))) ≡ 0
+    → unless (inTurn phase s) 3 (unless lengths 4 (unless (expected kind (s .who .name) (1 - s .who .party) l name) 6
+    (unless (eqb (l .number) (s .check .set .number)) 7 0))) ≡ 0
     → MessageTells phase kind s l name
 message-tells phase kind s l name lengths e =
     let t = passed _ e in
     let u = passed _ (passed _ (t .1) .1) in
-    record { turn = in-turn phase s (t .0); hears = heard kind _ _ (s .who .name) l name (u .0) (eqb-true _ _ (passed _ (u .1) .0)) }
+    record {
+      turn = in-turn phase s (t .0);
+      hears = heard kind _ _ (s .who .name) l name (u .0) (eqb-true _ _ (passed _ (u .1) .0));
+    }
 
 pub take-tells : (s : Party) (l : Label) (name v : List ℕ) → whyNotTake s l name v ≡ 0 → MessageTells 2 0 s l name
 unfolding whyNotTake whyNotMessage

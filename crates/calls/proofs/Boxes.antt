@@ -49,7 +49,8 @@ put-same f camera office = refl
 put-same f office camera = refl
 put-same f office office = refl
 
-pub put-all : {A : Type 0} (P : Box → A → Type 0) (f : Box → A) (b : Box) (a : A) → P b a → P (other b) (f (other b)) → (c : Box) → P c (put f b a c)
+pub put-all : {A : Type 0} (P : Box → A → Type 0) (f : Box → A) (b : Box) (a : A)
+    → P b a → P (other b) (f (other b)) → (c : Box) → P c (put f b a c)
 put-all P f camera a p q camera = p
 put-all P f camera a p q office = q
 put-all P f office a p q camera = q

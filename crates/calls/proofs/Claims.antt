@@ -9,8 +9,10 @@ use Rattle.measure.specs.declared.Terms.{Terms}
 use Rattle.measure.specs.Measure.{isCode}
 use Rattle.measure.specs.Laws.{any-length, reached-plain}
 use Rattle.dealing.specs.Dealing.{Deal}
-use Rattle.calls.specs.Lists.{Box, Starts, Started, beginning, Call, camera, office, joined, after, events, history, Admissible}
-use Rattle.calls.specs.Demand.{openSets, nothingMade, Answered, Free, NoWrongReport, NoReuse, AlwaysAnswered, NeverStuck, CanEnd, CanDrop, NotEmpty, VerdictIs, Demand3}
+use Rattle.calls.specs.Lists.{Box, Starts, Started, beginning, Call, camera, office, joined, after, events}
+use Rattle.calls.specs.Lists.{history, Admissible}
+use Rattle.calls.specs.Demand.{openSets, nothingMade, Answered, Free, NoWrongReport, NoReuse, AlwaysAnswered}
+use Rattle.calls.specs.Demand.{NeverStuck, CanEnd, CanDrop, NotEmpty, VerdictIs, Demand3}
 use Rattle.calls.proofs.Once.{single}
 use Rattle.calls.proofs.History.{look, in-deals, in-vectors}
 use Rattle.calls.proofs.Invariant.{Inv, starts, door-long}
@@ -23,7 +25,8 @@ use Rattle.calls.proofs.NotEmpty.{examples, some-starts}
 
 always : (s : Starts) → Started s → (cs : List Call) → Admissible s cs → Inv s (history s cs) (after (beginning s) cs)
 always s f [] a = starts s f
-always s f (c ∷ cs) a = keeps s (history s cs) (after (beginning s) cs) (always s f cs (a .0)) (door-long s f) c (a .1) (a .2)
+always s f (c ∷ cs) a =
+    keeps s (history s cs) (after (beginning s) cs) (always s f cs (a .0)) (door-long s f) c (a .1) (a .2)
 
 no-wrong-report : NoWrongReport
 unfolding NoWrongReport
@@ -36,8 +39,10 @@ no-wrong-report s f cs a n bit i =
       x = t .v camera;
       y = t .v office;
       one-deal = single _ (I .deals-once n .few) (in-deals (history s cs) n (t .of));
-      one-x = single _ (I .box-is camera .ok .vectors-once n .few) (in-vectors (history s cs) camera n (t .v camera) (t .sents camera));
-      one-y = single _ (I .box-is office .ok .vectors-once n .few) (in-vectors (history s cs) office n (t .v office) (t .sents office));
+      one-x = single _ (I .box-is camera .ok .vectors-once n .few)
+          (in-vectors (history s cs) camera n (t .v camera) (t .sents camera));
+      one-y = single _ (I .box-is office .ok .vectors-once n .few)
+          (in-vectors (history s cs) office n (t .v office) (t .sents office));
       right = r .1;
     }
 

@@ -1,4 +1,5 @@
--- What the parts of a door are to compute from a deal and the two boxes' vectors, and that the two answers then sum to the right bit. Assumes nothing.
+-- What the parts of a door are to compute from a deal and the two boxes' vectors, and that the two answers then sum to
+-- the right bit. Assumes nothing.
 use mathlib.Core.Path.{_≡_, refl, ap, _∙_}
 use mathlib.Core.Bool.{Bool, true, false, cond}
 use mathlib.Core.List.{List}
@@ -59,7 +60,8 @@ mask-long s party x = length-tab _ (s .terms .n)
 
 -- a box's word and answer
 abbrev pub wordBy : Deal → (Box → List ℕ) → Box → ℕ
-wordBy d v b = wordOf (setOf d b) (partyOf b) (fill (maskOf d b (v b))) (ownOf d b (v b)) (maskOf d (other b) (v (other b)))
+wordBy d v b =
+    wordOf (setOf d b) (partyOf b) (fill (maskOf d b (v b))) (ownOf d b (v b)) (maskOf d (other b) (v (other b)))
 
 abbrev pub answerBy : Deal → (Box → List ℕ) → Box → ℕ
 answerBy d v b = answerOf (setOf d b) (partyOf b) (wordBy d v b) (wordBy d v (other b))

@@ -7,8 +7,11 @@ use lib.ListN.{length, replicate}
 use Rattle.half.specs.Half.{blockAt}
 use Rattle.dealing.specs.Dealing.{Deal}
 use Rattle.dealer.specs.Dealer.{halfSize}
-use Rattle.calls.specs.Lists.{Box, camera, office, other, World, Starts, Started, beginning, Message, Call, deal, load, mask, take, finish, join, Event, step, after, events, In, here, there, Fits, Sent, SentVector, SentWord, SentAnswer, Admits, history, Admissible}
-use Rattle.calls.specs.Demand.{Progress, nothingMade, onward, Labelled, Ready, Run, start, own, InRange, Free, Ended}
+use Rattle.calls.specs.Lists.{Box, camera, office, other, World, Starts, Started, beginning, Message, Call, deal}
+use Rattle.calls.specs.Lists.{load, mask, take, finish, join, Event, step, after, events, In, here, there, Fits}
+use Rattle.calls.specs.Lists.{Sent, SentVector, SentWord, SentAnswer, Admits, history, Admissible}
+use Rattle.calls.specs.Demand.{Progress, nothingMade, onward, Labelled, Ready, Run, start, own, InRange, Free}
+use Rattle.calls.specs.Demand.{Ended}
 use Rattle.calls.proofs.Boxes.{both}
 use Rattle.calls.proofs.Once.{in-left}
 use Rattle.calls.proofs.History.{door, halfOf}
@@ -105,7 +108,8 @@ module _ (s : Starts) (start-ok : Started s) (cs : List Call) (list-ok : Admissi
         let half : List ℕ = replicate (halfSize (d .terms .n)) 0 in
         let out : List ℕ = replicate (d .terms .n) 0 in
         let t0 : Reached nothingMade [] = record { rs = []; run = start; admissible = list-ok; events-are = refl } in
-        let t1 = next t0 (deal d half half) (refl, refl, room (halfSize (d .terms .n)), room (halfSize (d .terms .n))) in
+        let t1 =
+        next t0 (deal d half half) (refl, refl, room (halfSize (d .terms .n)), room (halfSize (d .terms .n))) in
         let t2 = next t1 (load camera (halfOf s d camera)) (refl, halfOf s d, here refl, refl) in
         let t3 = next t2 (load office (halfOf s d office)) (refl, halfOf s d, there (here refl), refl) in
         let t4 = next t3 (mask camera (v camera) out) (refl, refl, room (d .terms .n)) in

@@ -1,4 +1,5 @@
--- What makes a call accepted: for each call, over any state and anything handed in, the facts from which its tests refuse nothing. Assumes nothing.
+-- What makes a call accepted: for each call, over any state and anything handed in, the facts from which its tests
+-- refuse nothing. Assumes nothing.
 use mathlib.Core.Path.{_≡_, refl}
 use mathlib.Core.Bool.{true, false}
 use mathlib.Core.List.{List}
@@ -17,7 +18,8 @@ use Rattle.dealer.specs.declared.Dealer.{Dealer}
 use Rattle.dealing.specs.Dealing.{Deal}
 use Rattle.dealer.specs.Dealer.{halfSize, whyNotDeal}
 use Rattle.party.specs.declared.Party.{Party}
-use Rattle.party.specs.Party.{stateFits, sound, inTurn, whyNotLoad, whyNotMask, whyNotMessage, whyNotTake, whyNotFinish, whyNotDrop}
+use Rattle.party.specs.Party.{stateFits, sound, inTurn, whyNotLoad, whyNotMask, whyNotMessage, whyNotTake, whyNotFinish}
+use Rattle.party.specs.Party.{whyNotDrop}
 use Rattle.lock.specs.declared.Lock.{Lock}
 use Rattle.lock.specs.Lock.{whyNotJoin}
 use Rattle.calls.proofs.Accepted.{Heard}
@@ -26,7 +28,8 @@ use Rattle.calls.proofs.Accepted.{Heard}
 
 pub deal-goes : (s : Dealer) (d : Deal) (room0 room1 : ℕ) → isCode (d .terms .code) ≡ true → length (d .seed) ≡ 32
     → lengthFits (d .terms) ≡ true → halfSize (d .terms .n) ≤ room0
-    → halfSize (d .terms .n) ≤ room1 → s .last < d .number → thresholdFits (d .terms) (d .t) ≡ true → whyNotDeal s d room0 room1 ≡ 0
+    → halfSize (d .terms .n) ≤ room1 → s .last < d .number → thresholdFits (d .terms) (d .t) ≡ true
+    → whyNotDeal s d room0 room1 ≡ 0
 unfolding whyNotDeal isKey unless
 deal-goes s d room0 room1 code seed long room-0 room-1 above threshold =
     rw (
@@ -42,19 +45,29 @@ deal-goes s d room0 room1 code seed long room-0 room-1 above threshold =
 
 -- ---- a message that a call takes
 
-pub expects : (kind sender number : ℕ) (door : List ℕ) (l : Label) (name : List ℕ) → Heard kind sender number door l name → expected kind door sender l name ≡ true
+pub expects : (kind sender number : ℕ) (door : List ℕ) (l : Label) (name : List ℕ)
+    → Heard kind sender number door l name → expected kind door sender l name ≡ true
 unfolding expected
-expects kind sender number door l name h = rw (h .name-is, eq-eqb (l .kind) kind (h .kind-is), eq-eqb (l .sender) sender (h .sender-is), same-refl door) refl
+expects kind sender number door l name h =
+    rw (h .name-is, eq-eqb (l .kind) kind (h .kind-is), eq-eqb (l .sender) sender (h .sender-is), same-refl door) refl
 
-pub door-long : (kind sender number : ℕ) (door : List ℕ) (l : Label) (name : List ℕ) → Heard kind sender number door l name → length door ≡ 16 → isName name ≡ true
+pub door-long : (kind sender number : ℕ) (door : List ℕ) (l : Label) (name : List ℕ)
+    → Heard kind sender number door l name → length door ≡ 16 → isName name ≡ true
 unfolding isName
 door-long kind sender number door l name h e = rw (h .name-is) (eq-eqb (length door) 16 e)
 
 -- ---- a box: its turn, with no set open and at a later phase
 
-idle-turn : (s : Party) → s .check .phase ≡ 0 → s .who .party ≤ 1 → s .check .set .terms .code ≡ 0 → s .check .set .terms .n ≡ 0 → inTurn 0 s ≡ true
+idle-turn : (s : Party) → s .check .phase ≡ 0 → s .who .party ≤ 1
+    → s .check .set .terms .code ≡ 0 → s .check .set .terms .n ≡ 0 → inTurn 0 s ≡ true
 unfolding inTurn sound stateFits
-idle-turn s e p c n = rw (eq-eqb (s .check .phase) 0 e, le-leb (s .who .party) 1 p, eq-eqb (s .check .set .terms .code) 0 c, eq-eqb (s .check .set .terms .n) 0 n) refl
+idle-turn s e p c n =
+    rw (
+      eq-eqb (s .check .phase) 0 e,
+      le-leb (s .who .party) 1 p,
+      eq-eqb (s .check .set .terms .code) 0 c,
+      eq-eqb (s .check .set .terms .n) 0 n,
+    ) refl
 
 -- what 01's third refusal asks of a state with a set open
 pub record OpenAt (k : ℕ) (s : Party) : Type 0 where
@@ -86,16 +99,20 @@ open-turn k s o = rw (eq-eqb (s .check .phase) k (o .phase-is), open-sound k s o
 
 -- its calls
 
-pub load-goes : (s : Party) (h : List ℕ) → s .check .phase ≡ 0 → s .who .party ≤ 1 → s .check .set .terms .code ≡ 0 → s .check .set .terms .n ≡ 0 → whyNot (s .who .key) (s .who .name) (s .who .party) (s .last) h ≡ 0
+pub load-goes : (s : Party) (h : List ℕ) → s .check .phase ≡ 0 → s .who .party ≤ 1 → s .check .set .terms .code ≡ 0
+    → s .check .set .terms .n ≡ 0 → whyNot (s .who .key) (s .who .name) (s .who .party) (s .last) h ≡ 0
     → whyNotLoad s h ≡ 0
 unfolding whyNotLoad unless
 load-goes s h e p c n f = rw (idle-turn s e p c n) f
 
-pub mask-goes : (s : Party) (v : List ℕ) (room : ℕ) → OpenAt 1 s → length v ≡ s .check .set .terms .n → s .check .set .terms .n ≤ room → allInRange (s .check .set .terms) v ≡ true → whyNotMask s v room ≡ 0
+pub mask-goes : (s : Party) (v : List ℕ) (room : ℕ) → OpenAt 1 s → length v ≡ s .check .set .terms .n
+    → s .check .set .terms .n ≤ room → allInRange (s .check .set .terms) v ≡ true → whyNotMask s v room ≡ 0
 unfolding whyNotMask unless
-mask-goes s v room o l r f = rw (open-turn 1 s o, eq-eqb (length v) (s .check .set .terms .n) l, le-leb (s .check .set .terms .n) room r, f) refl
+mask-goes s v room o l r f =
+    rw (open-turn 1 s o, eq-eqb (length v) (s .check .set .terms .n) l, le-leb (s .check .set .terms .n) room r, f) refl
 
-pub take-goes : (s : Party) (l : Label) (name v : List ℕ) → OpenAt 2 s → length (s .who .name) ≡ 16 → length v ≡ s .check .set .terms .n
+pub take-goes : (s : Party) (l : Label) (name v : List ℕ) → OpenAt 2 s
+    → length (s .who .name) ≡ 16 → length v ≡ s .check .set .terms .n
     → Heard 0 (1 - s .who .party) (s .check .set .number) (s .who .name) l name → whyNotTake s l name v ≡ 0
 unfolding whyNotTake whyNotMessage unless
 take-goes s l name v o n e h =
@@ -108,11 +125,17 @@ take-goes s l name v o n e h =
     )
     refl
 
-pub finish-goes : (s : Party) (l : Label) (name : List ℕ) → OpenAt 3 s → length (s .who .name) ≡ 16 → Heard 1 (1 - s .who .party) (s .check .set .number) (s .who .name) l name
+pub finish-goes : (s : Party) (l : Label) (name : List ℕ) → OpenAt 3 s → length (s .who .name) ≡ 16
+    → Heard 1 (1 - s .who .party) (s .check .set .number) (s .who .name) l name
     → whyNotFinish s l name ≡ 0
 unfolding whyNotFinish whyNotMessage unless
 finish-goes s l name o n h =
-    rw (open-turn 3 s o, door-long _ _ _ _ _ _ h n, expects _ _ _ _ _ _ h, eq-eqb (l .number) (s .check .set .number) (h .number-is)) refl
+    rw (
+      open-turn 3 s o,
+      door-long _ _ _ _ _ _ h n,
+      expects _ _ _ _ _ _ h,
+      eq-eqb (l .number) (s .check .set .number) (h .number-is),
+    ) refl
 
 pub drop-goes : (k : ℕ) (s : Party) → OpenAt k s → whyNotDrop s ≡ 0
 unfolding whyNotDrop unless
@@ -120,8 +143,10 @@ drop-goes k s o = rw (some-open k s o, open-sound k s o) refl
 
 -- ---- the lock
 
-pub join-goes : (s : Lock) (l0 : Label) (name0 : List ℕ) (answer0 : ℕ) (l1 : Label) (name1 : List ℕ) (answer1 : ℕ) → length (s .name) ≡ 16
-    → Heard 2 0 (l0 .number) (s .name) l0 name0 → Heard 2 1 (l0 .number) (s .name) l1 name1 → s .last < l0 .number → add answer0 answer1 ≤ 1
+pub join-goes : (s : Lock) (l0 : Label) (name0 : List ℕ) (answer0 : ℕ) (l1 : Label) (name1 : List ℕ) (answer1 : ℕ)
+    → length (s .name) ≡ 16
+    → Heard 2 0 (l0 .number) (s .name) l0 name0 → Heard 2 1 (l0 .number) (s .name) l1 name1
+    → s .last < l0 .number → add answer0 answer1 ≤ 1
     → whyNotJoin s l0 name0 answer0 l1 name1 answer1 ≡ 0
 unfolding whyNotJoin unless
 join-goes s l0 name0 answer0 l1 name1 answer1 n h0 h1 above sum =

@@ -8,7 +8,8 @@ use Rattle.measure.specs.Measure.{allInRange}
 use Rattle.messages.specs.Messages.{padded}
 use Rattle.half.specs.Half.{half}
 use Rattle.dealing.specs.Dealing.{Deal}
-use Rattle.calls.specs.Lists.{Box, camera, office, partyOf, Starts, Event, dealt, loaded, sent, dropped, joined, refused, vector, word, answer, In, here, there}
+use Rattle.calls.specs.Lists.{Box, camera, office, partyOf, Starts, Event, dealt, loaded, sent, dropped, joined}
+use Rattle.calls.specs.Lists.{refused, vector, word, answer, In, here, there}
 use Rattle.calls.specs.Demand.{dealsIn, Sending, sendsBy, collect}
 use Rattle.calls.specs.Demand.{dealOf, sentOf, vectorOf, deals, vectors, verdict}
 use Rattle.calls.proofs.Boxes.{own-box}
@@ -34,7 +35,8 @@ pub record Pair (h : List Event) (n : ℕ) : Type 0 where
 abbrev pub dealt-later : {h : List Event} {n : ℕ} (e : Event) → Dealt h n → Dealt (e ∷ h) n
 dealt-later e t = record { d = t .d; f = t .f; was = there (t .was); is = t .is }
 
-abbrev pub sents-later : {h : List Event} {n : ℕ} {v : Box → List ℕ} (e : Event) → ((b : Box) → Vector h b n (v b)) → (b : Box) → Vector (e ∷ h) b n (v b)
+abbrev pub sents-later : {h : List Event} {n : ℕ} {v : Box → List ℕ} (e : Event)
+    → ((b : Box) → Vector h b n (v b)) → (b : Box) → Vector (e ∷ h) b n (v b)
 sents-later e s b = (s b .0, there (s b .1))
 
 abbrev pub pair-later : {h : List Event} {n : ℕ} (e : Event) → Pair h n → Pair (e ∷ h) n

@@ -1,4 +1,5 @@
--- The invariant of a door's list of calls: its events are right, each part's state is what they say, and each box's sets stand in its state. Assumes nothing.
+-- The invariant of a door's list of calls: its events are right, each part's state is what they say, and each box's
+-- sets stand in its state. Assumes nothing.
 use mathlib.Core.Path.{_≡_, refl, ap, _∙_, fun-ext}
 use mathlib.Core.List.{List, [], _∷_}
 use Prim.Native.Nat.{ℕ, _*_, _-_, _<_, _≤_}
@@ -87,7 +88,12 @@ module _ (S : Starts) where
   unfolding padded startLock
   door-long f =
       let t = lock-tells (S .name) (f .lock-taken) in
-      omega (arith, t, length-append (S .name) (replicate (16 - length (S .name)) 0), length-replicate {A = ℕ} (16 - length (S .name)) 0)
+      omega (
+        arith,
+        t,
+        length-append (S .name) (replicate (16 - length (S .name)) 0),
+        length-replicate {A = ℕ} (16 - length (S .name)) 0,
+      )
 
   pub starts : Started S → Inv [] (beginning S)
   unfolding startDealer startParty startLock
@@ -100,7 +106,14 @@ module _ (S : Starts) where
           slots = [];
           few = omega arith;
           shows = new _ _ _ (f .box-taken b);
-          ok = record { holds = tt; low = S .boxFloor b; rising = omega arith; count = refl; vectors-once = λ n. once-none; words-once = λ n. once-none };
+          ok = record {
+            holds = tt;
+            low = S .boxFloor b;
+            rising = omega arith;
+            count = refl;
+            vectors-once = λ n. once-none;
+            words-once = λ n. once-none;
+          };
         };
         lock-is = new _ _ _ (f .lock-taken);
       }
@@ -110,12 +123,14 @@ module _ (S : Starts) where
   abbrev pub dealtBy : Deal → Dealer → Dealer
   dealtBy d s = record { name = s .name; key0 = s .key0; key1 = s .key1; last = d .number }
 
-  half-is : (s : Dealer) (last : ℕ) → s ≡ dealerWith last → (d : Deal) (b : Box) → halfFor s d (partyOf b) ≡ halfOf S d b
+  half-is : (s : Dealer) (last : ℕ) → s ≡ dealerWith last → (d : Deal) (b : Box)
+      → halfFor s d (partyOf b) ≡ halfOf S d b
   unfolding halfFor keyOf
   half-is s last e d camera = ap (λ z. halfFor z d 0) e
   half-is s last e d office = ap (λ z. halfFor z d 1) e
 
-  pub wrote : length (door S) ≡ 16 → (s : Dealer) (last : ℕ) → s ≡ dealerWith last → (d : Deal) → Sound d → (out0 out1 : List ℕ)
+  pub wrote : length (door S) ≡ 16 → (s : Dealer) (last : ℕ)
+      → s ≡ dealerWith last → (d : Deal) → Sound d → (out0 out1 : List ℕ)
       → whyNotDeal s d (length out0) (length out1) ≡ 0 → (b : Box) → written s d out0 out1 b ≡ halfOf S d b
   unfolding halfSize
   wrote long s last e d k out0 out1 z b =
@@ -131,7 +146,9 @@ module _ (S : Starts) where
     one-deal n t u = unique (deals n h) (I .deals-once n .few) (in-deals h n t) (in-deals h n u)
 
     pub one-vector : (b : Box) (n : ℕ) (x y : List ℕ) → Vector h b n x → Vector h b n y → x ≡ y
-    one-vector b n x y i j = unique (vectors b n h) (I .box-is b .ok .vectors-once n .few) (in-vectors h b n x i) (in-vectors h b n y j)
+    one-vector b n x y i j =
+        unique (vectors b n h) (I .box-is b .ok .vectors-once n .few) (in-vectors h b n x i) (in-vectors h b n y j)
 
-    pub one-pair : (n : ℕ) (v u : Box → List ℕ) → ((b : Box) → Vector h b n (v b)) → ((b : Box) → Vector h b n (u b)) → v ≡ u
+    pub one-pair : (n : ℕ) (v u : Box → List ℕ) → ((b : Box) → Vector h b n (v b)) → ((b : Box) → Vector h b n (u b))
+        → v ≡ u
     one-pair n v u i j = fun-ext (λ b. one-vector b n (v b) (u b) (i b) (j b))

@@ -9,7 +9,8 @@ use lib.IntN.{ℤ, pos, _+ℤ_, _*ℤ_}
 use lib.ListN.{replicate, length-replicate}
 use Rattle.algebra.specs.Word.{signed}
 use Rattle.algebra.specs.Sum.{sumℤ}
-use Rattle.measure.specs.Measure.{row, scalarProduct, squaredEuclid, hamming, element, measure, isCode, lengthFits, within, inRange, allInRange, thresholdFits}
+use Rattle.measure.specs.Measure.{row, scalarProduct, squaredEuclid, hamming, element, measure, isCode, lengthFits}
+use Rattle.measure.specs.Measure.{within, inRange, allInRange, thresholdFits}
 use Rattle.measure.specs.declared.Terms.{Terms}
 use Rattle.measure.specs.Laws.{reached-plain}
 use Rattle.measure.specs.Measure as Measure
@@ -128,7 +129,8 @@ zeroStarts =
     }
 
 pub some-starts : (s : Starts) × Started s × Free s [] 1
-unfolding zeroStarts startDealer startParty startLock whyNotDealer whyNotParty whyNotLock nameFits printable isKey same unless
+unfolding zeroStarts startDealer startParty startLock whyNotDealer
+    whyNotParty whyNotLock nameFits printable isKey same unless
 some-starts = (
   zeroStarts,
   record { dealer-taken = refl; box-taken = both _ refl refl; lock-taken = refl },

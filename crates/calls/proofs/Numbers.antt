@@ -211,7 +211,8 @@ sound-loaded : (p : Party) (x : List ℕ) → whyNotLoad p x ≡ 0 → sound p �
     → sound (BoxCalls.loaded p (openedSet (p .who .key) x)) ≡ true
 unfolding sound stateFits BoxCalls.loaded BoxCalls.opened
 sound-loaded p x e f =
-    ap₂ _&&_ (party-at p f) (opened-fits (p .who .key) (p .who .name) (p .who .party) (p .last) x (load-tells p x e .examined))
+    ap₂ _&&_ (party-at p f)
+    (opened-fits (p .who .key) (p .who .name) (p .who .party) (p .last) x (load-tells p x e .examined))
 
 sound-masked : (p : Party) (v : List ℕ) (room : ℕ) → whyNotMask p v room ≡ 0 → sound (BoxCalls.masked p v) ≡ true
 unfolding whyNotMask sound stateFits BoxCalls.masked

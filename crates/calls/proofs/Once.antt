@@ -49,7 +49,8 @@ pub once-map : {A : Type 0} {l : List A} {M N : Type 0} → Once l M → (N → 
 once-map o k = record { few = o .few; free = λ n. o .free (k n) }
 
 -- one more where b holds: it was free, and is not from then on
-pub once-cond : {A : Type 0} (x : A) (l : List A) {M N : Type 0} (b : Bool) → Once l M → (T b → M) → (T b → N → ⊥) → (N → M) → Once (cond b (x ∷ []) [] ++ l) N
+pub once-cond : {A : Type 0} (x : A) (l : List A) {M N : Type 0} (b : Bool) → Once l M
+    → (T b → M) → (T b → N → ⊥) → (N → M) → Once (cond b (x ∷ []) [] ++ l) N
 once-cond x l true o f g k = record { few = rw (o .free (f tt)) (omega arith); free = λ n. absurd (g tt n) }
 once-cond x l false o f g k = record { few = o .few; free = λ n. o .free (k n) }
 

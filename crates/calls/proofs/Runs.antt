@@ -1,4 +1,5 @@
--- A run in the right order: the world of such a run is known exactly, and none of its own calls is refused. Assumes nothing.
+-- A run in the right order: the world of such a run is known exactly, and none of its own calls is refused.
+-- Assumes nothing.
 use mathlib.Core.Path.{_≡_, refl, sym, subst, _∙_}
 use mathlib.Core.Bool.{true, false, true≢false}
 use mathlib.Core.List.{List, [], _∷_}
@@ -11,8 +12,11 @@ use Rattle.dealer.specs.Dealer.{halfSize}
 use Rattle.party.specs.declared.Party.{Party}
 use Rattle.party.specs.declared.PartyAnswer.{PartyAnswer}
 use Rattle.party.specs.Party as BoxCalls
-use Rattle.calls.specs.Lists.{Box, camera, office, World, Starts, Call, deal, load, mask, take, finish, join, Event, dealt, loaded, sent, dropped, joined, refused, vector, word, answer, put, eventOf, onBox, maskedBy, step, after, events, In, here, there}
-use Rattle.calls.specs.Demand.{Progress, nothingMade, madeOne, onward, Ready, Run, start, own, aside, turned, Answered, InRange, Free}
+use Rattle.calls.specs.Lists.{Box, camera, office, World, Starts, Call, deal, load, mask, take, finish, join}
+use Rattle.calls.specs.Lists.{Event, dealt, loaded, sent, dropped, joined, refused, vector, word, answer, put}
+use Rattle.calls.specs.Lists.{eventOf, onBox, maskedBy, step, after, events, In, here, there}
+use Rattle.calls.specs.Demand.{Progress, nothingMade, madeOne, onward, Ready, Run, start, own, aside, turned}
+use Rattle.calls.specs.Demand.{Answered, InRange, Free}
 use Rattle.calls.proofs.Dealt.{maskOf, wordBy, answerBy}
 use Rattle.calls.proofs.History.{door, halfOf}
 use Rattle.calls.proofs.Slots.{Slot}
@@ -20,7 +24,8 @@ use Rattle.calls.proofs.Written.{new}
 use Rattle.calls.proofs.Invariant.{showing, lastAt, dealerWith, lockWith, Inv}
 use Rattle.calls.proofs.Refusals.{refused-still}
 use Rattle.calls.proofs.Unmoved.{unmoved}
-use Rattle.calls.proofs.Made.{said, shown, Made, load-made, mask-made, take-made, finish-made, deal-made, join-made}
+use Rattle.calls.proofs.Made.{said, shown, Made, load-made, mask-made, take-made, finish-made, deal-made}
+use Rattle.calls.proofs.Made.{join-made}
 
 module _ (S : Starts) (d : Deal) (v : Box → List ℕ) where
   -- what holds of the run's events so far
@@ -49,13 +54,15 @@ module _ (S : Starts) (d : Deal) (v : Box → List ℕ) where
     pub lock-at : (last : ℕ) × (w .lock ≡ lockWith S last) × (g .ended ≡ false → last < d .number)
     pub exact-at : (e : Event) → In e h → Exact e
 
-  put-at : (f : Box → Party) (g : Box → ℕ) (b : Box) (s : Party) (k : ℕ) → Holds b s k → ((c : Box) → Holds c (f c) (g c)) → (c : Box) → Holds c (put f b s c) (put g b k c)
+  put-at : (f : Box → Party) (g : Box → ℕ) (b : Box) (s : Party) (k : ℕ) → Holds b s k
+      → ((c : Box) → Holds c (f c) (g c)) → (c : Box) → Holds c (put f b s c) (put g b k c)
   put-at f g camera s k a q camera = a
   put-at f g camera s k a q office = q office
   put-at f g office s k a q camera = q camera
   put-at f g office s k a q office = a
 
-  more : (e : Event) (h : List Event) → Exact e → ((g : Event) → In g h → Exact g) → (g : Event) → In g (e ∷ h) → Exact g
+  more : (e : Event) (h : List Event) → Exact e → ((g : Event) → In g h → Exact g) → (g : Event) → In g (e ∷ h)
+      → Exact g
   more e h x f g (here p) = subst Exact (sym p) x
   more e h x f g (there i) = f g i
 
@@ -70,7 +77,8 @@ module _ (S : Starts) (d : Deal) (v : Box → List ℕ) where
       Goes c = (step w c .event ≡ said S d v c) × At (step w c .world) (onward g c) (step w c .event ∷ h)
 
       -- a box's call, at the state that the run gives the box after k of its calls
-      box-goes : (b : Box) (call : Party → PartyAnswer) (leaves : Party → Event) (z s : Party) (f : Event) (k : ℕ) → g .made b ≡ k → w .box b ≡ z
+      box-goes : (b : Box) (call : Party → PartyAnswer) (leaves : Party → Event) (z s : Party) (f : Event) (k : ℕ)
+          → g .made b ≡ k → w .box b ≡ z
           → Made S d v long R (call z) (leaves z) s f → Exact f → Holds b s (suc k)
           → (let o = onBox w b (call (w .box b)) (leaves (w .box b)) in
           (o .event ≡ f) × At (o .world) (madeOne g b) (o .event ∷ h))
@@ -91,9 +99,11 @@ module _ (S : Starts) (d : Deal) (v : Box → List ℕ) where
       holding : (b : Box) (k : ℕ) → g .made b ≡ k → Holds b (w .box b) k
       holding b k e = subst (Holds b (w .box b)) e (A .box-at b)
 
-      deal-goes-on : (out0 out1 : List ℕ) → g .begun ≡ false → halfSize (d .terms .n) ≤ length out0 → halfSize (d .terms .n) ≤ length out1 → Goes (deal d out0 out1)
+      deal-goes-on : (out0 out1 : List ℕ) → g .begun ≡ false → halfSize (d .terms .n) ≤ length out0
+          → halfSize (d .terms .n) ≤ length out1 → Goes (deal d out0 out1)
       deal-goes-on out0 out1 m r0 r1 =
-          let k = deal-made S d v long R (w .dealer) (A .dealer-at .0) (A .dealer-at .1) (A .dealer-at .2 m) out0 out1 r0 r1 in
+          let k =
+          deal-made S d v long R (w .dealer) (A .dealer-at .0) (A .dealer-at .1) (A .dealer-at .2 m) out0 out1 r0 r1 in
           let r = event-is _ _ _ (k .0) (k .2) in (
             r,
             record {
@@ -105,15 +115,18 @@ module _ (S : Starts) (d : Deal) (v : Box → List ℕ) where
           )
 
       goes : (c : Call) → Ready (door S) d v g h c → Goes c
-      goes (deal e out0 out1) (m, q, r0, r1) = subst (λ y. Goes (deal y out0 out1)) (sym q) (deal-goes-on out0 out1 m r0 r1)
+      goes (deal e out0 out1) (m, q, r0, r1) =
+          subst (λ y. Goes (deal y out0 out1)) (sym q) (deal-goes-on out0 out1 m r0 r1)
       goes (load b x) (m, f, i, q) =
           let (last, st, l) = holding b 0 m in
           let made = load-made S d v long R b last l x (q ∙ A .exact-at (dealt d f) i b) in
-          box-goes b (λ y. BoxCalls.load y x) (λ y. loaded b (setNumber x)) (showing S b last []) (shown S d v b 0) _ 0 m st made tt refl
+          box-goes b (λ y. BoxCalls.load y x) (λ y. loaded b (setNumber x))
+          (showing S b last []) (shown S d v b 0) _ 0 m st made tt refl
       goes (mask b x out) (m, q, r) =
           let call : Party → PartyAnswer = λ y. BoxCalls.mask y x (length out) in
           let leaves : Party → Event = λ y. sent b (y .check .set .number) (vector x (maskedBy y x out)) in
-          box-goes b call leaves (shown S d v b 0) (shown S d v b 1) _ 1 m (holding b 1 m) (mask-made S d v long R b x out q r) refl refl
+          box-goes b call leaves (shown S d v b 0) (shown S d v b 1) _ 1 m
+          (holding b 1 m) (mask-made S d v long R b x out q r) refl refl
       goes (take b m) (e, a, i) =
           let call : Party → PartyAnswer = λ y. BoxCalls.takeVector y (m .label) (m .name) (m .content) in
           let leaves : Party → Event = λ y. sent b (y .check .set .number) (word (call y .word)) in
@@ -123,9 +136,11 @@ module _ (S : Starts) (d : Deal) (v : Box → List ℕ) where
           let call : Party → PartyAnswer = λ y. BoxCalls.finish y (m .label) (m .name) (m .content) in
           let leaves : Party → Event = λ y. sent b (y .check .set .number) (answer (call y .word)) in
           let made = finish-made S d v long R b m a (A .exact-at _ i) in
-          box-goes b call leaves (shown S d v b 2) (BoxCalls.closed (shown S d v b 2)) _ 3 e (holding b 3 e) made refl tt
+          box-goes b call leaves (shown S d v b 2)
+          (BoxCalls.closed (shown S d v b 2)) _ 3 e (holding b 3 e) made refl tt
       goes (join m n) (e, a, i, b, j) =
-          let k = join-made S d v long R (w .lock) (A .lock-at .0) (A .lock-at .1) (A .lock-at .2 e) m n a b (A .exact-at _ i) (A .exact-at _ j) in
+          let k = join-made S d v long R (w .lock) (A .lock-at .0) (A .lock-at .1)
+          (A .lock-at .2 e) m n a b (A .exact-at _ i) (A .exact-at _ j) in
           let r = event-is _ _ _ (k .0) (k .2) in (
             r,
             record {
@@ -159,7 +174,8 @@ module _ (S : Starts) (d : Deal) (v : Box → List ℕ) where
     running w A (turned {cs} {g} r c why q) =
         same-at (after w cs) _ g (events w cs) _ (running w A r) (refused-still (after w cs) c why q) (why, q)
 
-    pub run-goes : (w : World) → At w nothingMade [] → (cs : List Call) (g : Progress) → Run (door S) d v w cs g → (c : Call) → Ready (door S) d v g (events w cs) c
+    pub run-goes : (w : World) → At w nothingMade [] → (cs : List Call) (g : Progress)
+        → Run (door S) d v w cs g → (c : Call) → Ready (door S) d v g (events w cs) c
         → step (after w cs) c .event ≡ said S d v c
     run-goes w A cs g r c q = goes (after w cs) g (events w cs) (running w A r) c q .0
 
@@ -174,7 +190,8 @@ module _ (S : Starts) (d : Deal) (v : Box → List ℕ) where
         exact-at = λ e z. elim z [ ];
       }
     where
-      idle-at : (b : Box) (ts : List Slot) → length ts ≡ 0 → w .box b ≡ showing S b (lastAt S b h) ts → Holds b (w .box b) 0
+      idle-at : (b : Box) (ts : List Slot) → length ts ≡ 0 → w .box b ≡ showing S b (lastAt S b h) ts
+          → Holds b (w .box b) 0
       idle-at b [] l q = (_, q, F .above-box b)
       idle-at b (t ∷ ts) l q = absurd (omega arith)
 

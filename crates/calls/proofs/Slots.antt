@@ -1,5 +1,5 @@
--- A box's sets as a list with rising numbers, each with how far it is, and what a box's events keep of it. How a state shows this list is another file's matter.
--- Assumes nothing.
+-- A box's sets as a list with rising numbers, each with how far it is, and what a box's events keep of it. How a state
+-- shows this list is another file's matter. Assumes nothing.
 use mathlib.Core.Path.{_≡_, refl, ap}
 use mathlib.Core.Bool.{cond}
 use mathlib.Core.List.{List, [], _∷_, _++_}
@@ -33,12 +33,15 @@ setIn (worded s m o w) = s
 
 -- each was dealt, and holds what it should
 abbrev pub Word : List Event → Box → Set → ℕ → Type 0
-Word h b s w = (t : Dealt h (s .number)) × (s ≡ setOf (t .d) b) × (v : Box → List ℕ) × ((c : Box) → Vector h c (s .number) (v c)) × (w ≡ wordBy (t .d) v b)
+Word h b s w =
+    (t : Dealt h (s .number)) × (s ≡ setOf (t .d) b) × (v : Box → List ℕ)
+    × ((c : Box) → Vector h c (s .number) (v c)) × (w ≡ wordBy (t .d) v b)
 
 abbrev pub SlotOk : List Event → Box → Slot → Type 0
 SlotOk h b (fresh s) = (t : Dealt h (s .number)) × (s ≡ setOf (t .d) b)
 SlotOk h b (masked s m o) =
-    (t : Dealt h (s .number)) × (s ≡ setOf (t .d) b) × (x : List ℕ) × Vector h b (s .number) x × (m ≡ fill (maskOf (t .d) b x)) × (o ≡ ownOf (t .d) b x)
+    (t : Dealt h (s .number)) × (s ≡ setOf (t .d) b) × (x : List ℕ)
+    × Vector h b (s .number) x × (m ≡ fill (maskOf (t .d) b x)) × (o ≡ ownOf (t .d) b x)
 SlotOk h b (worded s m o w) = Word h b s w
 
 -- their numbers rise, above lo and up to hi
@@ -81,7 +84,8 @@ slots-later : (h : List Event) (e : Event) (b : Box) (ts : List Slot) → All (S
 slots-later h e b [] k = tt
 slots-later h e b (t ∷ ts) k = (slot-later h e b t (k .0), slots-later h e b ts (k .1))
 
-pub slots-away : (h : List Event) (e : Event) (b : Box) (last : ℕ) (ts : List Slot) → Away b e → Slots h b last ts → Slots (e ∷ h) b last ts
+pub slots-away : (h : List Event) (e : Event) (b : Box) (last : ℕ) (ts : List Slot) → Away b e → Slots h b last ts
+    → Slots (e ∷ h) b last ts
 slots-away h e b last ts a k =
     record {
       holds = slots-later h e b ts (k .holds);
@@ -98,7 +102,8 @@ rising-le : (lo hi : ℕ) (ts : List Slot) → Rising lo hi ts → lo ≤ hi
 rising-le lo hi [] r = r
 rising-le lo hi (t ∷ ts) r = omega (arith, rising-le (setIn t .number) hi ts (r .1), r .0)
 
-rising-some : (P : ℕ → Slot → Type 0) (f : (m : ℕ) (t : Slot) → P m t → setIn t .number ≡ m) (m lo hi : ℕ) (ts : List Slot) → Rising lo hi ts → Some (P m) ts → lo < m
+rising-some : (P : ℕ → Slot → Type 0) (f : (m : ℕ) (t : Slot) → P m t → setIn t .number ≡ m)
+    (m lo hi : ℕ) (ts : List Slot) → Rising lo hi ts → Some (P m) ts → lo < m
 rising-some P f m lo hi (t ∷ ts) r (inl q) = omega (arith, f m t q, r .0)
 rising-some P f m lo hi (t ∷ ts) r (inr q) = omega (arith, rising-some P f m (setIn t .number) hi ts (r .1) q, r .0)
 
@@ -109,14 +114,16 @@ unworded-is : (m : ℕ) (t : Slot) → Unworded m t → setIn t .number ≡ m
 unworded-is m (fresh s) q = q
 unworded-is m (masked s x o) q = q
 
-rising-load : (lo hi : ℕ) (s : Set) (ts : List Slot) → hi < s .number → Rising lo hi ts → Rising lo (s .number) (ts ++ (fresh s ∷ []))
+rising-load : (lo hi : ℕ) (s : Set) (ts : List Slot) → hi < s .number → Rising lo hi ts
+    → Rising lo (s .number) (ts ++ (fresh s ∷ []))
 rising-load lo hi s [] l r = (omega arith, omega arith)
 rising-load lo hi s (t ∷ ts) l r = (r .0, rising-load (setIn t .number) hi s ts l (r .1))
 
 some-load : (P : Slot → Type 0) (u : Slot) (ts : List Slot) → Some P (ts ++ (u ∷ [])) → Some P ts ⊎ P u
 some-load P u [] (inl q) = inr q
 some-load P u (t ∷ ts) (inl q) = inl (inl q)
-some-load P u (t ∷ ts) (inr q) = elim (some-load P u ts q) as (λ z. Some P (t ∷ ts) ⊎ P u) [ inl a ↦ inl (inr a) | inr a ↦ inr a ]
+some-load P u (t ∷ ts) (inr q) =
+    elim (some-load P u ts q) as (λ z. Some P (t ∷ ts) ⊎ P u) [ inl a ↦ inl (inr a) | inr a ↦ inr a ]
 
 all-load : (P : Slot → Type 0) (u : Slot) (ts : List Slot) → All P ts → P u → All P (ts ++ (u ∷ []))
 all-load P u [] a q = (q, tt)
@@ -130,7 +137,8 @@ module _ (h : List Event) (b : Box) (last : ℕ) where
   ended (inl q) = inl q
   ended (inr q) = inr (inr q)
 
-  pub slots-close : (t : Slot) (ts : List Slot) → Slots h b last (t ∷ ts) → (n a : ℕ) → Slots (sent b n (answer a) ∷ h) b last ts
+  pub slots-close : (t : Slot) (ts : List Slot) → Slots h b last (t ∷ ts) → (n a : ℕ)
+      → Slots (sent b n (answer a) ∷ h) b last ts
   slots-close t ts k n a =
       record {
         holds = slots-later h _ b ts (k .holds .1);
@@ -153,11 +161,13 @@ module _ (h : List Event) (b : Box) (last : ℕ) where
       }
 
   -- a load puts one behind the others
-  pub slots-load : (ts : List Slot) → Slots h b last ts → (s : Set) → last < s .number → (t : Dealt h (s .number)) → s ≡ setOf (t .d) b
+  pub slots-load : (ts : List Slot) → Slots h b last ts → (s : Set)
+      → last < s .number → (t : Dealt h (s .number)) → s ≡ setOf (t .d) b
       → Slots (loaded b (s .number) ∷ h) b (s .number) (ts ++ (fresh s ∷ []))
   slots-load ts k s l t e =
       record {
-        holds = all-load (SlotOk (loaded b (s .number) ∷ h) b) (fresh s) ts (slots-later h _ b ts (k .holds)) (dealt-later _ t, e);
+        holds = all-load (SlotOk (loaded b (s .number) ∷ h) b) (fresh s) ts
+            (slots-later h _ b ts (k .holds)) (dealt-later _ t, e);
         low = k .low;
         rising = rising-load (k .low) last s ts l (k .rising);
         count = omega (arith, open-loaded b h (s .number), k .count, length-append ts (fresh s ∷ []));
@@ -165,12 +175,16 @@ module _ (h : List Event) (b : Box) (last : ℕ) where
         words-once = λ m. once-map (k .words-once m) (before m (Unworded m) (λ q. q));
       }
     where
-      before : (m : ℕ) (P : Slot → Type 0) → (P (fresh s) → s .number ≡ m) → (s .number < m) ⊎ Some P (ts ++ (fresh s ∷ [])) → (last < m) ⊎ Some P ts
+      before : (m : ℕ) (P : Slot → Type 0) → (P (fresh s) → s .number ≡ m)
+          → (s .number < m) ⊎ Some P (ts ++ (fresh s ∷ [])) → (last < m) ⊎ Some P ts
       before m P f (inl q) = inl (omega arith)
-      before m P f (inr q) = elim (some-load P (fresh s) ts q) as (λ z. (last < m) ⊎ Some P ts) [ inl a ↦ inr a | inr a ↦ inl (omega (arith, f a)) ]
+      before m P f (inr q) =
+          elim (some-load P (fresh s) ts q) as (λ z. (last < m) ⊎ Some P ts)
+          [ inl a ↦ inr a | inr a ↦ inl (omega (arith, f a)) ]
 
   -- calls 2 and 3 act on the first: what they send was free under its number, and is not from then on
-  send : {A : Type 0} (P : ℕ → Slot → Type 0) (f : (m : ℕ) (t : Slot) → P m t → setIn t .number ≡ m) (n m : ℕ) (t u : Slot) (ts : List Slot) → Rising n last ts
+  send : {A : Type 0} (P : ℕ → Slot → Type 0) (f : (m : ℕ) (t : Slot) → P m t → setIn t .number ≡ m)
+      (n m : ℕ) (t u : Slot) (ts : List Slot) → Rising n last ts
       → (n ≡ m → P m t) → (P m u → ⊥) → (x : A) (l : List A) → Once l ((last < m) ⊎ Some (P m) (t ∷ ts))
       → Once (cond (eqb n m) (x ∷ []) [] ++ l) ((last < m) ⊎ Some (P m) (u ∷ ts))
   send P f n m t u ts r was not-now x l o =
@@ -187,7 +201,8 @@ module _ (h : List Event) (b : Box) (last : ℕ) where
       rest (inr (inr q)) = inr (inr q)
 
   pub slots-mask : (s : Set) (ts : List Slot) → Slots h b last (fresh s ∷ ts) → (x : List ℕ)
-      → Slots (sent b (s .number) (vector x (maskedVector s (partyOf b) x)) ∷ h) b last (masked s (fill (maskedVector s (partyOf b) x)) (ownWord (s .terms) x) ∷ ts)
+      → Slots (sent b (s .number) (vector x (maskedVector s (partyOf b) x)) ∷ h) b last
+      (masked s (fill (maskedVector s (partyOf b) x)) (ownWord (s .terms) x) ∷ ts)
   slots-mask s ts k x =
       let u : Slot = masked s (fill (maskedVector s (partyOf b) x)) (ownWord (s .terms) x) in
       let n : ℕ = s .number in
@@ -196,7 +211,14 @@ module _ (h : List Event) (b : Box) (last : ℕ) where
       let e = k .holds .0 .1 in
       record {
         holds = (
-          (dealt-later _ t, e, x, (maskedVector s (partyOf b) x, here refl), ap (λ z. fill (maskedVector z (partyOf b) x)) e, ap (λ z. ownWord (z .terms) x) e),
+          (
+            dealt-later _ t,
+            e,
+            x,
+            (maskedVector s (partyOf b) x, here refl),
+            ap (λ z. fill (maskedVector z (partyOf b) x)) e,
+            ap (λ z. ownWord (z .terms) x) e,
+          ),
           slots-later h _ b ts (k .holds .1),
         );
         low = k .low;
@@ -207,7 +229,8 @@ module _ (h : List Event) (b : Box) (last : ℕ) where
         words-once = λ m. rw (words-sent b h n sends m) (once-skip _ (eqb n m) (k .words-once m) (λ q. q));
       }
 
-  pub slots-take : (s : Set) (m : List ℕ) (o : ℕ) (ts : List Slot) → Slots h b last (masked s m o ∷ ts) → (w : ℕ) → Word h b s w
+  pub slots-take : (s : Set) (m : List ℕ) (o : ℕ) (ts : List Slot)
+      → Slots h b last (masked s m o ∷ ts) → (w : ℕ) → Word h b s w
       → Slots (sent b (s .number) (word w) ∷ h) b last (worded s m o w ∷ ts)
   slots-take s m o ts k w g =
       let n : ℕ = s .number in

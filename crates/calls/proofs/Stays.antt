@@ -12,7 +12,8 @@ use Rattle.messages.specs.Messages.{ifTaken}
 use Rattle.party.specs.declared.Party.{Party}
 use Rattle.party.specs.Party as BoxCalls
 use Rattle.party.specs.Party.{masked, worded}
-use Rattle.calls.specs.Lists.{Box, other, put, World, Call, deal, load, mask, take, finish, drop, join, Event, refused, eventOf, step, after, here, there}
+use Rattle.calls.specs.Lists.{Box, other, put, World, Call, deal, load, mask, take, finish, drop, join, Event}
+use Rattle.calls.specs.Lists.{refused, eventOf, step, after, here, there}
 use Rattle.calls.specs.States.{Ends, by-call-4, by-drop, Stays, StaysUntilEnded}
 use Rattle.calls.proofs.Accepted.{load-tells, mask-tells, take-tells}
 use Rattle.calls.proofs.Boxes.{put-all}

@@ -10,8 +10,11 @@ use native.Mathlib.Omega.{arith}
 use lib.ListN.{length, replicate, length-replicate}
 use Rattle.dealing.specs.Dealing.{Deal}
 use Rattle.dealer.specs.Dealer.{halfSize}
-use Rattle.calls.specs.Lists.{Box, camera, office, partyOf, other, World, Starts, Message, Call, deal, load, mask, take, finish, join, Event, dealt, loaded, sent, vector, word, answer, events, In, here, there}
-use Rattle.calls.specs.Demand.{Progress, nothingMade, madeOne, onward, Ready, Run, start, own, aside, turned, InRange, Whole}
+use Rattle.calls.specs.Lists.{Box, camera, office, partyOf, other, World, Starts, Message, Call, deal, load, mask}
+use Rattle.calls.specs.Lists.{take, finish, join, Event, dealt, loaded, sent, vector, word, answer, events, In}
+use Rattle.calls.specs.Lists.{here, there}
+use Rattle.calls.specs.Demand.{Progress, nothingMade, madeOne, onward, Ready, Run, start, own, aside, turned}
+use Rattle.calls.specs.Demand.{InRange, Whole}
 use Rattle.calls.proofs.Boxes.{each, put-all}
 use Rattle.calls.proofs.Dealt.{maskOf, wordBy, answerBy}
 use Rattle.calls.proofs.History.{door, halfOf}

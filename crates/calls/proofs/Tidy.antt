@@ -1,4 +1,5 @@
--- A box's state is tidy after any list of calls: each call hands back the state that it got, or one of the four that a box is ever put into. Assumes nothing.
+-- A box's state is tidy after any list of calls: each call hands back the state that it got, or one of the four that a
+-- box is ever put into. Assumes nothing.
 use mathlib.Core.Path.{_≡_, refl, ap, _∙_}
 use mathlib.Core.Bool.{Bool, true, false, cond}
 use mathlib.Core.List.{List, [], _∷_, _++_}
@@ -17,7 +18,8 @@ use Rattle.messages.specs.declared.Identity.{Identity}
 use Rattle.party.specs.declared.Party.{Party}
 use Rattle.party.specs.Party as BoxCalls
 use Rattle.party.specs.Party.{noCheck, idle, noParty, startParty, opened, loaded, masked, maskedVector, worded, closed}
-use Rattle.calls.specs.Lists.{Box, camera, office, put, World, Starts, beginning, Call, deal, load, mask, take, finish, drop, join, step, after}
+use Rattle.calls.specs.Lists.{Box, camera, office, put, World, Starts, beginning, Call, deal, load, mask, take}
+use Rattle.calls.specs.Lists.{finish, drop, join, step, after}
 use Rattle.calls.specs.States.{Tidy, AlwaysTidy}
 
 -- ---- arrays
@@ -40,12 +42,18 @@ fill-past f n i h =
 tidy-idle : (who : Identity) (last : ℕ) → Tidy (idle who last)
 unfolding idle noCheck noSet
 tidy-idle who last =
-    record { none-open = λ e. refl; past-length = λ i h. (zeros-at 512 i, zeros-at 512 i, zeros-at 512 i, zeros-at 512 i) }
+    record {
+      none-open = λ e. refl;
+      past-length = λ i h. (zeros-at 512 i, zeros-at 512 i, zeros-at 512 i, zeros-at 512 i);
+    }
 
 tidy-loaded : (s : Party) (key h : List ℕ) → Tidy (loaded s (openedSet key h))
 unfolding loaded opened openedSet setIn termsIn wordsAt
 tidy-loaded s key h =
-    record { none-open = λ e. absurd (omega arith); past-length = λ i l. (fill-past _ _ i l, fill-past _ _ i l, fill-past _ _ i l, zeros-at 512 i) }
+    record {
+      none-open = λ e. absurd (omega arith);
+      past-length = λ i l. (fill-past _ _ i l, fill-past _ _ i l, fill-past _ _ i l, zeros-at 512 i);
+    }
 
 tidy-masked : (s : Party) (v : List ℕ) → Tidy s → Tidy (masked s v)
 unfolding masked maskedVector plus

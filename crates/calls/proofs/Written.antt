@@ -29,9 +29,14 @@ start-of p s n e l = ap (λ (z : List ℕ). take n z) (over-eq p s 0 (omega arit
 pub written-is : (s : Dealer) (d : Deal) (out0 out1 : List ℕ) (b : Box) → whyNotDeal s d (length out0) (length out1) ≡ 0
     → length (halfFor s d (partyOf b)) ≡ halfSize (d .terms .n) → written s d out0 out1 b ≡ halfFor s d (partyOf b)
 unfolding dealOut
-written-is s d out0 out1 camera e l = ap (part 0 (halfSize (d .terms .n))) (new _ _ _ e) ∙ start-of _ out0 _ l (deal-tells s d _ _ e .room-0)
-written-is s d out0 out1 office e l = ap (part 0 (halfSize (d .terms .n))) (new _ _ _ e) ∙ start-of _ out1 _ l (deal-tells s d _ _ e .room-1)
+written-is s d out0 out1 camera e l =
+    ap (part 0 (halfSize (d .terms .n))) (new _ _ _ e) ∙ start-of _ out0 _ l (deal-tells s d _ _ e .room-0)
+written-is s d out0 out1 office e l =
+    ap (part 0 (halfSize (d .terms .n))) (new _ _ _ e) ∙ start-of _ out1 _ l (deal-tells s d _ _ e .room-1)
 
-pub masked-is : (s : Party) (v out : List ℕ) → whyNotMask s v (length out) ≡ 0 → maskedBy s v out ≡ maskedVector (s .check .set) (s .who .party) v
+pub masked-is : (s : Party) (v out : List ℕ) → whyNotMask s v (length out) ≡ 0
+    → maskedBy s v out ≡ maskedVector (s .check .set) (s .who .party) v
 unfolding maskOut
-masked-is s v out e = ap (part 0 (s .check .set .terms .n)) (new _ _ _ e) ∙ start-of _ out _ (mask-long (s .check .set) (s .who .party) v) (mask-tells s v _ e .room-fits)
+masked-is s v out e =
+    ap (part 0 (s .check .set .terms .n)) (new _ _ _ e)
+    ∙ start-of _ out _ (mask-long (s .check .set) (s .who .party) v) (mask-tells s v _ e .room-fits)

@@ -1,5 +1,5 @@
--- Demand 3 (01, "A door's list of calls"): what a list's accepted calls were, and the eight claims: over every list, and what the verdict is.
--- No proof stands here. Assumes nothing.
+-- Demand 3 (01, "A door's list of calls"): what a list's accepted calls were, and the eight claims: over every list,
+-- and what the verdict is. No proof stands here. Assumes nothing.
 use mathlib.Core.Path.{_≡_}
 use mathlib.Core.Bool.{Bool, true, false, cond}
 use mathlib.Core.List.{List, [], _∷_, _++_, map}
@@ -14,7 +14,10 @@ use Rattle.measure.specs.Measure.{measure, reached, isCode, lengthFits, allInRa
 use Rattle.messages.specs.Messages.{vectorKind, wordKind, answerKind, padded}
 use Rattle.dealing.specs.Dealing.{Deal}
 use Rattle.dealer.specs.Dealer.{halfSize}
-use Rattle.calls.specs.Lists.{Box, camera, office, partyOf, other, sameBox, put, World, Starts, Started, beginning, Message, Call, deal, load, mask, take, finish, drop, join, Body, vector, word, answer, Event, dealt, loaded, sent, dropped, joined, refused, step, after, events, In, SentVector, SentWord, SentAnswer, history, Admissible}
+use Rattle.calls.specs.Lists.{Box, camera, office, partyOf, other, sameBox, put, World, Starts, Started}
+use Rattle.calls.specs.Lists.{beginning, Message, Call, deal, load, mask, take, finish, drop, join, Body, vector}
+use Rattle.calls.specs.Lists.{word, answer, Event, dealt, loaded, sent, dropped, joined, refused, step, after}
+use Rattle.calls.specs.Lists.{events, In, SentVector, SentWord, SentAnswer, history, Admissible}
 
 -- ---- what a list's accepted calls were
 
@@ -136,8 +139,8 @@ openSets b (e ∷ h) = openSets b h + length (loadsBy b e) - closes b e
 abbrev pub verdict : Deal → List ℕ → List ℕ → ℕ
 verdict d x y = cond (reached (d .terms) (measure (d .terms) x y) (signed (d .t))) 1 0
 
--- "For an accepted join under n, the list's accepted deal of n gives measure and T, X is the vector handed to the camera box's accepted call 2 under n, and Y the office
--- box's; that each is there exactly once is part of the claim"
+-- "For an accepted join under n, the list's accepted deal of n gives measure and T, X is the vector handed to the
+-- camera box's accepted call 2 under n, and Y the office box's; that each is there exactly once is part of the claim"
 pub record Right (h : List Event) (n bit : ℕ) : Type 0 where
   pub d : Deal
   pub x : List ℕ
@@ -148,14 +151,17 @@ pub record Right (h : List Event) (n bit : ℕ) : Type 0 where
   pub right : bit ≡ verdict d x y
 
 unfoldable pub NoWrongReport : Type 0
-NoWrongReport = (s : Starts) → Started s → (cs : List Call) → Admissible s cs → (n bit : ℕ) → In (joined n bit) (history s cs) → Right (history s cs) n bit
+NoWrongReport =
+    (s : Starts) → Started s → (cs : List Call) → Admissible s cs → (n bit : ℕ)
+    → In (joined n bit) (history s cs) → Right (history s cs) n bit
 
 -- at most one masked vector and one word a number and box
 unfoldable pub NoReuse : Type 0
 NoReuse = (s : Starts) → Started s → (cs : List Call) → Admissible s cs → (b : Box) (n : ℕ)
     → (length (vectors b n (history s cs)) ≤ 1) × (length (sentWords b n (history s cs)) ≤ 1)
 
--- ---- a run in the right order: "one deal, at each box a load and calls 2 to 4 in turn, and the join, all under one number"
+-- ---- a run in the right order: "one deal, at each box a load
+-- and calls 2 to 4 in turn, and the join, all under one number"
 
 -- how far it is: whether the deal was made, how many of a box's four calls, whether the join
 pub record Progress : Type 0 where
@@ -184,10 +190,12 @@ Labelled door kind b n m = (m .label ≡ record { kind = kind; sender = partyOf 
 
 -- the run's deal and its two vectors
 module _ (door : List ℕ) (d : Deal) (v : Box → List ℕ) where
-  -- which of its own calls may come next, where the run's events so far are h. "Each load gets the half the deal wrote for its box, and messages are handed on as sent. Any
-  -- order will do in which nothing is handed on before it is written or sent." Output buffers are as refusal 5 asks.
+  -- which of its own calls may come next, where the run's events so far are h. "Each load gets the half the deal wrote
+  -- for its box, and messages are handed on as sent. Any order will do in which nothing is handed on before it is
+  -- written or sent." Output buffers are as refusal 5 asks.
   abbrev pub Ready : Progress → List Event → Call → Type 0
-  Ready g h (deal e out0 out1) = (g .begun ≡ false) × (e ≡ d) × (halfSize (d .terms .n) ≤ length out0) × (halfSize (d .terms .n) ≤ length out1)
+  Ready g h (deal e out0 out1) =
+      (g .begun ≡ false) × (e ≡ d) × (halfSize (d .terms .n) ≤ length out0) × (halfSize (d .terms .n) ≤ length out1)
   Ready g h (load b half) = (g .made b ≡ 0) × (f : Box → List ℕ) × In (dealt d f) h × (half ≡ f b)
   Ready g h (mask b x out) = (g .made b ≡ 1) × (x ≡ v b) × (d .terms .n ≤ length out)
   Ready g h (take b m) =
@@ -198,16 +206,20 @@ module _ (door : List ℕ) (d : Deal) (v : Box → List ℕ) where
       × SentWord h (other b) (d .number) (m .content)
   Ready g h (drop b) = ⊥
   Ready g h (join m n) =
-      (g .ended ≡ false) × Labelled door answerKind camera (d .number) m × SentAnswer h camera (d .number) (m .content) × Labelled door answerKind office (d .number) n
+      (g .ended ≡ false) × Labelled door answerKind camera (d .number) m
+      × SentAnswer h camera (d .number) (m .content) × Labelled door answerKind office (d .number) n
       × SentAnswer h office (d .number) (n .content)
 
-  -- its calls so far: "mixed at most with calls that change no state", and with any that are turned down, of which 01 says
-  -- so ("no state and no byte changes")
+  -- its calls so far: "mixed at most with calls that change no state", and with any that are turned down, of which 01
+  -- says so ("no state and no byte changes")
   pub data Run (w : World) : List Call → Progress → Type 0 where
     start : Run w [] nothingMade
-    own : {cs : List Call} {g : Progress} → Run w cs g → (c : Call) → Ready g (events w cs) c → Run w (c ∷ cs) (onward g c)
-    aside : {cs : List Call} {g : Progress} → Run w cs g → (c : Call) → step (after w cs) c .world ≡ after w cs → Run w (c ∷ cs) g
-    turned : {cs : List Call} {g : Progress} → Run w cs g → (c : Call) (why : ℕ) → step (after w cs) c .event ≡ refused why
+    own : {cs : List Call} {g : Progress} → Run w cs g → (c : Call) → Ready g (events w cs) c
+        → Run w (c ∷ cs) (onward g c)
+    aside : {cs : List Call} {g : Progress} → Run w cs g → (c : Call) → step (after w cs) c .world ≡ after w cs
+        → Run w (c ∷ cs) g
+    turned : {cs : List Call} {g : Progress} → Run w cs g
+        → (c : Call) (why : ℕ) → step (after w cs) c .event ≡ refused why
         → Run w (c ∷ cs) g
 
 -- "answered means that none of the run's own calls is refused": what call c of the run left is the run's own, by the
@@ -239,11 +251,15 @@ pub record Free (s : Starts) (h : List Event) (n : ℕ) : Type 0 where
   pub above-box : (b : Box) → lastLoaded (s .boxFloor b) b h < n
   pub above-lock : lastJoined (s .lockFloor) h < n
 
--- after every admissible list that leaves no set open: however far such a run is and whatever came in between, each of its own calls that may come next is answered
+-- after every admissible list that leaves no set open: however far such a run is and whatever came in between, each of
+-- its own calls that may come next is answered
 unfoldable pub AlwaysAnswered : Type 0
-AlwaysAnswered = (s : Starts) → Started s → (cs : List Call) → Admissible s cs → (d : Deal) (v : Box → List ℕ) → InRange d v → Free s (history s cs) (d .number)
+AlwaysAnswered =
+    (s : Starts) → Started s → (cs : List Call) → Admissible s cs
+    → (d : Deal) (v : Box → List ℕ) → InRange d v → Free s (history s cs) (d .number)
     → (let w : World = after (beginning s) cs in
-    (rs : List Call) (g : Progress) → Run (padded (s .name)) d v w rs g → (c : Call) → Ready (padded (s .name)) d v g (events w rs) c
+    (rs : List Call) (g : Progress) → Run (padded (s .name)) d v w rs g
+    → (c : Call) → Ready (padded (s .name)) d v g (events w rs) c
     → Answered d v c (step (after w rs) c .event))
 
 -- ---- a run can be ended
@@ -278,7 +294,8 @@ unfoldable pub CanEnd : Type 0
 CanEnd = (s : Starts) → Started s → (cs : List Call) → Admissible s cs → (d : Deal) (v : Box → List ℕ) → InRange d v
     → Free s (history s cs) (d .number) → Ended s cs d v
 
--- "Drop ends the open set": after every admissible list, a box with a set open is not refused its drop, and then has none
+-- "Drop ends the open set": after every admissible list, a box
+-- with a set open is not refused its drop, and then has none
 unfoldable pub CanDrop : Type 0
 CanDrop = (s : Starts) → Started s → (cs : List Call) → Admissible s cs → (b : Box) → 1 ≤ openSets b (history s cs)
     → (history s (drop b ∷ cs) ≡ dropped b ∷ history s cs) × (openSets b (history s (drop b ∷ cs)) ≡ 0)

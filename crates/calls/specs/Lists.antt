@@ -1,5 +1,6 @@
--- A door's list of calls (01, "A door's list of calls"): the calls by the definitions that the contracts of dealer, party and lock name, what they do, and what is asked of
--- what is handed in. A list stands newest call first. Assumes nothing.
+-- A door's list of calls (01, "A door's list of calls"): the calls by the definitions that the contracts of dealer,
+-- party and lock name, what they do, and what is asked of what is handed in. A list stands newest call first.
+-- Assumes nothing.
 use mathlib.Core.Path.{_≡_}
 use mathlib.Core.Bool.{Bool, true, false}
 use mathlib.Core.List.{List, [], _∷_}
@@ -47,7 +48,8 @@ pub record World : Type 0 where
   pub box : Box → Party
   pub lock : Lock
 
--- "A list begins with what accepted starts return: dealer, camera box, office box and lock, one name, any floors, each box with the key the dealer has for its party"
+-- "A list begins with what accepted starts return: dealer, camera box, office box and lock, one name, any floors, each
+-- box with the key the dealer has for its party"
 pub record Starts : Type 0 where
   pub name : List ℕ
   pub key : Box → List ℕ
@@ -81,7 +83,8 @@ pub record Message (A : Type 0) : Type 0 where
   pub name : List ℕ
   pub content : A
 
--- "It holds deals, loads, calls 2 to 4, drops and joins in any order, refused ones included": a call with all that it is handed beside its part's state
+-- "It holds deals, loads, calls 2 to 4, drops and joins in any order, refused ones included": a call with all that it
+-- is handed beside its part's state
 pub data Call : Type 0 where
   -- what is to be dealt, and the two buffers lent
   deal : Deal → List ℕ → List ℕ → Call
@@ -97,7 +100,8 @@ pub data Call : Type 0 where
   -- party 0's answer and party 1's
   join : Message ℕ → Message ℕ → Call
 
--- what an accepted call 2, 3 or 4 sends, and for call 2 the vector handed in before it: a masked vector, a word, an answer
+-- what an accepted call 2, 3 or 4 sends, and for call 2 the
+-- vector handed in before it: a masked vector, a word, an answer
 pub data Body : Type 0 where
   vector : List ℕ → List ℕ → Body
   word : ℕ → Body
@@ -109,7 +113,8 @@ pub data Event : Type 0 where
   dealt : Deal → (Box → List ℕ) → Event
   -- which number was loaded
   loaded : Box → ℕ → Event
-  -- "An accepted call 2, 3 or 4 sends its masked vector, word or answer under its box's party and the open set's number"
+  -- "An accepted call 2, 3 or 4 sends its masked vector, word
+  -- or answer under its box's party and the open set's number"
   sent : Box → ℕ → Body → Event
   dropped : Box → Event
   -- under which number, and what was reported
@@ -132,16 +137,21 @@ abbrev pub eventOf : ℕ → Event → Event
 eventOf why e = ifTaken why e (refused why)
 
 abbrev pub onDealer : World → DealerAnswer → Event → Step
-onDealer w a e = record { world = record { dealer = a .dealer; box = w .box; lock = w .lock }; event = eventOf (a .why) e }
+onDealer w a e =
+    record { world = record { dealer = a .dealer; box = w .box; lock = w .lock }; event = eventOf (a .why) e }
 
 abbrev pub onBox : World → Box → PartyAnswer → Event → Step
-onBox w b a e = record { world = record { dealer = w .dealer; box = put (w .box) b (a .party); lock = w .lock }; event = eventOf (a .why) e }
+onBox w b a e = record {
+  world = record { dealer = w .dealer; box = put (w .box) b (a .party); lock = w .lock };
+  event = eventOf (a .why) e;
+}
 
 abbrev pub onLock : World → LockAnswer → Event → Step
-onLock w a e = record { world = record { dealer = w .dealer; box = w .box; lock = a .lock }; event = eventOf (a .why) e }
+onLock w a e =
+    record { world = record { dealer = w .dealer; box = w .box; lock = a .lock }; event = eventOf (a .why) e }
 
--- "An accepted call writes only from the start of an output buffer: a deal the whole blocks of one half in each of two, call 2 its L words": what was written is the start
--- of the buffer as the call leaves it
+-- "An accepted call writes only from the start of an output buffer: a deal the whole blocks of one half in each of two,
+-- call 2 its L words": what was written is the start of the buffer as the call leaves it
 abbrev pub written : Dealer → Deal → List ℕ → List ℕ → Box → List ℕ
 written s d out0 out1 b = part 0 (halfSize (d .terms .n)) (DealerCalls.dealOut s d out0 out1 (partyOf b))
 
@@ -184,7 +194,8 @@ pub data In {A : Type 0} (a : A) : List A → Type 0 where
   here : {x : A} {l : List A} → a ≡ x → In a (x ∷ l)
   there : {x : A} {l : List A} → In a l → In a (x ∷ l)
 
--- what is handed in fits its type: only of a dealt number is that needed, which has 64 bits ("A set has a 64-bit number")
+-- what is handed in fits its type: only of a dealt number is
+-- that needed, which has 64 bits ("A set has a 64-bit number")
 abbrev pub Fits : Call → Type 0
 Fits (deal d out0 out1) = d .number < 2 ^ 64
 Fits (load b h) = Unit {0}
@@ -194,14 +205,17 @@ Fits (finish b m) = Unit {0}
 Fits (drop b) = Unit {0}
 Fits (join m n) = Unit {0}
 
--- "Each whole block of 512 bytes handed to a load equals one that an earlier accepted deal of the list wrote for that box"
+-- "Each whole block of 512 bytes handed to a load equals one
+-- that an earlier accepted deal of the list wrote for that box"
 abbrev pub Written : List Event → Box → List ℕ → Type 0
-Written e b block = (d : Deal) × (f : Box → List ℕ) × In (dealt d f) e × (i : ℕ) × (i < length (f b) / blockBytes) × (block ≡ blockAt (f b) i)
+Written e b block = (d : Deal) × (f : Box → List ℕ) × In (dealt d f) e
+    × (i : ℕ) × (i < length (f b) / blockBytes) × (block ≡ blockAt (f b) i)
 
--- "A message of the kind the call takes, under this door's padded name, was sent earlier in the list, with the same sender, number and content. Any other message is free":
--- S b n content says that box b sent it under n
+-- "A message of the kind the call takes, under this door's padded name, was sent earlier in the list, with the same
+-- sender, number and content. Any other message is free": S b n content says that box b sent it under n
 abbrev pub Sent : {A : Type 0} → List ℕ → ℕ → (Box → ℕ → A → Type 0) → Message A → Type 0
-Sent door kind S m = m .label .kind ≡ kind → m .name ≡ door → (b : Box) × (m .label .sender ≡ partyOf b) × S b (m .label .number) (m .content)
+Sent door kind S m = m .label .kind ≡ kind → m .name ≡ door
+    → (b : Box) × (m .label .sender ≡ partyOf b) × S b (m .label .number) (m .content)
 
 abbrev pub SentVector : List Event → Box → ℕ → List ℕ → Type 0
 SentVector e b n content = (v : List ℕ) × In (sent b n (vector v content)) e

@@ -23,7 +23,8 @@ lent (join m n) = []
 -- the same buffers after it, by the definitions that the contracts name: "each lent byte afterwards can be worked out"
 abbrev pub lentAfter : World → Call → List (List ℕ)
 lentAfter w (deal d out0 out1) =
-    DealerCalls.dealOut (w .dealer) d out0 out1 cameraParty ∷ DealerCalls.dealOut (w .dealer) d out0 out1 officeParty ∷ []
+    DealerCalls.dealOut (w .dealer) d out0 out1 cameraParty
+    ∷ DealerCalls.dealOut (w .dealer) d out0 out1 officeParty ∷ []
 lentAfter w (load b h) = []
 lentAfter w (mask b v out) = BoxCalls.maskOut (w .box b) v out ∷ []
 lentAfter w (take b m) = []

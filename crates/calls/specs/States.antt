@@ -6,7 +6,8 @@ use Prim.Native.Nat.{ℕ, _≤_}
 use lib.ListN.{getD}
 use Rattle.party.specs.declared.Party.{Party}
 use Rattle.party.specs.Party.{idlePhase, loadedPhase, maskedPhase, takenPhase, noCheck}
-use Rattle.calls.specs.Lists.{Box, World, Starts, beginning, Call, Event, sent, answer, dropped, after, events, In}
+use Rattle.calls.specs.Lists.{Box, World, Starts, beginning, Call, Event, sent, answer, dropped, after, events}
+use Rattle.calls.specs.Lists.{In}
 
 -- ---- until a set is closed or dropped
 

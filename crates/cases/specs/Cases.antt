@@ -64,7 +64,8 @@ table =
     -- squared Euclid of the same: 25 + 29 + 28 = 82
     ∷ measured 1 (pos 3 ∷ negℤ (pos 4) ∷ []) (pos 2 ∷ pos 5 ∷ []) (pos 25) (pos 29) (pos 28) (pos 82)
     -- Hamming (1,0,1,1) with (1,1,0,1): 3 + 3 - 4 = 2
-    ∷ measured 2 (pos 1 ∷ pos 0 ∷ pos 1 ∷ pos 1 ∷ []) (pos 1 ∷ pos 1 ∷ pos 0 ∷ pos 1 ∷ []) (pos 3) (pos 3) (negℤ (pos 4)) (pos 2)
+    ∷ measured 2 (pos 1 ∷ pos 0 ∷ pos 1 ∷ pos 1 ∷ [])
+    (pos 1 ∷ pos 1 ∷ pos 0 ∷ pos 1 ∷ []) (pos 3) (pos 3) (negℤ (pos 4)) (pos 2)
     -- element -4, mask 4,294,967,295: 4,294,967,291; element 3, mask 4,294,967,294: 1
     ∷ masked (negℤ (pos 4)) 4294967295 4294967291
     ∷ masked (pos 3) 4294967294 1

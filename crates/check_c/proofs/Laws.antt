@@ -22,7 +22,8 @@ module _ (v m out : List ℕ) where
   unfolding maskFits maskedOver
   out-short h i = rw (le-leb (length v) (length m) h, lt-leb (length v) (length out) i) (refl, refl)
 
-  pub mask-fits : (after : List ℕ) → length v ≤ length m → length v ≤ length out → after ≡ over 0 (plus (length v) v m) out
+  pub mask-fits : (after : List ℕ) → length v ≤ length m
+      → length v ≤ length out → after ≡ over 0 (plus (length v) v m) out
       → (true ≡ maskFits v m out) × (after ≡ maskedOver v m out)
   unfolding maskFits maskedOver
   mask-fits after h i e = rw (le-leb (length v) (length m) h, le-leb (length v) (length out) i) (refl, e)
@@ -38,18 +39,33 @@ module _ (code party c r : ℕ) (v mx my sx sy : List ℕ) where
   unfolding wordOrZero wordFits
   my-short h i = rw (le-leb (length v) (length mx) h, lt-leb (length v) (length my) i) refl
 
-  pub sx-short : length v ≤ length mx → length v ≤ length my → length sx < length v → 0 ≡ wordOrZero code party c r v mx my sx sy
+  pub sx-short : length v ≤ length mx → length v ≤ length my → length sx < length v
+      → 0 ≡ wordOrZero code party c r v mx my sx sy
   unfolding wordOrZero wordFits
-  sx-short h i j = rw (le-leb (length v) (length mx) h, le-leb (length v) (length my) i, lt-leb (length v) (length sx) j) refl
+  sx-short h i j =
+      rw (le-leb (length v) (length mx) h, le-leb (length v) (length my) i, lt-leb (length v) (length sx) j) refl
 
-  pub sy-short : length v ≤ length mx → length v ≤ length my → length v ≤ length sx → length sy < length v → 0 ≡ wordOrZero code party c r v mx my sx sy
+  pub sy-short : length v ≤ length mx → length v ≤ length my → length v ≤ length sx → length sy < length v
+      → 0 ≡ wordOrZero code party c r v mx my sx sy
   unfolding wordOrZero wordFits
-  sy-short h i j k = rw (le-leb (length v) (length mx) h, le-leb (length v) (length my) i, le-leb (length v) (length sx) j, lt-leb (length v) (length sy) k) refl
+  sy-short h i j k =
+      rw (
+        le-leb (length v) (length mx) h,
+        le-leb (length v) (length my) i,
+        le-leb (length v) (length sx) j,
+        lt-leb (length v) (length sy) k,
+      ) refl
 
-  pub word-fits : (s own w : ℕ) → length v ≤ length mx → length v ≤ length my → length v ≤ length sx → length v ≤ length sy
+  pub word-fits : (s own w : ℕ) → length v ≤ length mx
+      → length v ≤ length my → length v ≤ length sx → length v ≤ length sy
       → s ≡ share party (length v) c mx my sx sy → own ≡ ownWord (termsOf code v) v
       → w ≡ boxWord (termsOf code v) s own r → w ≡ wordOrZero code party c r v mx my sx sy
   unfolding wordOrZero wordFits
   word-fits s own w h i j k es eo ew =
-      rw (le-leb (length v) (length mx) h, le-leb (length v) (length my) i, le-leb (length v) (length sx) j, le-leb (length v) (length sy) k)
+      rw (
+        le-leb (length v) (length mx) h,
+        le-leb (length v) (length my) i,
+        le-leb (length v) (length sx) j,
+        le-leb (length v) (length sy) k,
+      )
       (ew ∙ ap₂ (λ a b. boxWord (termsOf code v) a b r) es eo)

@@ -20,7 +20,9 @@ maskedOver v m out = cond (maskFits v m out) (over 0 (plus (length v) v m) out) 
 
 -- whether both masked vectors and both shares are as long as a vector
 unfoldable pub wordFits : List ℕ → List ℕ → List ℕ → List ℕ → List ℕ → Bool
-wordFits v mx my sx sy = leb (length v) (length mx) && (leb (length v) (length my) && (leb (length v) (length sx) && leb (length v) (length sy)))
+wordFits v mx my sx sy =
+    leb (length v) (length mx)
+    && (leb (length v) (length my) && (leb (length v) (length sx) && leb (length v) (length sy)))
 
 -- the terms of a set under this code, for vectors as long as v
 unfoldable pub termsOf : ℕ → List ℕ → Terms

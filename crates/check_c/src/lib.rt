@@ -67,7 +67,8 @@ pub extern "C" fn check_word(
     sx: &[u32],
     sy: &[u32],
 ) -> u32
-    ensures { λ w. ⌜ w ≡ wordOrZero code party c r (now (v .entry)) (now (mx .entry)) (now (my .entry)) (now (sx .entry)) (now (sy .entry)) ⌝ }
+    ensures { λ w. ⌜ w ≡ wordOrZero code party c r (now (v .entry))
+        (now (mx .entry)) (now (my .entry)) (now (sx .entry)) (now (sy .entry)) ⌝ }
 {
     let n = v.len();
     if mx.len() < n {

@@ -180,7 +180,8 @@ noSet =
       key = record { corrections = replicate 32 noCorrection; last = 0 };
     }
 
--- ---- 01's eleventh refusal: "Opened content has another name or party, a code, L or flag byte out of range, a block count that doesn't fit L, or non-zero fill"
+-- ---- 01's eleventh refusal: "Opened content has another name or party, a code, L or flag byte out of range, a block
+-- count that doesn't fit L, or non-zero fill"
 
 unfoldable pub flagsFit : List Correction → Bool
 flagsFit [] = true
@@ -213,7 +214,9 @@ unfoldable pub Filled : ℕ → List ℕ → Type 0
 Filled n a = (l : List ℕ) × Words n l × (a ≡ fill l)
 
 unfoldable pub Corrections : List Correction → Type 0
-Corrections l = (i : ℕ) → i < length l → Words 8 (getD l i noCorrection .seed) × (getD l i noCorrection .word < 2 ^ 32) × (getD l i noCorrection .flags < 4)
+Corrections l =
+    (i : ℕ) → i < length l → Words 8 (getD l i noCorrection .seed)
+    × (getD l i noCorrection .word < 2 ^ 32) × (getD l i noCorrection .flags < 4)
 
 -- flags that a byte has room for: what laying a set out asks of its corrections
 unfoldable pub FlagBytes : List Correction → Type 0

@@ -80,34 +80,40 @@ words-filled n a f = subst (Words n) (sym (take-fill n a (f .0) (f .1 .long) (f 
 -- read back from its bytes
 pub fill-filled : (n : ℕ) (a : List ℕ) → Filled n a → fill (wordsAt n (bytesOf (take n a))) ≡ a
 unfolding Filled
-fill-filled n a f = ap fill (words-back n (take n a) (words-filled n a f) ∙ take-fill n a (f .0) (f .1 .long) (f .2)) ∙ sym (f .2)
+fill-filled n a f =
+    ap fill (words-back n (take n a) (words-filled n a f) ∙ take-fill n a (f .0) (f .1 .long) (f .2)) ∙ sym (f .2)
 
 -- ---- corrections
 
 pub length-correctionBytes : (c : Correction) → length (c .seed) ≡ 8 → length (correctionBytes c) ≡ 37
 unfolding correctionBytes le32
-length-correctionBytes c h = length-append (bytesOf (c .seed)) (le32 (c .word) ++ (c .flags ∷ [])) ∙ omega (arith, length-bytesOf (c .seed))
+length-correctionBytes c h =
+    length-append (bytesOf (c .seed)) (le32 (c .word) ++ (c .flags ∷ [])) ∙ omega (arith, length-bytesOf (c .seed))
 
-getD-map : (f : Correction → List ℕ) (cs : List Correction) (i : ℕ) → i < length cs → getD (map f cs) i [] ≡ f (getD cs i noCorrection)
+getD-map : (f : Correction → List ℕ) (cs : List Correction) (i : ℕ) → i < length cs
+    → getD (map f cs) i [] ≡ f (getD cs i noCorrection)
 getD-map f [] i h = absurd (omega arith)
 getD-map f (c ∷ cs) zero h = refl
 getD-map f (c ∷ cs) (suc i) h = getD-map f cs i (omega arith)
 
 -- a correction's own bytes
-pub correction-back : (c : Correction) (f : List ℕ) (i : ℕ) → part (37 * i) 37 f ≡ correctionBytes c → Words 8 (c .seed) → c .word < 2 ^ 32 → correctionIn f i ≡ c
+pub correction-back : (c : Correction) (f : List ℕ) (i : ℕ) → part (37 * i) 37 f ≡ correctionBytes c
+    → Words 8 (c .seed) → c .word < 2 ^ 32 → correctionIn f i ≡ c
 unfolding correctionIn correctionBytes le32
 correction-back c f i e seed word =
     let rest : List ℕ = le32 (c .word) ++ (c .flags ∷ []) in
     let long : length (bytesOf (c .seed)) ≡ 32 = length-bytesOf (c .seed) ∙ omega (arith, seed .long) in
     let s = ap (wordsAt 8) e ∙ wordsAt-bytesOf 8 (c .seed) rest seed in
-    let w = ap (λ (b : List ℕ). wordAt b 32) e ∙ wordAt-past (bytesOf (c .seed)) rest 32 0 long ∙ wordAt-le32 (c .word) (c .flags ∷ []) word in
+    let w = ap (λ (b : List ℕ). wordAt b 32) e ∙ wordAt-past (bytesOf (c .seed)) rest 32 0 long
+    ∙ wordAt-le32 (c .word) (c .flags ∷ []) word in
     let g = ap (λ (b : List ℕ). getD b 36 0) e ∙ getD-past (bytesOf (c .seed)) rest 32 4 long in
     λ k. record { seed = s k; word = w k; flags = g k }
 
 module _ (cs : List Correction) (fit : Corrections cs) where
   each : (i : ℕ) → i < length cs → length (getD (map correctionBytes cs) i []) ≡ 37
   unfolding Corrections
-  each i h = ap length (getD-map correctionBytes cs i h) ∙ length-correctionBytes (getD cs i noCorrection) (fit i h .0 .long)
+  each i h =
+      ap length (getD-map correctionBytes cs i h) ∙ length-correctionBytes (getD cs i noCorrection) (fit i h .0 .long)
 
   length-corrections : length (flat (map correctionBytes cs)) ≡ 37 * length cs
   length-corrections = length-even 37 (map correctionBytes cs) (λ i h. each i (rw length-map at h)) ∙ rw length-map refl
@@ -117,15 +123,19 @@ module _ (cs : List Correction) (fit : Corrections cs) where
   corrections-back zero h = refl
   corrections-back (suc k) h =
       let l : k < length cs = omega arith in
-      let at = part-flat 37 (map correctionBytes cs) k (λ i li. each i (rw length-map at li)) (rw length-map l) ∙ getD-map correctionBytes cs k l in
-      ap₂ (λ (p : List Correction) (c : Correction). p ++ (c ∷ [])) (corrections-back k (omega arith)) (correction-back (getD cs k noCorrection) (flat (map correctionBytes cs)) k at (fit k l .0) (fit k l .1)) ∙ sym (take-suc cs k noCorrection l)
+      let at = part-flat 37 (map correctionBytes cs) k (λ i li. each i (rw length-map at li)) (rw length-map l)
+      ∙ getD-map correctionBytes cs k l in
+      ap₂ (λ (p : List Correction) (c : Correction). p ++ (c ∷ [])) (corrections-back k (omega arith))
+      (correction-back (getD cs k noCorrection) (flat (map correctionBytes cs)) k at (fit k l .0) (fit k l .1))
+      ∙ sym (take-suc cs k noCorrection l)
 
 -- ---- what contentFits asks
 
 flags-fit : (cs : List Correction) → Corrections cs → flagsFit cs ≡ true
 unfolding flagsFit Corrections
 flags-fit [] h = refl
-flags-fit (c ∷ cs) h = ap₂ _&&_ (lt-ltb (c .flags) 4 (h 0 (omega arith) .2)) (flags-fit cs (λ i l. h (suc i) (omega arith)))
+flags-fit (c ∷ cs) h =
+    ap₂ _&&_ (lt-ltb (c .flags) 4 (h 0 (omega arith) .2)) (flags-fit cs (λ i l. h (suc i) (omega arith)))
 
 pub zeros-replicate : (k : ℕ) → zeros (replicate k 0) ≡ true
 unfolding zeros

@@ -3,7 +3,8 @@ use mathlib.Core.Path.{_≡_, refl, sym, ap, _∙_, subst}
 use mathlib.Core.List.{List, [], _∷_, _++_, map, append-assoc, append-nil}
 use Prim.Native.Nat.{ℕ, zero, suc, _+_, _*_, _-_, _^_, _<_, _≤_}
 use native.Mathlib.Omega.{arith}
-use lib.ListN.{length, getD, take, drop, length-append, length-drop, length-replicate, List·getD-append, replicate, replicate-append-replicate}
+use lib.ListN.{length, getD, take, drop, length-append, length-drop, length-replicate, List·getD-append, replicate}
+use lib.ListN.{replicate-append-replicate}
 use lib.Seq.{take-append-seam, drop-append-add, drop-drop, getD-append-add, getD-take, getD-drop, take-at, drop-at}
 use lib.Seq.{length-take-le}
 use Rattle.words.specs.List.{tab, tab-ext, tab-getD, flat}
@@ -55,7 +56,8 @@ piece-at (f ∷ fs) rest (suc k) =
     rw (append-assoc f (flat fs) rest, drop-append-add f (flat fs ++ rest) past) (piece-at fs rest k)
 
 -- piece i of those that all have w elements
-pub part-flat : (w : ℕ) (fs : List (List ℕ)) (i : ℕ) → ((k : ℕ) → k < length fs → length (getD fs k []) ≡ w) → i < length fs → part (w * i) w (flat fs) ≡ getD fs i []
+pub part-flat : (w : ℕ) (fs : List (List ℕ)) (i : ℕ) → ((k : ℕ) → k < length fs → length (getD fs k []) ≡ w)
+    → i < length fs → part (w * i) w (flat fs) ≡ getD fs i []
 unfolding part flat
 part-flat w [] i all h = absurd (omega arith)
 part-flat w (f ∷ fs) zero all h =
@@ -64,18 +66,22 @@ part-flat w (f ∷ fs) zero all h =
 part-flat w (f ∷ fs) (suc i) all h =
     let e : w * suc i ≡ w + w * i = omega arith in
     let next : drop w (f ++ flat fs) ≡ flat fs = drop-at f (flat fs) w (all 0 (omega arith)) in
-    ap (λ (k : ℕ). take w (drop k (f ++ flat fs))) e ∙ ap (take w) (sym (drop-drop (w * i) w (f ++ flat fs)) ∙ ap (drop (w * i)) next)
+    ap (λ (k : ℕ). take w (drop k (f ++ flat fs))) e
+    ∙ ap (take w) (sym (drop-drop (w * i) w (f ++ flat fs)) ∙ ap (drop (w * i)) next)
     ∙ part-flat w fs i (λ k l. all (suc k) (omega arith)) (omega arith)
 
-pub length-even : (w : ℕ) (fs : List (List ℕ)) → ((k : ℕ) → k < length fs → length (getD fs k []) ≡ w) → length (flat fs) ≡ w * length fs
+pub length-even : (w : ℕ) (fs : List (List ℕ)) → ((k : ℕ) → k < length fs → length (getD fs k []) ≡ w)
+    → length (flat fs) ≡ w * length fs
 unfolding flat
 length-even w [] all = omega arith
-length-even w (f ∷ fs) all = length-append f (flat fs) ∙ omega (arith, all 0 (omega arith), length-even w fs (λ k l. all (suc k) (omega arith)))
+length-even w (f ∷ fs) all =
+    length-append f (flat fs) ∙ omega (arith, all 0 (omega arith), length-even w fs (λ k l. all (suc k) (omega arith)))
 
 pub take-replicate : (k m : ℕ) → k ≤ m → take k (replicate m 0) ≡ replicate {A = ℕ} k 0
 take-replicate k m h =
     let e : k + (m - k) ≡ m = omega arith in
-    ap (take k) (sym (replicate-append-replicate k (m - k) 0 ∙ ap (λ (i : ℕ). replicate i 0) e)) ∙ take-at (replicate k 0) (replicate (m - k) 0) k (length-replicate k 0)
+    ap (take k) (sym (replicate-append-replicate k (m - k) 0 ∙ ap (λ (i : ℕ). replicate i 0) e))
+    ∙ take-at (replicate k 0) (replicate (m - k) 0) k (length-replicate k 0)
 
 -- ---- words and their bytes
 
@@ -106,20 +112,26 @@ getD-part at w b i h = getD-take w (drop at b) i 0 h ∙ getD-drop at b i 0
 pub wordAt-part : (at w : ℕ) (b : List ℕ) (i : ℕ) → i + 4 ≤ w → wordAt (part at w b) i ≡ wordAt b (at + i)
 unfolding wordAt
 wordAt-part at w b i h =
-    let byte : (k : ℕ) → i + k < w → getD (part at w b) (i + k) 0 ≡ getD b (at + i + k) 0 = λ k l. getD-part at w b (i + k) l ∙ ap (λ (j : ℕ). getD b j 0) (omega arith) in
+    let byte : (k : ℕ) → i + k < w → getD (part at w b) (i + k) 0 ≡ getD b (at + i + k) 0 =
+    λ k l. getD-part at w b (i + k) l ∙ ap (λ (j : ℕ). getD b j 0) (omega arith) in
     rw (getD-part at w b i (omega arith), byte 1 (omega arith), byte 2 (omega arith), byte 3 (omega arith)) refl
 
-pub wordsAt-part : (n at w v : ℕ) (b : List ℕ) → 4 * n ≤ w → 4 * n ≤ v → wordsAt n (part at w b) ≡ wordsAt n (part at v b)
+pub wordsAt-part : (n at w v : ℕ) (b : List ℕ) → 4 * n ≤ w → 4 * n ≤ v
+    → wordsAt n (part at w b) ≡ wordsAt n (part at v b)
 unfolding wordsAt
-wordsAt-part n at w v b h k = tab-ext _ _ n (λ i l. wordAt-part at w b (4 * i) (omega arith) ∙ sym (wordAt-part at v b (4 * i) (omega arith)))
+wordsAt-part n at w v b h k =
+    tab-ext _ _ n (λ i l. wordAt-part at w b (4 * i) (omega arith) ∙ sym (wordAt-part at v b (4 * i) (omega arith)))
 
 -- words that fit are read back
 pub wordsAt-bytesOf : (n : ℕ) (w rest : List ℕ) → Words n w → wordsAt n (bytesOf w ++ rest) ≡ w
 unfolding wordsAt
-wordsAt-bytesOf n w rest h = subst (λ (m : ℕ). tab (λ i. wordAt (bytesOf w ++ rest) (4 * i)) m ≡ w) (h .long) (tab-ext _ (λ i. getD w i 0) (length w) word ∙ tab-getD w)
+wordsAt-bytesOf n w rest h =
+    subst (λ (m : ℕ). tab (λ i. wordAt (bytesOf w ++ rest) (4 * i)) m ≡ w)
+    (h .long) (tab-ext _ (λ i. getD w i 0) (length w) word ∙ tab-getD w)
   where
     word : (i : ℕ) → i < length w → wordAt (bytesOf w ++ rest) (4 * i) ≡ getD w i 0
-    word i l = wordAt-append (bytesOf w) rest (4 * i) (omega (arith, length-bytesOf w)) ∙ wordAt-bytesOf w i l (h .below i)
+    word i l =
+        wordAt-append (bytesOf w) rest (4 * i) (omega (arith, length-bytesOf w)) ∙ wordAt-bytesOf w i l (h .below i)
 
 pub words-back : (n : ℕ) (w : List ℕ) → Words n w → wordsAt n (bytesOf w) ≡ w
 words-back n w h = ap (wordsAt n) (sym (append-nil (bytesOf w))) ∙ wordsAt-bytesOf n w [] h

@@ -1,5 +1,6 @@
--- The dealer (01, "Dealing a set", "The sealed half" and "When a call is turned down"): why a start or a deal is turned down, the next state, and what a deal leaves in its
--- two lent buffers, for any state and anything handed in. Assumes nothing.
+-- The dealer (01, "Dealing a set", "The sealed half" and "When a call is turned down"): why a start or a deal is turned
+-- down, the next state, and what a deal leaves in its two lent buffers, for any state and anything handed in.
+-- Assumes nothing.
 use mathlib.Core.Bool.{cond, _&&_, not}
 use mathlib.Core.List.{List}
 use Prim.Native.Nat.{ℕ, _*_}
@@ -7,7 +8,8 @@ use lib.Dec.{eqb, leb, ltb}
 use lib.ListN.{length, replicate}
 use Rattle.words.specs.List.{over, same}
 use Rattle.measure.specs.Measure.{isCode, lengthFits, thresholdFits}
-use Rattle.messages.specs.Messages.{badName, badPartyOrCode, wrongLength, shortBuffer, wrongNumber, outOfRange, equalKeys, cameraParty, unless, ifTaken, nameFits, padded, isKey}
+use Rattle.messages.specs.Messages.{badName, badPartyOrCode, wrongLength, shortBuffer, wrongNumber, outOfRange}
+use Rattle.messages.specs.Messages.{equalKeys, cameraParty, unless, ifTaken, nameFits, padded, isKey}
 use Rattle.content.specs.Content.{blockBytes, blockCount}
 use Rattle.dealing.specs.Dealing.{Deal, dealtSet}
 use Rattle.half.specs.Half.{half}

@@ -1,4 +1,5 @@
--- What an accepted start and an accepted deal have been tested for, and that the set which a deal gives each party is proper. Assumes nothing.
+-- What an accepted start and an accepted deal have been tested for, and that the set which a deal gives each party is
+-- proper. Assumes nothing.
 use mathlib.Core.Path.{_≡_}
 use mathlib.Core.Bool.{true, not}
 use mathlib.Core.List.{List}
@@ -30,7 +31,12 @@ start-tells name key0 key1 h =
     let a = passed _ h in
     let b = passed _ (a .1) in
     let keys = both _ _ (b .0) in
-    record { name-fits = a .0; long-0 = eqb-true _ _ (keys .0); long-1 = eqb-true _ _ (keys .1); unequal = passed _ (b .1) .0 }
+    record {
+      name-fits = a .0;
+      long-0 = eqb-true _ _ (keys .0);
+      long-1 = eqb-true _ _ (keys .1);
+      unequal = passed _ (b .1) .0;
+    }
 
 -- ---- deal
 
@@ -63,6 +69,7 @@ deal-tells s d room0 room1 h =
     }
 
 -- what an accepted deal gives each party
-pub dealt-proper : (s : Dealer) (d : Deal) (room0 room1 party : ℕ) → DealTells s d room0 room1 → d .number < 2 ^ 64 → party ≤ 1
+pub dealt-proper : (s : Dealer) (d : Deal) (room0 room1 party : ℕ)
+    → DealTells s d room0 room1 → d .number < 2 ^ 64 → party ≤ 1
     → Proper (dealtSet d party)
 dealt-proper s d room0 room1 party a number low = proper d party number (a .code-fits) (a .length-fits) low

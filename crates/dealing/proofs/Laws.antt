@@ -32,11 +32,14 @@ unfolding part
 copy-more w out at i hi hw e =
     let inside : i < length (drop at w) = omega (arith, length-drop at w) in
     rw (add-one i)
-    (take-suc-set out i (getD w (at + i) 0) hi ∙ ap₂ (λ (l : List ℕ) (a : ℕ). l ++ (a ∷ [])) e (sym (getD-drop at w i 0)) ∙ sym (take-suc (drop at w) i 0 inside))
+    (take-suc-set out i (getD w (at + i) 0) hi
+    ∙ ap₂ (λ (l : List ℕ) (a : ℕ). l ++ (a ∷ [])) e (sym (getD-drop at w i 0)) ∙ sym (take-suc (drop at w) i 0 inside))
 
-pub copy-done : (w out before : List ℕ) (at i : ℕ) → length out ≡ length before → i ≡ length out → take i out ≡ part at i w
+pub copy-done : (w out before : List ℕ) (at i : ℕ)
+    → length out ≡ length before → i ≡ length out → take i out ≡ part at i w
     → out ≡ part at (length before) w
-copy-done w out before at i size done e = sym (take-all i out (omega arith)) ∙ e ∙ ap (λ (k : ℕ). part at k w) (done ∙ size)
+copy-done w out before at i size done e =
+    sym (take-all i out (omega arith)) ∙ e ∙ ap (λ (k : ℕ). part at k w) (done ∙ size)
 
 -- ---- the start of an array of zeros is written
 
@@ -57,23 +60,27 @@ words-law w a out at n ea most fits e =
 
 -- a sum of vectors asks for its own places only, however far the slices reach
 pub mask-law : (w a out : List ℕ) (at n : ℕ) → a ≡ zeros mostElements → n ≤ mostElements → at + 2 * n ≤ length w
-    → out ≡ over 0 (plus n (take (length w - at) (drop at w)) (take (length w - (at + n)) (drop (at + n) w))) a → out ≡ fill (plus n (part at n w) (part (at + n) n w))
+    → out ≡ over 0 (plus n (take (length w - at) (drop at w)) (take (length w - (at + n)) (drop (at + n) w))) a
+    → out ≡ fill (plus n (part at n w) (part (at + n) n w))
 unfolding part plus
 mask-law w a out at n ea most fits e =
     let p : List ℕ = plus n (part at n w) (part (at + n) n w) in
     let same : plus n (take (length w - at) (drop at w)) (take (length w - (at + n)) (drop (at + n) w)) ≡ p =
-    tab-ext _ _ n (λ i h. ap₂ add (front (drop at w) (length w - at) i h (omega arith)) (front (drop (at + n) w) (length w - (at + n)) i h (omega arith))) in
+    tab-ext _ _ n (λ i h. ap₂ add (front (drop at w) (length w - at) i h (omega arith))
+    (front (drop (at + n) w) (length w - (at + n)) i h (omega arith))) in
     e ∙ ap (λ (q : List ℕ). over 0 q a) same ∙ fill-over p a n (length-tab _ n) most ea
   where
     front : (l : List ℕ) (k i : ℕ) → i < n → n ≤ k → getD (take k l) i 0 ≡ getD (take n l) i 0
     front l k i h more = getD-take k l i 0 (omega arith) ∙ sym (getD-take n l i 0 h)
 
 pub draw-law : (seed key a out : List ℕ) (n : ℕ) → 4 * n + 19 ≤ length a → key ≡ wordsAt 8 seed
-    → out ≡ stream key (1 ∷ 0 ∷ 0 ∷ []) (length (take (4 * n + 19) a)) → take (4 * n + 19) (out ++ drop (4 * n + 19) a) ≡ setWords seed n
+    → out ≡ stream key (1 ∷ 0 ∷ 0 ∷ []) (length (take (4 * n + 19) a))
+    → take (4 * n + 19) (out ++ drop (4 * n + 19) a) ≡ setWords seed n
 unfolding setWords stream
 draw-law seed key a out n room ek e =
     let size : length (take (4 * n + 19) a) ≡ 4 * n + 19 = length-take-le (4 * n + 19) a room in
-    let is : out ≡ stream (wordsAt 8 seed) (1 ∷ 0 ∷ 0 ∷ []) (4 * n + 19) = e ∙ ap₂ (λ (k : List ℕ) (m : ℕ). stream k (1 ∷ 0 ∷ 0 ∷ []) m) ek size in
+    let is : out ≡ stream (wordsAt 8 seed) (1 ∷ 0 ∷ 0 ∷ []) (4 * n + 19) =
+    e ∙ ap₂ (λ (k : List ℕ) (m : ℕ). stream k (1 ∷ 0 ∷ 0 ∷ []) m) ek size in
     take-at out (drop (4 * n + 19) a) (4 * n + 19) (ap length is ∙ length-tab _ (4 * n + 19)) ∙ is
 
 -- ---- a party's words

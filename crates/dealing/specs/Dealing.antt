@@ -1,4 +1,5 @@
--- Dealing a set (01, "Dealing a set"): the words that the dealer draws, and the set that each party gets. A party is its number. Assumes nothing.
+-- Dealing a set (01, "Dealing a set"): the words that the dealer draws, and the set that each party gets. A party is
+-- its number. Assumes nothing.
 use mathlib.Core.Bool.{cond}
 use mathlib.Core.List.{List, [], _∷_}
 use Prim.Native.Nat.{ℕ, _+_, _*_}
@@ -12,11 +13,13 @@ use Rattle.share.specs.Share.{plus, otherC, otherR}
 use Rattle.content.specs.declared.Set.{Set}
 use Rattle.content.specs.Content.{part, fill}
 
--- "words from the ChaCha20 key stream of the set seed (block counter from 0, nonce byte 0 is 1, the other eleven are 0)"
+-- "words from the ChaCha20 key stream of the set seed (block
+-- counter from 0, nonce byte 0 is 1, the other eleven are 0)"
 unfoldable pub setWords : List ℕ → ℕ → List ℕ
 setWords seed n = stream (wordsAt 8 seed) (1 ∷ 0 ∷ 0 ∷ []) (4 * n + 19)
 
--- "in this order: L words each of x0, x1, y0, y1; then c0, r, r0; then eight words each for the key seeds of party 0 and 1"
+-- "in this order: L words each of x0, x1, y0, y1; then c0, r,
+-- r0; then eight words each for the key seeds of party 0 and 1"
 module _ (n : ℕ) (w : List ℕ) where
   unfoldable pub x : ℕ → List ℕ
   x party = part (party * n) n w

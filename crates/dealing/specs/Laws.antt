@@ -1,5 +1,5 @@
--- What holds of a dealt set: its fields lie in their ranges (01, "The sealed half"), and two boxes that compute with the two sets of a deal get the join law's sum
--- (01, "One check at a box"). For every set seed. Assumes nothing.
+-- What holds of a dealt set: its fields lie in their ranges (01, "The sealed half"), and two boxes that compute with
+-- the two sets of a deal get the join law's sum (01, "One check at a box"). For every set seed. Assumes nothing.
 use mathlib.Core.Path.{_≡_, refl, ap, ap₂}
 use mathlib.Core.Bool.{Bool, true, false, cond}
 use mathlib.Core.List.{List, [], _∷_, _++_}
@@ -18,13 +18,15 @@ use Rattle.keystream.specs.Keystream.{keyWord, stream}
 use Rattle.node.specs.declared.Correction.{Correction}
 use Rattle.node.specs.Bounds.{Below, Fits, take-below, block-below, key-long, key-fits, last-below}
 use Rattle.measure.specs.declared.Terms.{Terms}
-use Rattle.measure.specs.Measure.{mostElements, isCode, lengthFits, measure, reached, allInRange, thresholdFits, ownWord, carried, ordinaryWidth}
+use Rattle.measure.specs.Measure.{mostElements, isCode, lengthFits, measure, reached, allInRange, thresholdFits}
+use Rattle.measure.specs.Measure.{ownWord, carried, ordinaryWidth}
 use Rattle.share.specs.Share.{plus, inner, otherC, otherR, share, boxWord, answer}
 use Rattle.share.specs.Claims.{join-law}
 use Rattle.content.specs.declared.Set.{Set}
 use Rattle.content.specs.Content.{part, fill, noCorrection, Words, Filled, Corrections, Proper}
 use Rattle.content.specs.Pieces.{length-part}
-use Rattle.dealing.specs.Dealing.{setWords, x, y, c0, r, r0, keySeed, maskX, maskY, ownMask, cOf, Deal, rOf, setFrom, dealtSet}
+use Rattle.dealing.specs.Dealing.{setWords, x, y, c0, r, r0, keySeed, maskX, maskY, ownMask, cOf, Deal, rOf}
+use Rattle.dealing.specs.Dealing.{setFrom, dealtSet}
 
 -- ---- words
 
@@ -43,7 +45,8 @@ tab-below f (suc n) h i = more (tab f n) (tab-below f n h) i
 pub dealt-below : (seed : List ℕ) (n i : ℕ) → getD (setWords seed n) i 0 < 2 ^ 32
 unfolding setWords stream keyWord
 dealt-below seed n i =
-    tab-below (keyWord (wordsAt 8 seed) 0 (1 ∷ 0 ∷ 0 ∷ [])) (4 * n + 19) (λ j. block-below (wordsAt 8 seed) _ (1 ∷ 0 ∷ 0 ∷ []) _) i
+    tab-below (keyWord (wordsAt 8 seed) 0 (1 ∷ 0 ∷ 0 ∷ [])) (4 * n + 19)
+    (λ j. block-below (wordsAt 8 seed) _ (1 ∷ 0 ∷ 0 ∷ []) _) i
 
 pub dealt-long : (seed : List ℕ) (n : ℕ) → length (setWords seed n) ≡ 4 * n + 19
 unfolding setWords stream
@@ -83,7 +86,8 @@ module _ (d : Deal) (w : List ℕ) (long : length w ≡ 4 * d .terms .n + 19) (b
         r-fits = below-either (eqb party 0) (below (4 * n + 2)) (sub-lt _ _);
         seed-fits = part-words (4 * n + 3 + 8 * party) 8 w (omega arith) below;
         levels = key-long _ _ _;
-        corrections-fit = λ i h. fits (key-fits _ _ _ noCorrection i (omega (arith, key-long (keySeed n w 0) (keySeed n w 1) (r n w))));
+        corrections-fit = λ i h.
+            fits (key-fits _ _ _ noCorrection i (omega (arith, key-long (keySeed n w 0) (keySeed n w 1) (r n w))));
         last-fits = last-below _ _ _;
       }
     where
@@ -147,7 +151,8 @@ module _ (party n c : ℕ) where
       → share party n c mx my sx sy ≡ share party n c mx′ my′ sx′ sy′
   unfolding share
   share-same emx emy esx esy =
-      λ i. add (sub (sub c (inner-same n emx esy i)) (inner-same n emy esx i)) (only (odd party) (inner-same n emx emy i))
+      λ i.
+      add (sub (sub c (inner-same n emx esy i)) (inner-same n emy esx i)) (only (odd party) (inner-same n emx emy i))
 
   module _ (mx my sx sy : List ℕ) where
     -- a box's state keeps its own masked vector in an array: MX at the camera box, MY at the office box

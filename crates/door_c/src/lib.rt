@@ -39,9 +39,12 @@ pub extern "C" fn door_deal(
     out0: &mut [u8],
     out1: &mut [u8],
 ) -> DealerAnswer
-    ensures { λ r. ⌜ r ≡ deal dealer (dealFrom number (now (seed .entry)) terms t) (length (now (out0 .entry))) (length (now (out1 .entry))) ⌝ }
-    ensures { λ _. ⌜ now (out0 .exit) ≡ dealOut dealer (dealFrom number (now (seed .entry)) terms t) (now (out0 .entry)) (now (out1 .entry)) 0 ⌝ }
-    ensures { λ _. ⌜ now (out1 .exit) ≡ dealOut dealer (dealFrom number (now (seed .entry)) terms t) (now (out0 .entry)) (now (out1 .entry)) 1 ⌝ }
+    ensures { λ r. ⌜ r ≡ deal dealer (dealFrom number (now (seed .entry)) terms t)
+        (length (now (out0 .entry))) (length (now (out1 .entry))) ⌝ }
+    ensures { λ _. ⌜ now (out0 .exit)
+        ≡ dealOut dealer (dealFrom number (now (seed .entry)) terms t) (now (out0 .entry)) (now (out1 .entry)) 0 ⌝ }
+    ensures { λ _. ⌜ now (out1 .exit)
+        ≡ dealOut dealer (dealFrom number (now (seed .entry)) terms t) (now (out0 .entry)) (now (out1 .entry)) 1 ⌝ }
 {
     dealer.deal(number, seed, terms, t, out0, out1)
 }
@@ -81,7 +84,8 @@ pub extern "C" fn door_take(
     number: u64,
     v: &[u32],
 ) -> PartyAnswer
-    ensures { λ r. ⌜ r ≡ takeVector party (record { kind = kind; sender = sender; number = number }) (now (name .entry)) (now (v .entry)) ⌝ }
+    ensures { λ r. ⌜ r ≡ takeVector party (record { kind = kind; sender = sender; number = number })
+        (now (name .entry)) (now (v .entry)) ⌝ }
 {
     party.take(
         Label {
@@ -104,7 +108,8 @@ pub extern "C" fn door_finish(
     number: u64,
     word: u32,
 ) -> PartyAnswer
-    ensures { λ r. ⌜ r ≡ finish party (record { kind = kind; sender = sender; number = number }) (now (name .entry)) word ⌝ }
+    ensures { λ r. ⌜ r ≡ finish party
+        (record { kind = kind; sender = sender; number = number }) (now (name .entry)) word ⌝ }
 {
     party.finish(
         Label {
@@ -147,7 +152,8 @@ pub extern "C" fn door_join(
     number1: u64,
     answer1: u32,
 ) -> LockAnswer
-    ensures { λ r. ⌜ r ≡ join lock (record { kind = kind0; sender = sender0; number = number0 }) (now (name0 .entry)) answer0 (record { kind = kind1; sender = sender1; number = number1 }) (now (name1 .entry)) answer1 ⌝ }
+    ensures { λ r. ⌜ r ≡ join lock (record { kind = kind0; sender = sender0; number = number0 }) (now (name0 .entry))
+        answer0 (record { kind = kind1; sender = sender1; number = number1 }) (now (name1 .entry)) answer1 ⌝ }
 {
     lock.join(
         Label {

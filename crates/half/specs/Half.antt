@@ -1,4 +1,5 @@
--- A half as blocks (01, "The sealed half"), and why one is turned down (01, "When a call is turned down", 4, 7, 10 and 11). Assumes nothing.
+-- A half as blocks (01, "The sealed half"), and why one is turned down (01, "When a call is turned down", 4, 7, 10 and
+-- 11). Assumes nothing.
 use mathlib.Core.Bool.{Bool, true, _&&_}
 use mathlib.Core.List.{List, [], _++_}
 use Prim.Native.Nat.{ℕ, zero, suc, _+_, _*_, _/_, _%_}
@@ -10,8 +11,9 @@ use Rattle.messages.specs.Messages.{wrongLength, wrongNumber, badBlock, badCont
 use Rattle.content.specs.declared.Set.{Set}
 use Rattle.content.specs.Content.{blockBytes, textBytes, mostBlocks, part, blockCount, plain, setIn, contentFits}
 
--- "A block is 512 bytes: set number (8, little-endian), block index from 0 (4, little-endian), 484 sealed bytes, tag (16). Sealing is RFC 8439's ChaCha20-Poly1305 under
--- the box's key, with the first twelve bytes as nonce and as additional data"
+-- "A block is 512 bytes: set number (8, little-endian), block index from 0 (4, little-endian), 484 sealed bytes, tag
+-- (16). Sealing is RFC 8439's ChaCha20-Poly1305 under the box's key, with the first twelve bytes as nonce and as
+-- additional data"
 unfoldable pub header : ℕ → ℕ → List ℕ
 header set i = bytes 8 set ++ bytes 4 i
 

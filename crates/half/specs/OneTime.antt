@@ -18,5 +18,7 @@ pub header-words : (set i : ℕ) → nonceOf (set % 2 ^ 32) (set / 2 ^ 32) i ≡
 unfolding nonceOf bytesOf le32 header
 header-words set i = ap₂ (λ (x y : List ℕ). x ++ y) (eight set) (four i)
 
-pub keys-for : (key r : List ℕ) (set count x y : ℕ) → x ≡ set % 2 ^ 32 → y ≡ set / 2 ^ 32 → KeysTo key x y count r → KeysFor key set count r
-keys-for key r set count x y ex ey h i l = h i l ∙ ap (polyKey key) ((λ j. nonceOf (ex j) (ey j) i) ∙ header-words set i)
+pub keys-for : (key r : List ℕ) (set count x y : ℕ) → x ≡ set % 2 ^ 32 → y ≡ set / 2 ^ 32 → KeysTo key x y count r
+    → KeysFor key set count r
+keys-for key r set count x y ex ey h i l =
+    h i l ∙ ap (polyKey key) ((λ j. nonceOf (ex j) (ey j) i) ∙ header-words set i)

@@ -62,7 +62,8 @@ fn write_block(key: &[u8; 32], once: &[u8; 32], number: u64, i: u32, text: &[u8]
 pub fn write_blocks(key: &[u8; 32], number: u64, count: usize, p: &[u8], out: &mut [u8])
     requires { ⌜ (count ≤ mostBlocks) × (textBytes * count ≤ length (now p))
         × (blockBytes * count ≤ length (now out)) ⌝ }
-    ensures { λ _. ⌜ now (out .exit) ≡ over 0 (firstBlocks (now (key .entry)) number (now (p .entry)) count) (now (out .entry)) ⌝ }
+    ensures { λ _. ⌜ now (out .exit)
+        ≡ over 0 (firstBlocks (now (key .entry)) number (now (p .entry)) count) (now (out .entry)) ⌝ }
 {
     let keys = one_time_keys(key, number, count);
     let mut i: usize = 0;

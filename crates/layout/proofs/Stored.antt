@@ -33,7 +33,8 @@ head-law name z h u party code n l k e f =
     let q : List ℕ = party ∷ code ∷ bytes 2 n in
     whole (name ++ q) z u 20 (length-append name q ∙ omega arith) k (next name q z h u 16 l e f)
 
-pub correction-law : (seed z a b u : List ℕ) (word flags : ℕ) → length seed ≡ 8 → length z ≡ 37 → a ≡ over 0 (bytesOf seed) z → b ≡ over 32 (le32 word) a → u ≡ over 36 (flags ∷ []) b
+pub correction-law : (seed z a b u : List ℕ) (word flags : ℕ) → length seed ≡ 8 → length z ≡ 37
+    → a ≡ over 0 (bytesOf seed) z → b ≡ over 32 (le32 word) a → u ≡ over 36 (flags ∷ []) b
     → u ≡ bytesOf seed ++ (le32 word ++ (flags ∷ []))
 unfolding le32
 correction-law seed z a b u word flags l k e f g =
@@ -41,7 +42,8 @@ correction-law seed z a b u word flags l k e f g =
     let two = s ++ le32 word in
     let ls : length s ≡ 32 = length-bytesOf seed ∙ omega arith in
     let lt : length two ≡ 36 = length-append s (le32 word) ∙ omega arith in
-    whole (two ++ (flags ∷ [])) z u 37 (length-append two (flags ∷ []) ∙ omega arith) k (next two (flags ∷ []) z b u 36 lt (next s (le32 word) z a b 32 ls e f) g)
+    whole (two ++ (flags ∷ [])) z u 37 (length-append two (flags ∷ []) ∙ omega arith) k
+    (next two (flags ∷ []) z b u 36 lt (next s (le32 word) z a b 32 ls e f) g)
     ∙ append-assoc s (le32 word) (flags ∷ [])
 
 -- ---- corrections
@@ -54,16 +56,21 @@ pub flag-at : (cs : List Correction) (i : ℕ) → FlagBytes cs → i < length c
 unfolding FlagBytes
 flag-at cs i f h = rw (getD-any cs i none noCorrection h) (f i h)
 
-front-more : (cs : List Correction) (i : ℕ) → i < length cs → front cs (i + 1) ≡ front cs i ++ correctionBytes (getD cs i none)
+front-more : (cs : List Correction) (i : ℕ) → i < length cs
+    → front cs (i + 1) ≡ front cs i ++ correctionBytes (getD cs i none)
 unfolding flat
 front-more cs i h =
     rw (add-one i, take-suc cs i none h, map-append, flat-append, append-nil) refl
 
-pub front-next : (cs : List Correction) (i at : ℕ) (s t u b : List ℕ) → i < length cs → length (front cs i) ≡ 37 * i → t ≡ over at (front cs i) s → length b ≡ 37
-    → b ≡ correctionBytes (getD cs i none) → u ≡ over (at + 37 * i) b t → (u ≡ over at (front cs (i + 1)) s) × (length (front cs (i + 1)) ≡ 37 * (i + 1))
+pub front-next : (cs : List Correction) (i at : ℕ) (s t u b : List ℕ) → i < length cs
+    → length (front cs i) ≡ 37 * i → t ≡ over at (front cs i) s → length b ≡ 37
+    → b ≡ correctionBytes (getD cs i none) → u ≡ over (at + 37 * i) b t
+    → (u ≡ over at (front cs (i + 1)) s) × (length (front cs (i + 1)) ≡ 37 * (i + 1))
 front-next cs i at s t u b h l e k is f =
-    let m = front-more cs i h ∙ ap (λ (x : List ℕ). front cs i ++ x) (sym is) in
-    (over-next (front cs i) b s t u at (37 * i) l e f ∙ ap (λ (x : List ℕ). over at x s) (sym m), ap length m ∙ length-append (front cs i) b ∙ omega arith)
+    let m = front-more cs i h ∙ ap (λ (x : List ℕ). front cs i ++ x) (sym is) in (
+      over-next (front cs i) b s t u at (37 * i) l e f ∙ ap (λ (x : List ℕ). over at x s) (sym m),
+      ap length m ∙ length-append (front cs i) b ∙ omega arith,
+    )
 
 pub front-all : (cs : List Correction) (i : ℕ) → length cs ≡ i → front cs i ≡ flat (map correctionBytes cs)
 front-all cs i h = ap (λ (l : List Correction). flat (map correctionBytes l)) (take-all i cs (omega arith))

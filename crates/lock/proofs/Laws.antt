@@ -33,7 +33,10 @@ module _ (name : List ℕ) (floor : ℕ) (b : Bool) (e : b ≡ nameFits name) wh
 -- ---- join
 
 -- what decides a join's refusals, as the code has it
-pub why-is : (s : Lock) (l0 : Label) (n0 : List ℕ) (a0 : ℕ) (l1 : Label) (n1 : List ℕ) (a1 : ℕ) (f g : Bool) (t : ℕ) → f ≡ expected 2 (s .name) 0 l0 n0 → g ≡ expected 2 (s .name) 1 l1 n1 → t ≡ add a0 a1
-    → unless (eqb (length n0) 16 && eqb (length n1) 16) 4 (unless (f && g) 6 (unless (ltb (s .last) (l0 .number) && eqb (l1 .number) (l0 .number)) 7 (unless (leb t 1) 12 0))) ≡ whyNotJoin s l0 n0 a0 l1 n1 a1
+pub why-is : (s : Lock) (l0 : Label) (n0 : List ℕ) (a0 : ℕ) (l1 : Label) (n1 : List ℕ) (a1 : ℕ) (f g : Bool) (t : ℕ)
+    → f ≡ expected 2 (s .name) 0 l0 n0 → g ≡ expected 2 (s .name) 1 l1 n1 → t ≡ add a0 a1
+    → unless (eqb (length n0) 16 && eqb (length n1) 16) 4
+    (unless (f && g) 6 (unless (ltb (s .last) (l0 .number) && eqb (l1 .number) (l0 .number)) 7 (unless (leb t 1) 12 0)))
+    ≡ whyNotJoin s l0 n0 a0 l1 n1 a1
 unfolding whyNotJoin isName
 why-is s l0 n0 a0 l1 n1 a1 f g t ef eg et = rw (ef, eg, et) refl

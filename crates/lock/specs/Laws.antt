@@ -1,4 +1,5 @@
--- What a join's number tells: no refusal of it is above 12, and where there is none every test holds; and the answer in each of the two cases. Assumes nothing.
+-- What a join's number tells: no refusal of it is above 12, and where there is none every test holds; and the answer in
+-- each of the two cases. Assumes nothing.
 use mathlib.Core.Path.{_≡_, _∙_}
 use mathlib.Core.Bool.{true, _&&_}
 use mathlib.Core.List.{List}
@@ -21,7 +22,8 @@ module _ (s : Lock) (l0 : Label) (name0 : List ℕ) (answer0 : ℕ) (l1 : Label)
   pub most : whyNotJoin s l0 name0 answer0 l1 name1 answer1 ≤ 12
   unfolding whyNotJoin
   most =
-      unless-most _ 4 _ 12 (omega arith) (unless-most _ 6 _ 12 (omega arith) (unless-most _ 7 _ 12 (omega arith) (unless-most _ 12 _ 12 (omega arith) (omega arith))))
+      unless-most _ 4 _ 12 (omega arith) (unless-most _ 6 _ 12 (omega arith)
+      (unless-most _ 7 _ 12 (omega arith) (unless-most _ 12 _ 12 (omega arith) (omega arith))))
 
   pub accepted : whyNotJoin s l0 name0 answer0 l1 name1 answer1 ≡ 0
       → (isName name0 && isName name1 ≡ true)
@@ -44,6 +46,7 @@ module _ (s : Lock) (l0 : Label) (name0 : List ℕ) (answer0 : ℕ) (l1 : Label)
 
   -- accepted: the number moves
   pub joined : (why t : ℕ) → why ≡ whyNotJoin s l0 name0 answer0 l1 name1 answer1 → why ≡ 0 → t ≡ add answer0 answer1
-      → record { why = why; lock = record { name = s .name; last = l0 .number }; bit = t } ≡ join s l0 name0 answer0 l1 name1 answer1
+      → record { why = why; lock = record { name = s .name; last = l0 .number }; bit = t }
+      ≡ join s l0 name0 answer0 l1 name1 answer1
   unfolding join
   joined why t e h et = alike e (taken _ _ e h) (et ∙ taken _ _ e h)

@@ -7,7 +7,8 @@ use lib.Dec.{eqb, leb, ltb}
 use lib.ListN.{replicate}
 use Rattle.algebra.specs.Word.{add}
 use Rattle.messages.specs.declared.Label.{Label}
-use Rattle.messages.specs.Messages.{badName, wrongLength, wrongMessage, wrongNumber, badSum, answerKind, cameraParty, officeParty, unless, ifTaken, nameFits, padded, isName, expected}
+use Rattle.messages.specs.Messages.{badName, wrongLength, wrongMessage, wrongNumber, badSum, answerKind, cameraParty}
+use Rattle.messages.specs.Messages.{officeParty, unless, ifTaken, nameFits, padded, isName, expected}
 use Rattle.lock.specs.declared.Lock.{Lock}
 use Rattle.lock.specs.declared.LockAnswer.{LockAnswer}
 
@@ -39,4 +40,8 @@ whyNotJoin s l0 name0 answer0 l1 name1 answer1 =
 unfoldable pub join : Lock → Label → List ℕ → ℕ → Label → List ℕ → ℕ → LockAnswer
 join s l0 name0 answer0 l1 name1 answer1 =
     let why : ℕ = whyNotJoin s l0 name0 answer0 l1 name1 answer1 in
-    record { why = why; lock = ifTaken why (record { name = s .name; last = l0 .number }) s; bit = ifTaken why (add answer0 answer1) 0 }
+    record {
+      why = why;
+      lock = ifTaken why (record { name = s .name; last = l0 .number }) s;
+      bit = ifTaken why (add answer0 answer1) 0;
+    }

@@ -1,4 +1,6 @@
--- What the lock's C host gets (01, "One check at a box"): "The C host hands in the padded name and the lock's last number beside the two answers; it gets 0 or 1, or 100 plus the refusal number, and after a 0 or 1 the joined number is the last one." Assumes nothing.
+-- What the lock's C host gets (01, "One check at a box"): "The C host hands in the padded name and the lock's last
+-- number beside the two answers; it gets 0 or 1, or 100 plus the refusal number, and after a 0 or 1 the joined number
+-- is the last one." Assumes nothing.
 use mathlib.Core.Bool.{cond}
 use mathlib.Core.List.{List}
 use Prim.Native.Nat.{ℕ, _+_}
@@ -24,7 +26,8 @@ refusedFrom = 100
 
 unfoldable pub cJoin : List ℕ → ℕ → Label → List ℕ → ℕ → Label → List ℕ → ℕ → ℕ
 cJoin name last l0 name0 answer0 l1 name1 answer1 =
-    let a : LockAnswer = answerOn name last l0 name0 answer0 l1 name1 answer1 in ifTaken (a .why) (a .bit) (refusedFrom + a .why)
+    let a : LockAnswer = answerOn name last l0 name0 answer0 l1 name1 answer1 in
+    ifTaken (a .why) (a .bit) (refusedFrom + a .why)
 
 unfoldable pub cLast : List ℕ → ℕ → Label → List ℕ → ℕ → Label → List ℕ → ℕ → ℕ
 cLast name last l0 name0 answer0 l1 name1 answer1 = answerOn name last l0 name0 answer0 l1 name1 answer1 .lock .last

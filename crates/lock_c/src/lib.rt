@@ -22,7 +22,8 @@ fn answer_on(
     name1: &[u8],
     answer1: u32,
 ) -> LockAnswer
-    ensures { λ r. ⌜ r ≡ answerOn (now (name .entry)) last label0 (now (name0 .entry)) answer0 label1 (now (name1 .entry)) answer1 ⌝ }
+    ensures { λ r. ⌜ r ≡ answerOn (now (name .entry)) last label0
+        (now (name0 .entry)) answer0 label1 (now (name1 .entry)) answer1 ⌝ }
 {
     if name.len() != NAME {
         return LockAnswer {
@@ -57,7 +58,8 @@ pub extern "C" fn lock_join(
     number1: u64,
     answer1: u32,
 ) -> u32
-    ensures { λ r. ⌜ r ≡ cJoin (now (name .entry)) last (label kind0 sender0 number0) (now (name0 .entry)) answer0 (label kind1 sender1 number1) (now (name1 .entry)) answer1 ⌝ }
+    ensures { λ r. ⌜ r ≡ cJoin (now (name .entry)) last (label kind0 sender0 number0)
+        (now (name0 .entry)) answer0 (label kind1 sender1 number1) (now (name1 .entry)) answer1 ⌝ }
 {
     let label0 = Label {
         kind: kind0,
@@ -89,7 +91,8 @@ pub extern "C" fn lock_last(
     number1: u64,
     answer1: u32,
 ) -> u64
-    ensures { λ r. ⌜ r ≡ cLast (now (name .entry)) last (label kind0 sender0 number0) (now (name0 .entry)) answer0 (label kind1 sender1 number1) (now (name1 .entry)) answer1 ⌝ }
+    ensures { λ r. ⌜ r ≡ cLast (now (name .entry)) last (label kind0 sender0 number0)
+        (now (name0 .entry)) answer0 (label kind1 sender1 number1) (now (name1 .entry)) answer1 ⌝ }
 {
     let label0 = Label {
         kind: kind0,

@@ -11,7 +11,8 @@ use lib.ListN.{length, take, getD}
 use lib.Seq.{take-all}
 use Rattle.algebra.specs.Word.{add, signed}
 use Rattle.measure.specs.declared.Terms.{Terms}
-use Rattle.measure.specs.Measure.{scalarProduct, squaredEuclid, hamming, row, within, inRange, allInRange, thresholdFits}
+use Rattle.measure.specs.Measure.{scalarProduct, squaredEuclid, hamming, row, within, inRange, allInRange}
+use Rattle.measure.specs.Measure.{thresholdFits}
 use Rattle.measure.proofs.Signed.{signed-order}
 
 -- the row of each code

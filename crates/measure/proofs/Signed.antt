@@ -19,24 +19,30 @@ leb-same a b c d f g = go (leb a b) (leb c d) refl refl
     go false true e h = absurd (omega (arith, g (leb-true c d h), leb-false a b e))
     go false false e h = refl
 
-pub signed-order : (a b : ℕ) → a < 2 ^ 32 → b < 2 ^ 32 → leb (add a (2 ^ 31)) (add b (2 ^ 31)) ≡ leZ (signed a) (signed b)
+pub signed-order : (a b : ℕ) → a < 2 ^ 32 → b < 2 ^ 32
+    → leb (add a (2 ^ 31)) (add b (2 ^ 31)) ≡ leZ (signed a) (signed b)
 unfolding add
 signed-order a b la lb = go (ltb a (2 ^ 31)) (ltb b (2 ^ 31)) refl refl
   where
-    go : (p q : Bool) → ltb a (2 ^ 31) ≡ p → ltb b (2 ^ 31) ≡ q → leb ((a + 2 ^ 31) % 2 ^ 32) ((b + 2 ^ 31) % 2 ^ 32) ≡ leZ (signed a) (signed b)
+    go : (p q : Bool) → ltb a (2 ^ 31) ≡ p → ltb b (2 ^ 31) ≡ q
+        → leb ((a + 2 ^ 31) % 2 ^ 32) ((b + 2 ^ 31) % 2 ^ 32) ≡ leZ (signed a) (signed b)
     go true true e f =
         let ka = ltb-true a (2 ^ 31) e in
         let kb = ltb-true b (2 ^ 31) f in
-        leb-same ((a + 2 ^ 31) % 2 ^ 32) ((b + 2 ^ 31) % 2 ^ 32) a b (λ h. omega arith) (λ h. omega arith) ∙ sym (ap₂ leZ (signed-low a ka) (signed-low b kb))
+        leb-same ((a + 2 ^ 31) % 2 ^ 32) ((b + 2 ^ 31) % 2 ^ 32) a b (λ h. omega arith) (λ h. omega arith)
+        ∙ sym (ap₂ leZ (signed-low a ka) (signed-low b kb))
     go true false e f =
         let ka = ltb-true a (2 ^ 31) e in
         let kb = ltb-false b (2 ^ 31) f in
-        leb-same ((a + 2 ^ 31) % 2 ^ 32) ((b + 2 ^ 31) % 2 ^ 32) 1 0 (λ h. omega arith) (λ h. omega arith) ∙ sym (ap₂ leZ (signed-low a ka) (signed-high b kb lb))
+        leb-same ((a + 2 ^ 31) % 2 ^ 32) ((b + 2 ^ 31) % 2 ^ 32) 1 0 (λ h. omega arith) (λ h. omega arith)
+        ∙ sym (ap₂ leZ (signed-low a ka) (signed-high b kb lb))
     go false true e f =
         let ka = ltb-false a (2 ^ 31) e in
         let kb = ltb-true b (2 ^ 31) f in
-        leb-same ((a + 2 ^ 31) % 2 ^ 32) ((b + 2 ^ 31) % 2 ^ 32) 0 1 (λ h. omega arith) (λ h. omega arith) ∙ sym (ap₂ leZ (signed-high a ka la) (signed-low b kb))
+        leb-same ((a + 2 ^ 31) % 2 ^ 32) ((b + 2 ^ 31) % 2 ^ 32) 0 1 (λ h. omega arith) (λ h. omega arith)
+        ∙ sym (ap₂ leZ (signed-high a ka la) (signed-low b kb))
     go false false e f =
         let ka = ltb-false a (2 ^ 31) e in
         let kb = ltb-false b (2 ^ 31) f in
-        leb-same ((a + 2 ^ 31) % 2 ^ 32) ((b + 2 ^ 31) % 2 ^ 32) (2 ^ 32 - suc b) (2 ^ 32 - suc a) (λ h. omega arith) (λ h. omega arith) ∙ sym (ap₂ leZ (signed-high a ka la) (signed-high b kb lb))
+        leb-same ((a + 2 ^ 31) % 2 ^ 32) ((b + 2 ^ 31) % 2 ^ 32) (2 ^ 32 - suc b) (2 ^ 32 - suc a)
+        (λ h. omega arith) (λ h. omega arith) ∙ sym (ap₂ leZ (signed-high a ka la) (signed-high b kb lb))

@@ -191,7 +191,9 @@ three f g h k zero = none k
   where
     none : (k : ℤ) → pos 0 +ℤ pos 0 +ℤ k *ℤ pos 0 ≡ pos 0
     none k = ringℤ (k ∷ []) (search reifyℤ depth 20 fits 5000) refl
-three f g h k (suc n) = more k (sumℤ f n) (sumℤ g n) (sumℤ h n) (f n) (g n) (h n) ∙ ap (λ (z : ℤ). z +ℤ (f n +ℤ g n +ℤ k *ℤ h n)) (three f g h k n)
+three f g h k (suc n) =
+    more k (sumℤ f n) (sumℤ g n) (sumℤ h n) (f n) (g n) (h n)
+    ∙ ap (λ (z : ℤ). z +ℤ (f n +ℤ g n +ℤ k *ℤ h n)) (three f g h k n)
   where
     more : (k a b c p q r : ℤ) → a +ℤ p +ℤ (b +ℤ q) +ℤ k *ℤ (c +ℤ r) ≡ a +ℤ b +ℤ k *ℤ c +ℤ (p +ℤ q +ℤ k *ℤ r)
     more k a b c p q r = ringℤ (k ∷ a ∷ b ∷ c ∷ p ∷ q ∷ r ∷ []) (search reifyℤ depth 20 fits 5000) refl
@@ -241,7 +243,8 @@ module _ (r : Row) (h : ℕ) (s : r .squares ≡ true) (two : r .k ≡ negℤ (p
   apart-up x y i j = subst (λ (z : ℤ). Le (x -ℤ y) z) wide (le-sub (i .to) (j .from))
 
   apart-down : (x y : ℤ) → In r x → In r y → Le (negℤ (pos h)) (x -ℤ y)
-  apart-down x y i j = subst (λ (z : ℤ). Le z (x -ℤ y)) (turned (r .low) (r .high) ∙ ap negℤ wide) (le-sub (i .from) (j .to))
+  apart-down x y i j =
+      subst (λ (z : ℤ). Le z (x -ℤ y)) (turned (r .low) (r .high) ∙ ap negℤ wide) (le-sub (i .from) (j .to))
     where
       turned : (a b : ℤ) → a -ℤ b ≡ negℤ (b -ℤ a)
       turned a b = ringℤ (a ∷ b ∷ []) (search reifyℤ depth 20 fits 5000) refl
@@ -252,15 +255,18 @@ module _ (r : Row) (h : ℕ) (s : r .squares ≡ true) (two : r .k ≡ negℤ (p
   distance-up : (x y : ℤ) → In r x → In r y → Le (term r x y) (pos (h * h))
   distance-up x y i j =
       subst (λ (z : ℤ). Le z (pos (h * h))) (sym (squared x y))
-      (product-most (pos h) (x -ℤ y) (x -ℤ y) (apart-down x y i j) (apart-up x y i j) (apart-down x y i j) (apart-up x y i j))
+      (product-most (pos h) (x -ℤ y) (x -ℤ y) (apart-down x y i j)
+      (apart-up x y i j) (apart-down x y i j) (apart-up x y i j))
 
 bounded : (code : ℕ) → Bounded (row code)
 unfolding row scalarProduct squaredEuclid hamming term part
 bounded zero = record {
   down = 1024 * 1024;
   up = 1024 * 1024;
-  term-down = λ x y i j. subst (λ (z : ℤ). Le (negℤ (pos (1024 * 1024))) z) (once (x *ℤ y)) (product-least (pos 1024) x y (i .from) (above i) (j .from) (above j));
-  term-up = λ x y i j. subst (λ (z : ℤ). Le z (pos (1024 * 1024))) (once (x *ℤ y)) (product-most (pos 1024) x y (i .from) (above i) (j .from) (above j));
+  term-down = λ x y i j. subst (λ (z : ℤ). Le (negℤ (pos (1024 * 1024))) z) (once (x *ℤ y))
+      (product-least (pos 1024) x y (i .from) (above i) (j .from) (above j));
+  term-up = λ x y i j. subst (λ (z : ℤ). Le z (pos (1024 * 1024))) (once (x *ℤ y))
+      (product-most (pos 1024) x y (i .from) (above i) (j .from) (above j));
   lowest = refl;
   highest = refl;
 }

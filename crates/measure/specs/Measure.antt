@@ -17,8 +17,8 @@ abbrev pub mostElements : ℕ
 mostElements = 512
 
 -- 01's table, a row for each code. `squares`: own is the sum of squares, else 0. An element lies from `low` to `high`,
--- a threshold from `least` to `most`. Two columns more: a vector has at most `longest` elements; `sign` is 1 where a set
--- opens measure - T, and would be -1 where it opened T - measure.
+-- a threshold from `least` to `most`. Two columns more: a vector has at most `longest` elements; `sign` is 1 where a
+-- set opens measure - T, and would be -1 where it opened T - measure.
 pub record Row : Type 0 where
   pub squares : Bool
   pub k : ℤ
@@ -44,7 +44,8 @@ columns squares k low high least most longest sign =
     }
 
 unfoldable pub scalarProduct : Row
-scalarProduct = columns false (pos 1) (negℤ (pos 1024)) (pos 1023) (negℤ (pos (2 ^ 30))) (pos (2 ^ 30)) mostElements (pos 1)
+scalarProduct =
+    columns false (pos 1) (negℤ (pos 1024)) (pos 1023) (negℤ (pos (2 ^ 30))) (pos (2 ^ 30)) mostElements (pos 1)
 
 unfoldable pub squaredEuclid : Row
 squaredEuclid = columns true (negℤ (pos 2)) (negℤ (pos 1024)) (pos 1023) (pos 0) (pos (2 ^ 31 - 1)) mostElements (pos 1)
@@ -52,8 +53,8 @@ squaredEuclid = columns true (negℤ (pos 2)) (negℤ (pos 1024)) (pos 1023) (po
 unfoldable pub hamming : Row
 hamming = columns true (negℤ (pos 2)) (pos 0) (pos 1) (pos 0) (pos 513) mostElements (pos 1)
 
--- 01's table, column "code". A code above 2 reads as 2: no accepted call has one (01, "When a call is turned down", 2, 3
--- and 11).
+-- 01's table, column "code". A code above 2 reads as 2: no accepted
+-- call has one (01, "When a call is turned down", 2, 3 and 11).
 unfoldable pub row : ℕ → Row
 row zero = scalarProduct
 row (suc zero) = squaredEuclid

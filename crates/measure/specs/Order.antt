@@ -1,4 +1,5 @@
--- The order of the integers under sums, negation and products, by the number that lies between the two sides. Assumes nothing.
+-- The order of the integers under sums, negation and products, by the number that lies between the two sides.
+-- Assumes nothing.
 use mathlib.Core.Path.{_≡_, refl, sym, ap, ap₂, _∙_, subst}
 use mathlib.Core.Bool.{Bool, true, false, cond, _&&_}
 use mathlib.Core.List.{[], _∷_}
@@ -62,19 +63,24 @@ le-refl a = record { gap = 0; is = none a }
     none a = ringℤ (a ∷ []) (search reifyℤ depth 20 fits 5000) refl
 
 pub le-trans : {a b c : ℤ} → Le a b → Le b c → Le a c
-le-trans {a} {b} {c} k l = record { gap = k .gap + l .gap; is = l .is ∙ ap (λ (z : ℤ). z +ℤ pos (l .gap)) (k .is) ∙ group a (pos (k .gap)) (pos (l .gap)) }
+le-trans {a} {b} {c} k l = record {
+  gap = k .gap + l .gap;
+  is = l .is ∙ ap (λ (z : ℤ). z +ℤ pos (l .gap)) (k .is) ∙ group a (pos (k .gap)) (pos (l .gap));
+}
   where
     group : (a g h : ℤ) → a +ℤ g +ℤ h ≡ a +ℤ (g +ℤ h)
     group a g h = ringℤ (a ∷ g ∷ h ∷ []) (search reifyℤ depth 20 fits 5000) refl
 
 pub le-add : {a b c d : ℤ} → Le a b → Le c d → Le (a +ℤ c) (b +ℤ d)
-le-add {a} {b} {c} {d} k l = record { gap = k .gap + l .gap; is = ap₂ _+ℤ_ (k .is) (l .is) ∙ group a c (pos (k .gap)) (pos (l .gap)) }
+le-add {a} {b} {c} {d} k l =
+    record { gap = k .gap + l .gap; is = ap₂ _+ℤ_ (k .is) (l .is) ∙ group a c (pos (k .gap)) (pos (l .gap)) }
   where
     group : (a c g h : ℤ) → a +ℤ g +ℤ (c +ℤ h) ≡ a +ℤ c +ℤ (g +ℤ h)
     group a c g h = ringℤ (a ∷ c ∷ g ∷ h ∷ []) (search reifyℤ depth 20 fits 5000) refl
 
 pub le-neg : {a b : ℤ} → Le a b → Le (negℤ b) (negℤ a)
-le-neg {a} {b} l = record { gap = l .gap; is = over a (pos (l .gap)) ∙ ap (λ (z : ℤ). negℤ z +ℤ pos (l .gap)) (sym (l .is)) }
+le-neg {a} {b} l =
+    record { gap = l .gap; is = over a (pos (l .gap)) ∙ ap (λ (z : ℤ). negℤ z +ℤ pos (l .gap)) (sym (l .is)) }
   where
     over : (a g : ℤ) → negℤ a ≡ negℤ (a +ℤ g) +ℤ g
     over a g = ringℤ (a ∷ g ∷ []) (search reifyℤ depth 20 fits 5000) refl
@@ -108,21 +114,27 @@ module _ (h x y : ℤ) (below : Le (negℤ h) x) (above : Le x h) (below′ : Le
       solved : (x g : ℤ) → g ≡ x +ℤ g -ℤ x
       solved x g = ringℤ (x ∷ g ∷ []) (search reifyℤ depth 20 fits 5000) refl
 
-  at-most : (h x y : ℤ) → h *ℤ h -ℤ x *ℤ y +ℤ (h *ℤ h -ℤ x *ℤ y) ≡ (h -ℤ x) *ℤ (y -ℤ negℤ h) +ℤ (x -ℤ negℤ h) *ℤ (h -ℤ y)
+  at-most : (h x y : ℤ)
+      → h *ℤ h -ℤ x *ℤ y +ℤ (h *ℤ h -ℤ x *ℤ y) ≡ (h -ℤ x) *ℤ (y -ℤ negℤ h) +ℤ (x -ℤ negℤ h) *ℤ (h -ℤ y)
   at-most h x y = ringℤ (h ∷ x ∷ y ∷ []) (search reifyℤ depth 20 fits 5000) refl
 
-  at-least : (h x y : ℤ) → x *ℤ y -ℤ negℤ (h *ℤ h) +ℤ (x *ℤ y -ℤ negℤ (h *ℤ h)) ≡ (h -ℤ x) *ℤ (h -ℤ y) +ℤ (x -ℤ negℤ h) *ℤ (y -ℤ negℤ h)
+  at-least : (h x y : ℤ)
+      → x *ℤ y -ℤ negℤ (h *ℤ h) +ℤ (x *ℤ y -ℤ negℤ (h *ℤ h)) ≡ (h -ℤ x) *ℤ (h -ℤ y) +ℤ (x -ℤ negℤ h) *ℤ (y -ℤ negℤ h)
   at-least h x y = ringℤ (h ∷ x ∷ y ∷ []) (search reifyℤ depth 20 fits 5000) refl
 
   pub product-most : Le (x *ℤ y) (h *ℤ h)
   product-most = of-test (x *ℤ y) (h *ℤ h) (sym (above-zero (h *ℤ h) (x *ℤ y))
       ∙ two (h *ℤ h -ℤ x *ℤ y) (above .gap) (below′ .gap) (below .gap) (above′ .gap)
-      (at-most h x y ∙ sym (ap₂ _+ℤ_ (ap₂ _*ℤ_ (up h x _ (above .is)) (up y (negℤ h) _ (below′ .is))) (ap₂ _*ℤ_ (up x (negℤ h) _ (below .is)) (up h y _ (above′ .is))))))
+      (at-most h x y
+      ∙ sym (ap₂ _+ℤ_ (ap₂ _*ℤ_ (up h x _ (above .is)) (up y (negℤ h) _ (below′ .is)))
+      (ap₂ _*ℤ_ (up x (negℤ h) _ (below .is)) (up h y _ (above′ .is))))))
 
   pub product-least : Le (negℤ (h *ℤ h)) (x *ℤ y)
   product-least = of-test (negℤ (h *ℤ h)) (x *ℤ y) (sym (above-zero (x *ℤ y) (negℤ (h *ℤ h)))
       ∙ two (x *ℤ y -ℤ negℤ (h *ℤ h)) (above .gap) (above′ .gap) (below .gap) (below′ .gap)
-      (at-least h x y ∙ sym (ap₂ _+ℤ_ (ap₂ _*ℤ_ (up h x _ (above .is)) (up h y _ (above′ .is))) (ap₂ _*ℤ_ (up x (negℤ h) _ (below .is)) (up y (negℤ h) _ (below′ .is))))))
+      (at-least h x y
+      ∙ sym (ap₂ _+ℤ_ (ap₂ _*ℤ_ (up h x _ (above .is)) (up h y _ (above′ .is)))
+      (ap₂ _*ℤ_ (up x (negℤ h) _ (below .is)) (up y (negℤ h) _ (below′ .is))))))
 
 -- ---- sums
 
@@ -142,7 +154,8 @@ module _ (f : ℕ → ℤ) (a b : ℕ) (low : (i : ℕ) → Le (negℤ (pos a)) 
   sum-from zero = rw zero-mul (le-refl (pos 0))
   sum-from (suc n) =
       let next : n * a + a ≡ suc n * a = omega arith in
-      subst (λ (z : ℤ). Le z (sumℤ f n +ℤ f n)) (more (pos (n * a)) (pos a) ∙ ap (λ (k : ℕ). negℤ (pos k)) next) (le-add (sum-from n) (low n))
+      subst (λ (z : ℤ). Le z (sumℤ f n +ℤ f n))
+      (more (pos (n * a)) (pos a) ∙ ap (λ (k : ℕ). negℤ (pos k)) next) (le-add (sum-from n) (low n))
     where
       more : (x y : ℤ) → negℤ x +ℤ negℤ y ≡ negℤ (x +ℤ y)
       more x y = ringℤ (x ∷ y ∷ []) (search reifyℤ depth 20 fits 5000) refl

@@ -12,17 +12,20 @@ use Rattle.words.specs.List.{over, over-zeros}
 use Rattle.messages.specs.Messages.{printable, padded}
 
 -- one byte more
-pub printable-more : (s : List ℕ) (i : ℕ) → i < length s → printable (take (i + 1) s) ≡ printable (take i s) && (leb 32 (getD s i 0) && leb (getD s i 0) 126)
+pub printable-more : (s : List ℕ) (i : ℕ) → i < length s
+    → printable (take (i + 1) s) ≡ printable (take i s) && (leb 32 (getD s i 0) && leb (getD s i 0) 126)
 unfolding printable
 printable-more s i h = rw (add-one i) (go s i h)
   where
-    go : (s : List ℕ) (i : ℕ) → i < length s → printable (take (suc i) s) ≡ printable (take i s) && (leb 32 (getD s i 0) && leb (getD s i 0) 126)
+    go : (s : List ℕ) (i : ℕ) → i < length s
+        → printable (take (suc i) s) ≡ printable (take i s) && (leb 32 (getD s i 0) && leb (getD s i 0) 126)
     go [] i h = absurd (omega arith)
     go (b ∷ s) zero h = ap (λ (t : Bool). leb 32 b && t) (and-true (leb b 126))
     go (b ∷ s) (suc i) h =
         let t : Bool = leb 32 (getD s i 0) && leb (getD s i 0) 126 in
         ap (λ (u : Bool). leb 32 b && (leb b 126 && u)) (go s i (omega arith))
-        ∙ sym (and-assoc (leb 32 b) (leb b 126 && printable (take i s)) t ∙ ap (λ (u : Bool). leb 32 b && u) (and-assoc (leb b 126) (printable (take i s)) t))
+        ∙ sym (and-assoc (leb 32 b) (leb b 126 && printable (take i s)) t
+        ∙ ap (λ (u : Bool). leb 32 b && u) (and-assoc (leb b 126) (printable (take i s)) t))
 
 pub printable-whole : (s : List ℕ) (i : ℕ) → i ≡ length s → printable (take i s) ≡ printable s
 printable-whole s i h = ap printable (take-all i s (omega arith))

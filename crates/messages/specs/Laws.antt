@@ -1,4 +1,5 @@
--- How a caller tells a chain of refusals from its tests, each of which returns its number at once; what is new and what stays; and what a name that fits is (Messages). Assumes nothing.
+-- How a caller tells a chain of refusals from its tests, each of which returns its number at once; what is new and what
+-- stays; and what a name that fits is (Messages). Assumes nothing.
 use mathlib.Core.Path.{_≡_, refl, sym, ap, subst, _∙_}
 use mathlib.Core.Bool.{Bool, true, false, not, cond, _&&_}
 use mathlib.Core.List.{List, _++_, append-nil}

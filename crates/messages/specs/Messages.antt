@@ -1,5 +1,5 @@
--- What every call of a door has in common: a chain of refusals, the door's name, and a message's label (01, "One check at a box" and "When a call is turned down").
--- Assumes nothing.
+-- What every call of a door has in common: a chain of refusals, the door's name, and a message's label (01, "One check
+-- at a box" and "When a call is turned down"). Assumes nothing.
 use mathlib.Core.Bool.{Bool, true, cond, _&&_}
 use mathlib.Core.List.{List, [], _∷_, _++_}
 use Prim.Native.Nat.{ℕ, _-_}
@@ -87,7 +87,8 @@ cameraParty = 0
 abbrev pub officeParty : ℕ
 officeParty = 1
 
--- 6: "A message's kind is not the one this call takes, its name is not this door's padded name, or its sender is not the expected party"
+-- 6: "A message's kind is not the one this call takes, its name is not this door's padded name, or its sender is not
+-- the expected party"
 unfoldable pub expected : ℕ → List ℕ → ℕ → Label → List ℕ → Bool
 expected kind door sender l name = eqb (l .kind) kind && (same name door && eqb (l .sender) sender)
 

@@ -2,7 +2,8 @@
 ghost use mathlib.Core.Path.{_≡_};
 ghost use Prim.Native.Nat.{_≤_};
 ghost use lib.ListN.{length};
-ghost use Rattle.messages.specs.Messages.{unless, printable as printableOf, nameFits, padded as paddedOf, expected as expectedOf};
+ghost use Rattle.messages.specs.Messages.{unless, printable as printableOf, nameFits, padded as paddedOf};
+ghost use Rattle.messages.specs.Messages.{expected as expectedOf};
 
 // Why a call is turned down (01, "When a call is turned down"): c/door.h says each in words. 0 where
 // nothing refuses.

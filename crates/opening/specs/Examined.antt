@@ -1,4 +1,5 @@
--- What examining a half answers: why it is turned down, 0 if it is not, and the set that it opens to, or no set. Assumes nothing.
+-- What examining a half answers: why it is turned down, 0 if it is not, and the set that it opens to, or no set.
+-- Assumes nothing.
 use mathlib.Core.List.{List}
 use Prim.Native.Nat.{ℕ}
 use Rattle.messages.specs.Messages.{ifTaken}

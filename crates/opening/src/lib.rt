@@ -144,7 +144,8 @@ fn open_whole(
 ) -> Examined
     requires { ⌜ (3 ≤ length (now h) / blockBytes) × (length (now h) / blockBytes ≤ mostBlocks)
         × (number ≡ setNumber (now h)) × (length (now text) ≡ textBytes * (length (now h) / blockBytes)) ⌝ }
-    ensures { λ r. ⌜ r ≡ answerFor (whyNotOpened (now (key .entry)) name party (now (h .entry))) (now (key .entry)) (now (h .entry)) ⌝ }
+    ensures { λ r. ⌜ r ≡ answerFor (whyNotOpened (now (key .entry)) name party (now (h .entry)))
+        (now (key .entry)) (now (h .entry)) ⌝ }
 {
     let count = h.len() / BLOCK;
     if !open_blocks(key, number, count, h, text) {
@@ -170,7 +171,8 @@ fn open_within(
 ) -> Examined
     requires { ⌜ (3 ≤ length (now h) / blockBytes) × (length (now h) / blockBytes ≤ mostBlocks)
         × (number ≡ setNumber (now h)) ⌝ }
-    ensures { λ r. ⌜ r ≡ answerFor (whyNotOpened (now (key .entry)) name party (now (h .entry))) (now (key .entry)) (now (h .entry)) ⌝ }
+    ensures { λ r. ⌜ r ≡ answerFor (whyNotOpened (now (key .entry)) name party (now (h .entry)))
+        (now (key .entry)) (now (h .entry)) ⌝ }
 {
     let mut text = room;
     let size = TEXT * (h.len() / BLOCK);

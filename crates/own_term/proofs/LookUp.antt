@@ -47,7 +47,8 @@ squares-at : (i n k : ℕ) → k < n → getD (squaresFrom i n) k 0 ≡ (i + k) 
 unfolding squaresFrom
 squares-at i zero k h = absurd (omega arith)
 squares-at i (suc n) zero h = ap (λ (j : ℕ). j * j) (sym (add-zero i))
-squares-at i (suc n) (suc k) h = squares-at (suc i) n k (omega arith) ∙ ap (λ (j : ℕ). j * j) (suc-add i k ∙ sym (add-suc i k))
+squares-at i (suc n) (suc k) h =
+    squares-at (suc i) n k (omega arith) ∙ ap (λ (j : ℕ). j * j) (suc-add i k ∙ sym (add-suc i k))
 
 pub entry-square : (n i : ℕ) → i < n → getD (squaresFrom 0 n) i 0 ≡ i * i
 entry-square n i h = squares-at 0 n i h ∙ ap (λ (j : ℕ). j * j) (zero-add i)

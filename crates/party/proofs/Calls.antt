@@ -15,7 +15,8 @@ use Rattle.measure.specs.Laws.{length-fits}
 use Rattle.share.specs.Share as Share
 use Rattle.share.specs.Share.{plus}
 use Rattle.messages.specs.declared.Label.{Label}
-use Rattle.messages.specs.Messages.{outOfTurn, wrongLength, shortBuffer, wrongMessage, wrongNumber, outOfRange, vectorKind, wordKind, officeParty, unless, isName, isKey, expected, padded}
+use Rattle.messages.specs.Messages.{outOfTurn, wrongLength, shortBuffer, wrongMessage, wrongNumber, outOfRange}
+use Rattle.messages.specs.Messages.{vectorKind, wordKind, officeParty, unless, isName, isKey, expected, padded}
 use Rattle.messages.specs.Laws as Refusals
 use Rattle.messages.specs.Laws.{turned-down, goes-on, passed, fits-short}
 use Rattle.content.specs.Content.{fill}
@@ -27,7 +28,10 @@ use Rattle.party.specs.declared.Check.{Check}
 use Rattle.party.specs.declared.Party.{Party}
 use Rattle.party.specs.declared.PartyAnswer.{PartyAnswer}
 use Rattle.party.specs.Party as P
-use Rattle.party.specs.Party.{idlePhase, loadedPhase, maskedPhase, takenPhase, idle, nobody, noParty, answered, whyNotParty, startParty, stateFits, sound, inTurn, whyNotLoad, opened, loaded, whyNotMask, masked, maskedVector, maskOut, whyNotMessage, whyNotTake, boxShare, wordOf, worded, whyNotFinish, answerOf, closed, whyNotDrop}
+use Rattle.party.specs.Party.{idlePhase, loadedPhase, maskedPhase, takenPhase, idle, nobody, noParty, answered}
+use Rattle.party.specs.Party.{whyNotParty, startParty, stateFits, sound, inTurn, whyNotLoad, opened, loaded}
+use Rattle.party.specs.Party.{whyNotMask, masked, maskedVector, maskOut, whyNotMessage, whyNotTake, boxShare}
+use Rattle.party.specs.Party.{wordOf, worded, whyNotFinish, answerOf, closed, whyNotDrop}
 
 -- ---- an answer that refuses, and one that does not
 
@@ -177,7 +181,8 @@ module _ (phase kind : ℕ) (s : Party) (t : Bool) (et : t ≡ turn phase s) (l 
 
 module _ (s : Party) (t : Bool) (et : t ≡ turn maskedPhase s) (l : Label) (name v : List ℕ) (k : ℕ)
     (ek : k
-    ≡ messageWhy maskedPhase vectorKind s t et l name (eqb (length name) 16 && eqb (length v) (s .check .set .terms .n)))
+    ≡ messageWhy maskedPhase vectorKind s t et l name
+    (eqb (length name) 16 && eqb (length v) (s .check .set .terms .n)))
   where
     why-take : k ≡ whyNotTake s l name v
     unfolding whyNotTake isName
@@ -231,7 +236,8 @@ module _ (s : Party) (t : Bool) (et : t ≡ turn takenPhase s) (l : Label) (name
   finish-refused some = keeps k _ _ s _ why-finish some
 
   pub finish-taken : (q : Party) (z x : ℕ) → k ≡ 0 → q ≡ idle (s .who) (s .last) → z ≡ add (s .check .word) w
-      → x ≡ Share.answer ordinaryWidth (s .who .party) (s .check .set .key) (s .check .set .seed) z → told k q x ≡ P.finish s l name w
+      → x ≡ Share.answer ordinaryWidth (s .who .party) (s .check .set .key) (s .check .set .seed) z
+      → told k q x ≡ P.finish s l name w
   unfolding P.finish closed answerOf
   finish-taken q z x none eq ez ex =
       moves k _ _ _ s x _ why-finish none eq
@@ -279,6 +285,7 @@ module _ (name : List ℕ) (party : ℕ) (key : List ℕ) (floor k : ℕ) (ek : 
 
 -- ---- arrays
 
-pub masked-law : (n : ℕ) (v mask zeros out : List ℕ) → n ≤ mostElements → zeros ≡ replicate mostElements 0 → out ≡ over 0 (plus n v mask) zeros → out ≡ fill (plus n v mask)
+pub masked-law : (n : ℕ) (v mask zeros out : List ℕ) → n ≤ mostElements
+    → zeros ≡ replicate mostElements 0 → out ≡ over 0 (plus n v mask) zeros → out ≡ fill (plus n v mask)
 unfolding plus
 masked-law n v mask zeros out most ez e = e ∙ fill-over _ zeros n (length-tab _ n) most ez

@@ -1,5 +1,5 @@
--- A box (01, "One check at a box" and "When a call is turned down"): for each call why it is turned down, the next state, what it sends, and what it leaves in a lent
--- buffer, for any state and anything handed in. Assumes nothing.
+-- A box (01, "One check at a box" and "When a call is turned down"): for each call why it is turned down, the next
+-- state, what it sends, and what it leaves in a lent buffer, for any state and anything handed in. Assumes nothing.
 use mathlib.Core.Bool.{Bool, cond, _&&_, not}
 use mathlib.Core.List.{List}
 use Prim.Native.Nat.{ℕ, _-_}
@@ -13,7 +13,9 @@ use Rattle.share.specs.Share as Share
 use Rattle.share.specs.Share.{plus}
 use Rattle.messages.specs.declared.Label.{Label}
 use Rattle.messages.specs.declared.Identity.{Identity}
-use Rattle.messages.specs.Messages.{badName, badPartyOrCode, outOfTurn, wrongLength, shortBuffer, wrongMessage, wrongNumber, outOfRange, vectorKind, wordKind, cameraParty, officeParty, unless, ifTaken, nameFits, padded, isKey, isName, expected}
+use Rattle.messages.specs.Messages.{badName, badPartyOrCode, outOfTurn, wrongLength, shortBuffer, wrongMessage}
+use Rattle.messages.specs.Messages.{wrongNumber, outOfRange, vectorKind, wordKind, cameraParty, officeParty, unless}
+use Rattle.messages.specs.Messages.{ifTaken, nameFits, padded, isKey, isName, expected}
 use Rattle.content.specs.declared.Set.{Set}
 use Rattle.content.specs.Content.{fill, noSet}
 use Rattle.half.specs.Half.{whyNot, openedSet}
@@ -67,7 +69,8 @@ whyNotParty name party key =
 
 unfoldable pub startParty : List ℕ → ℕ → List ℕ → ℕ → PartyAnswer
 startParty name party key floor =
-    answered (whyNotParty name party key) (idle (record { name = padded name; party = party; key = key }) floor) noParty 0
+    answered (whyNotParty name party key)
+    (idle (record { name = padded name; party = party; key = key }) floor) noParty 0
 
 -- ---- the turn
 
@@ -130,7 +133,8 @@ unfoldable pub mask : Party → List ℕ → ℕ → PartyAnswer
 mask s v room = answered (whyNotMask s v room) (masked s v) s 0
 
 unfoldable pub maskOut : Party → List ℕ → List ℕ → List ℕ
-maskOut s v out = ifTaken (whyNotMask s v (length out)) (over 0 (maskedVector (s .check .set) (s .who .party) v) out) out
+maskOut s v out =
+    ifTaken (whyNotMask s v (length out)) (over 0 (maskedVector (s .check .set) (s .who .party) v) out) out
 
 -- ---- messages: the tests of calls 3 and 4, each at its phase, with a message of its kind. `lengths`: whether all that
 -- came is as long as 4 asks.
@@ -144,7 +148,8 @@ whyNotMessage phase kind s l name lengths =
 -- ---- call 3
 
 unfoldable pub whyNotTake : Party → Label → List ℕ → List ℕ → ℕ
-whyNotTake s l name v = whyNotMessage maskedPhase vectorKind s l name (isName name && eqb (length v) (s .check .set .terms .n))
+whyNotTake s l name v =
+    whyNotMessage maskedPhase vectorKind s l name (isName name && eqb (length v) (s .check .set .terms .n))
 
 -- its share, from its own masked vector and the other's: MX is party 0's, MY party 1's
 unfoldable pub boxShare : ℕ → ℕ → ℕ → List ℕ → List ℕ → List ℕ → List ℕ → ℕ
@@ -179,7 +184,8 @@ unfoldable pub answerOf : Set → ℕ → ℕ → ℕ → ℕ
 answerOf set party word other = Share.answer ordinaryWidth party (set .key) (set .seed) (add word other)
 
 unfoldable pub finish : Party → Label → List ℕ → ℕ → PartyAnswer
-finish s l name w = answered (whyNotFinish s l name) (closed s) s (answerOf (s .check .set) (s .who .party) (s .check .word) w)
+finish s l name w = answered (whyNotFinish s l name) (closed s) s
+    (answerOf (s .check .set) (s .who .party) (s .check .word) w)
 
 -- ---- drop
 

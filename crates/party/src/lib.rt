@@ -9,9 +9,12 @@ ghost use lib.ListN.{length};
 ghost use Rattle.words.specs.List.{over};
 ghost use Rattle.measure.specs.Measure.{mostElements, allInRange};
 ghost use Rattle.share.specs.Share.{plus};
-ghost use Rattle.messages.specs.Messages.{outOfTurn, wrongLength, shortBuffer, wrongMessage, wrongNumber, outOfRange, officeParty, unless, expected};
+ghost use Rattle.messages.specs.Messages.{outOfTurn, wrongLength, shortBuffer, wrongMessage, wrongNumber, outOfRange};
+ghost use Rattle.messages.specs.Messages.{officeParty, unless, expected};
 ghost use Rattle.content.specs.Content.{fill};
-ghost use Rattle.party.specs.Party.{noCheck, opened as openedCheck, idle as idleOf, whyNotParty, startParty, stateFits, load as loadOf, mask as maskOf, maskOut, takeVector as takeOf, boxShare, finish as finishOf, dropSet as dropOf};
+ghost use Rattle.party.specs.Party.{noCheck, opened as openedCheck, idle as idleOf, whyNotParty, startParty};
+ghost use Rattle.party.specs.Party.{stateFits, load as loadOf, mask as maskOf, maskOut, takeVector as takeOf};
+ghost use Rattle.party.specs.Party.{boxShare, finish as finishOf, dropSet as dropOf};
 use content::Set;
 use measure::MOST_ELEMENTS;
 use measure::ORDINARY_WIDTH;
@@ -142,7 +145,8 @@ fn why_not_start(name: &[u8], party: u32, key: &[u8]) -> u32
 // Call 2's refusals, from what decides them: whether the state and the turn fit, the set's terms, the
 // vector, and the room in the buffer.
 fn why_not_mask(turn: bool, terms: Terms, v: &[u32], room: usize) -> u32
-    ensures { λ r. ⌜ r ≡ unless turn outOfTurn (unless (eqb (length (now (v .entry))) (terms .n)) wrongLength (unless (leb (terms .n) room) shortBuffer (unless (allInRange terms (now (v .entry))) outOfRange 0))) ⌝ }
+    ensures { λ r. ⌜ r ≡ unless turn outOfTurn (unless (eqb (length (now (v .entry))) (terms .n)) wrongLength
+        (unless (leb (terms .n) room) shortBuffer (unless (allInRange terms (now (v .entry))) outOfRange 0))) ⌝ }
 {
     if !turn {
         return messages::OUT_OF_TURN;
@@ -183,7 +187,8 @@ fn why_not_message(
     label: Label,
     name: &[u8],
 ) -> u32
-    ensures { λ r. ⌜ r ≡ unless turn outOfTurn (unless lengths wrongLength (unless (expected kind door (officeParty - party) label (now (name .entry))) wrongMessage (unless (eqb (label .number) number) wrongNumber 0))) ⌝ }
+    ensures { λ r. ⌜ r ≡ unless turn outOfTurn (unless lengths wrongLength (unless (expected kind door (officeParty
+        - party) label (now (name .entry))) wrongMessage (unless (eqb (label .number) number) wrongNumber 0))) ⌝ }
 {
     let fits = messages::expected(kind, door, other(party), label, name);
     messages::first_refusal(

@@ -22,14 +22,18 @@ use Rattle.reading.proofs.Read.{between, byte-at}
 flagsFit-snoc : (l : List Correction) (c : Correction) → flagsFit (l ++ (c ∷ [])) ≡ flagsFit l && ltb (c .flags) 4
 unfolding flagsFit
 flagsFit-snoc [] c = and-true (ltb (c .flags) 4)
-flagsFit-snoc (d ∷ l) c = ap (λ (b : Bool). ltb (d .flags) 4 && b) (flagsFit-snoc l c) ∙ sym (and-assoc (ltb (d .flags) 4) (flagsFit l) (ltb (c .flags) 4))
+flagsFit-snoc (d ∷ l) c =
+    ap (λ (b : Bool). ltb (d .flags) 4 && b) (flagsFit-snoc l c)
+    ∙ sym (and-assoc (ltb (d .flags) 4) (flagsFit l) (ltb (c .flags) 4))
 
 -- one flag byte more
-pub flags-more : (f : List ℕ) (i : ℕ) → flagsFit (correctionsIn f (i + 1)) ≡ flagsFit (correctionsIn f i) && ltb (getD f (37 * i + 36) 0) 4
+pub flags-more : (f : List ℕ) (i : ℕ)
+    → flagsFit (correctionsIn f (i + 1)) ≡ flagsFit (correctionsIn f i) && ltb (getD f (37 * i + 36) 0) 4
 unfolding correctionsIn correctionIn
 flags-more f i =
     rw (add-one i)
-    (flagsFit-snoc (correctionsIn f i) (correctionIn f i) ∙ ap (λ (x : ℕ). flagsFit (correctionsIn f i) && ltb x 4) (getD-part (37 * i) 37 f 36 (omega arith)))
+    (flagsFit-snoc (correctionsIn f i) (correctionIn f i)
+    ∙ ap (λ (x : ℕ). flagsFit (correctionsIn f i) && ltb x 4) (getD-part (37 * i) 37 f 36 (omega arith)))
 
 zeros-snoc : (l : List ℕ) (x : ℕ) → zeros (l ++ (x ∷ [])) ≡ zeros l && eqb x 0
 unfolding zeros
@@ -44,7 +48,9 @@ zeros-more b i h = rw (add-one i, take-suc b i 0 h) (zeros-snoc (take i b) (getD
 
 -- what is refused for its length or count
 refused : (x y z : Bool) {w : Bool} → w ≡ false → false ≡ x && (y && (z && w))
-refused x y z e = sym (ap (λ (b : Bool). x && (y && (z && b))) e ∙ ap (λ (b : Bool). x && (y && b)) (and-false z) ∙ ap (λ (b : Bool). x && b) (and-false y) ∙ and-false x)
+refused x y z e =
+    sym (ap (λ (b : Bool). x && (y && (z && b))) e ∙ ap (λ (b : Bool). x && (y && b)) (and-false z)
+    ∙ ap (λ (b : Bool). x && b) (and-false y) ∙ and-false x)
 
 regroup : (x y z f w : Bool) → (((x && y) && z) && f) && w ≡ x && (y && (z && (f && w)))
 regroup x y z f w = and-assoc (x && y && z) f w ∙ and-assoc (x && y) z (f && w) ∙ and-assoc x y (z && (f && w))

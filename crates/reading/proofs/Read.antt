@@ -27,12 +27,15 @@ unfolding wordsAt
 vector-law f w z n h ez e = e ∙ fill-rest _ z n (length-tab (λ i. wordAt f (4 * i)) n) h ez
 
 -- a correction, from its own 37 bytes
-pub correction-in-law : (f seed : List ℕ) (i word flags : ℕ) → seed ≡ wordsAt 8 (take (37 * i + 32 - 37 * i) (drop (37 * i) f)) → word ≡ wordAt f (37 * i + 32) → flags ≡ getD f (37 * i + 36) 0
+pub correction-in-law : (f seed : List ℕ) (i word flags : ℕ)
+    → seed ≡ wordsAt 8 (take (37 * i + 32 - 37 * i) (drop (37 * i) f))
+    → word ≡ wordAt f (37 * i + 32) → flags ≡ getD f (37 * i + 36) 0
     → _≡_ {A = Correction} (record { seed = seed; word = word; flags = flags }) (correctionIn f i)
 unfolding correctionIn part
 correction-in-law f seed i word flags es ew ef =
     let w : 37 * i + 32 - 37 * i ≡ 32 = omega arith in
-    let s = es ∙ ap (λ (k : ℕ). wordsAt 8 (take k (drop (37 * i) f))) w ∙ wordsAt-part 8 (37 * i) 32 37 f (omega arith) (omega arith) in
+    let s = es ∙ ap (λ (k : ℕ). wordsAt 8 (take k (drop (37 * i) f))) w
+    ∙ wordsAt-part 8 (37 * i) 32 37 f (omega arith) (omega arith) in
     let x = ew ∙ sym (wordAt-part (37 * i) 37 f 32 (omega arith)) in
     let g = ef ∙ sym (getD-part (37 * i) 37 f 36 (omega arith)) in
     λ k. record { seed = s k; word = x k; flags = g k }
@@ -40,24 +43,30 @@ correction-in-law f seed i word flags es ew ef =
 length-correctionsIn : (f : List ℕ) (n : ℕ) → length (correctionsIn f n) ≡ n
 unfolding correctionsIn
 length-correctionsIn f zero = refl
-length-correctionsIn f (suc n) = length-append (correctionsIn f n) (correctionIn f n ∷ []) ∙ omega (arith, length-correctionsIn f n)
+length-correctionsIn f (suc n) =
+    length-append (correctionsIn f n) (correctionIn f n ∷ []) ∙ omega (arith, length-correctionsIn f n)
 
 -- one correction more
-pub corrections-more : (f : List ℕ) (cs z : List Correction) (c : Correction) (i : ℕ) → i < length z → cs ≡ correctionsIn f i ++ drop i z → c ≡ correctionIn f i
+pub corrections-more : (f : List ℕ) (cs z : List Correction) (c : Correction) (i : ℕ)
+    → i < length z → cs ≡ correctionsIn f i ++ drop i z → c ≡ correctionIn f i
     → set cs i c ≡ correctionsIn f (i + 1) ++ drop (i + 1) z
 unfolding correctionsIn
 corrections-more f cs z c i h e is =
     rw (add-one i)
-    (ap₂ (λ (l : List Correction) (x : Correction). set l i x) (e ∙ ap (λ (l : List Correction). correctionsIn f i ++ l) (drop-cons z i none h)) is
+    (ap₂ (λ (l : List Correction) (x : Correction). set l i x)
+    (e ∙ ap (λ (l : List Correction). correctionsIn f i ++ l) (drop-cons z i none h)) is
     ∙ set-at (correctionsIn f i) (getD z i none) (drop (suc i) z) (correctionIn f i) i (length-correctionsIn f i)
     ∙ sym (append-snoc (correctionsIn f i) (correctionIn f i) (drop (suc i) z)))
 
-pub corrections-all : (f : List ℕ) (cs z : List Correction) (i n : ℕ) → cs ≡ correctionsIn f i ++ drop i z → i ≡ n → length z ≡ n → cs ≡ correctionsIn f n
+pub corrections-all : (f : List ℕ) (cs z : List Correction) (i n : ℕ)
+    → cs ≡ correctionsIn f i ++ drop i z → i ≡ n → length z ≡ n → cs ≡ correctionsIn f n
 corrections-all f cs z i n e is h =
-    e ∙ ap (λ (l : List Correction). correctionsIn f i ++ l) (drop-of-length-le z {i = i} (omega arith)) ∙ append-nil (correctionsIn f i) ∙ ap (correctionsIn f) is
+    e ∙ ap (λ (l : List Correction). correctionsIn f i ++ l) (drop-of-length-le z {i = i} (omega arith))
+    ∙ append-nil (correctionsIn f i) ∙ ap (correctionsIn f) is
 
 -- one word more
-pub vector-more : (f w z : List ℕ) (i x : ℕ) → i < length z → w ≡ tab (λ k. wordAt f (4 * k)) i ++ drop i z → x ≡ wordAt f (4 * i)
+pub vector-more : (f w z : List ℕ) (i x : ℕ) → i < length z
+    → w ≡ tab (λ k. wordAt f (4 * k)) i ++ drop i z → x ≡ wordAt f (4 * i)
     → set w i x ≡ tab (λ k. wordAt f (4 * k)) (i + 1) ++ drop (i + 1) z
 vector-more f w z i x h e is = ap₂ (λ (l : List ℕ) (y : ℕ). set l i y) e is ∙ tab-more (λ k. wordAt f (4 * k)) i z h
 

@@ -67,9 +67,11 @@ answer-ordinary party key seed z = rw (half z) refl
 place : (s A B C D E F x y x0 x1 y0 y1 : ℕ) → s ≈ sub (sub (add A B) (add C D)) (add E F)
     → add s (mul x y)
     ≈ sub
-    (sub (add (add A (mul (add x (add x0 x1)) (add y (add y0 y1)))) (add B (mul (add x0 x1) (add y0 y1)))) (add (add C (mul (add x (add x0 x1)) y0)) (add D (mul (add x (add x0 x1)) y1))))
+    (sub (add (add A (mul (add x (add x0 x1)) (add y (add y0 y1)))) (add B (mul (add x0 x1) (add y0 y1))))
+    (add (add C (mul (add x (add x0 x1)) y0)) (add D (mul (add x (add x0 x1)) y1))))
     (add (add E (mul (add y (add y0 y1)) x0)) (add F (mul (add y (add y0 y1)) x1)))
-place s A B C D E F x y x0 x1 y0 y1 e = ring (A ∷ B ∷ C ∷ D ∷ E ∷ F ∷ x ∷ y ∷ x0 ∷ x1 ∷ y0 ∷ y1 ∷ []) (search words depth 40 fits 9000) refl
+place s A B C D E F x y x0 x1 y0 y1 e =
+    ring (A ∷ B ∷ C ∷ D ∷ E ∷ F ∷ x ∷ y ∷ x0 ∷ x1 ∷ y0 ∷ y1 ∷ []) (search words depth 40 fits 9000) refl
 
 module _ (x y x0 x1 y0 y1 : ℕ → ℕ) where
   abbrev mx : ℕ → ℕ
@@ -86,7 +88,8 @@ module _ (x y x0 x1 y0 y1 : ℕ → ℕ) where
 
   products : (n : ℕ)
       → sum (λ i. mul (x i) (y i)) n
-      ≈ sub (sub (add (sum (λ i. mul (MX i) (MY i)) n) (sum (λ i. mul (mx i) (my i)) n)) (add (sum (λ i. mul (MX i) (y0 i)) n) (sum (λ i. mul (MX i) (y1 i)) n)))
+      ≈ sub (sub (add (sum (λ i. mul (MX i) (MY i)) n) (sum (λ i. mul (mx i) (my i)) n))
+      (add (sum (λ i. mul (MX i) (y0 i)) n) (sum (λ i. mul (MX i) (y1 i)) n)))
       (add (sum (λ i. mul (MY i) (x0 i)) n) (sum (λ i. mul (MY i) (x1 i)) n))
   unfolding sum sub add
   products zero = m-eq refl
@@ -98,7 +101,8 @@ at-place : (n i : ℕ) (a b : List ℕ) → i < n → getD (plus n a b) i 0 ≡ 
 unfolding plus
 at-place n i a b h = getD-tab (λ i. add (getD a i 0) (getD b i 0)) n i h
 
-inner-of : (n : ℕ) (a b : List ℕ) (f g : ℕ → ℕ) → ((i : ℕ) → i < n → getD a i 0 ≡ f i) → ((i : ℕ) → i < n → getD b i 0 ≡ g i)
+inner-of : (n : ℕ) (a b : List ℕ) (f g : ℕ → ℕ)
+    → ((i : ℕ) → i < n → getD a i 0 ≡ f i) → ((i : ℕ) → i < n → getD b i 0 ≡ g i)
     → inner n a b ≡ sum (λ i. mul (f i) (g i)) n
 unfolding inner
 inner-of n a b f g ea eb = sum-ext _ _ n (λ i h. ap₂ mul (ea i h) (eb i h))

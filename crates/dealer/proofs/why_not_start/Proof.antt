@@ -21,7 +21,8 @@ returns-3 c =
     let at-if2 = at-equal .before in
     let at-if1 = at-if2 .before in
     let at-name-fits = at-if1 .before in
-    one-key _ _ _ _ (at-name-fits .name-fits .ensures) (at-if1 .if1 .left) (at-if2 .if2 .left) _ (at-equal .equal .ensures) (c .if3 .taken)
+    one-key _ _ _ _ (at-name-fits .name-fits .ensures) (at-if1 .if1 .left)
+    (at-if2 .if2 .left) _ (at-equal .equal .ensures) (c .if3 .taken)
 
 returns-4 : tie.Need-returns-4
 returns-4 c =
@@ -29,7 +30,8 @@ returns-4 c =
     let at-if2 = at-equal .before in
     let at-if1 = at-if2 .before in
     let at-name-fits = at-if1 .before in
-    start-taken _ _ _ _ (at-name-fits .name-fits .ensures) (at-if1 .if1 .left) (at-if2 .if2 .left) _ (at-equal .equal .ensures) (c .if3 .left)
+    start-taken _ _ _ _ (at-name-fits .name-fits .ensures) (at-if1 .if1 .left)
+    (at-if2 .if2 .left) _ (at-equal .equal .ensures) (c .if3 .left)
 
 pub why-not-start-spec : {M : Type 1} → statement M
 why-not-start-spec =

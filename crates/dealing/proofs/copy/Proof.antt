@@ -40,14 +40,19 @@ loop-less : tie.Need-loop-less Inv-loop μ-loop
 loop-less c = search needs
 
 loop-again : tie.Need-loop-again Inv-loop μ-loop
-loop-again c =
-    (search needs, search needs, copy-more _ _ _ (c .before .before .loop .i) (omega arith) (omega arith) (c .before .before .loop .inv .2))
+loop-again c = (
+  search needs,
+  search needs,
+  copy-more _ _ _ (c .before .before .loop .i) (omega arith) (omega arith) (c .before .before .loop .inv .2),
+)
 
 same-length : tie.Need-same-length Inv-loop μ-loop
 same-length c = search needs
 
 returns : tie.Need-returns Inv-loop μ-loop
-returns c = copy-done _ _ (c .before .before .args .out .now) _ (c .before .loop .i) (c .before .loop .inv .1) (omega arith) (c .before .loop .inv .2)
+returns c =
+    copy-done _ _ (c .before .before .args .out .now) _ (c .before .loop .i)
+    (c .before .loop .inv .1) (omega arith) (c .before .loop .inv .2)
 
 pub copy-spec : {M : Type 1} → statement M
 copy-spec =

@@ -25,7 +25,9 @@ stream-requires : tie.Need-stream-requires
 stream-requires c κs = search needs
 
 returns : tie.Need-returns
-returns c = draw-law _ _ (zeros 2067) _ _ (omega arith) (c .before .before .before .key-words .ensures) (c .before .stream .ensures)
+returns c =
+    draw-law _ _ (zeros 2067) _ _ (omega arith)
+    (c .before .before .before .key-words .ensures) (c .before .stream .ensures)
 
 pub draw-spec : {M : Type 1} → statement M
 draw-spec =

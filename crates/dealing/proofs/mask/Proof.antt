@@ -40,8 +40,11 @@ add-vectors-requires c κs = search needs
 returns : tie.Need-returns
 returns c =
     let at-add-vectors = c .before in
-    let start = at-add-vectors .before .before .before .before .before in
-    mask-law (start .args .w .now) _ _ (start .args .at) (start .args .n) refl (start .pre .0) (start .pre .1) (at-add-vectors .add-vectors .ensures)
+    let at-m = at-add-vectors .before in
+    let start = at-m .before .before .before .before in
+    let args = start .args in
+    mask-law (args .w .now) _ _ (args .at) (args .n) refl (start .pre .0)
+    (start .pre .1) (at-add-vectors .add-vectors .ensures)
 
 pub mask-spec : {M : Type 1} → statement M
 mask-spec =

@@ -15,7 +15,9 @@ copy-requires : tie.Need-copy-requires
 copy-requires c κs = room (c .before .before .args .w .now) _ _ (c .before .before .pre .0) (c .before .before .pre .1)
 
 returns : tie.Need-returns
-returns c = words-law _ _ _ _ _ refl (c .before .before .before .before .pre .0) (c .before .before .before .before .pre .1) (c .before .copy .ensures)
+returns c =
+    words-law _ _ _ _ _ refl (c .before .before .before .before .pre .0)
+    (c .before .before .before .before .pre .1) (c .before .copy .ensures)
 
 pub words-from-spec : {M : Type 1} → statement M
 words-from-spec =

@@ -35,7 +35,9 @@ part-seal-by-end c = search needs
 
 seal-by-requires : tie.Need-seal-by-requires
 seal-by-requires c κs =
-    let at-header = c .before .before .before .before .before .before .before .before .before .before .before .before in
+    let at-out2 = c .before .before .before .before in
+    let at-out = at-out2 .before .before .before .before in
+    let at-header = at-out .before .before .before .before in
     let start = at-header .before .before .before in
     start .pre .1 ∙ ap (polyKey (start .args .key .now)) (sym (at-header .header .ensures))
 
@@ -44,16 +46,25 @@ slice-aggregate-copy-2 c = search needs
 
 copy-requires-3 : tie.Need-copy-requires-3
 copy-requires-3 c κs =
-    let at-seal = c .before .before .before .before .before in
-    let at-copy2 = at-seal .before .before .before .before .before .before in
+    let at-out3 = c .before .before .before .before in
+    let at-seal = at-out3 .before in
+    let at-h2 = at-seal .before .before .before in
+    let at-copy2 = at-h2 .before .before .before in
     let at-copy = at-copy2 .before .before .before .before in
     let at-header = at-copy .before .before .before in
     let start = at-header .before .before .before in
+    let args = start .args in
     let size = ap length (at-header .header .ensures) ∙ length-header _ _ in
     omega (
       arith,
-      length-tag-is (start .args .key .now) (at-header .header .result) (start .args .text .now) (start .args .out .now) size (start .pre .0 .0) (start .pre .0 .1) (at-copy .copy .last .0) (at-copy2 .copy2 .last .0) (at-seal .seal-by .last .1 .1 .1 .1 .0) [] (at-seal .seal-by .result) (at-copy .copy .ensures) (at-copy2 .copy2 .ensures) (at-seal .seal-by .ensures .0),
-      length-put (start .args .key .now) (at-header .header .result) (start .args .text .now) (start .args .out .now) size (start .pre .0 .0) (start .pre .0 .1) (at-copy .copy .last .0) (at-copy2 .copy2 .last .0) (at-seal .seal-by .last .1 .1 .1 .1 .0) [] (at-seal .seal-by .result) (at-copy .copy .ensures) (at-copy2 .copy2 .ensures) (at-seal .seal-by .ensures .1),
+      length-tag-is (args .key .now) (at-header .header .result) (args .text .now)
+          (args .out .now) size (start .pre .0 .0) (start .pre .0 .1) (at-copy .copy .last .0)
+          (at-copy2 .copy2 .last .0) (at-seal .seal-by .last .1 .1 .1 .1 .0) [] (at-seal .seal-by .result)
+          (at-copy .copy .ensures) (at-copy2 .copy2 .ensures) (at-seal .seal-by .ensures .0),
+      length-put (args .key .now) (at-header .header .result) (args .text .now) (args .out .now) size
+          (start .pre .0 .0) (start .pre .0 .1) (at-copy .copy .last .0) (at-copy2 .copy2 .last .0)
+          (at-seal .seal-by .last .1 .1 .1 .1 .0) [] (at-seal .seal-by .result)
+          (at-copy .copy .ensures) (at-copy2 .copy2 .ensures) (at-seal .seal-by .ensures .1),
     )
 
 same-length : tie.Need-same-length
@@ -62,12 +73,22 @@ same-length c = search needs
 returns : tie.Need-returns
 returns c =
     let at-copy3 = c .before .before in
-    let at-seal = at-copy3 .before .before .before .before .before .before in
-    let at-copy2 = at-seal .before .before .before .before .before .before in
+    let at-tag = at-copy3 .before .before .before in
+    let at-seal = at-tag .before .before .before in
+    let at-h2 = at-seal .before .before .before in
+    let at-copy2 = at-h2 .before .before .before in
     let at-copy = at-copy2 .before .before .before .before in
     let at-header = at-copy .before .before .before in
     let start = at-header .before .before .before in
-    write-law (start .args .key .now) (at-header .header .result) (start .args .text .now) (start .args .out .now) (ap length (at-header .header .ensures) ∙ length-header _ _) (start .pre .0 .0) (start .pre .0 .1) (at-copy .copy .last .0) (at-copy2 .copy2 .last .0) (at-seal .seal-by .last .1 .1 .1 .1 .0) (at-copy3 .copy3 .last .0) (at-seal .seal-by .result) (at-copy .copy .ensures) (at-copy2 .copy2 .ensures) (at-seal .seal-by .ensures .1) (at-seal .seal-by .ensures .0) (at-copy3 .copy3 .ensures) ∙ is-block (start .args .key .now) (at-header .header .result) (start .args .text .now) (start .args .out .now) (ap length (at-header .header .ensures) ∙ length-header _ _) (start .pre .0 .0) (start .pre .0 .1) _ _ (at-header .header .ensures)
+    let args = start .args in
+    write-law (args .key .now) (at-header .header .result) (args .text .now) (args .out .now)
+    (ap length (at-header .header .ensures) ∙ length-header _ _) (start .pre .0 .0) (start .pre .0 .1)
+    (at-copy .copy .last .0) (at-copy2 .copy2 .last .0) (at-seal .seal-by .last .1 .1 .1 .1 .0)
+    (at-copy3 .copy3 .last .0) (at-seal .seal-by .result) (at-copy .copy .ensures) (at-copy2 .copy2 .ensures)
+    (at-seal .seal-by .ensures .1) (at-seal .seal-by .ensures .0) (at-copy3 .copy3 .ensures)
+    ∙ is-block (args .key .now) (at-header .header .result) (args .text .now)
+    (args .out .now) (ap length (at-header .header .ensures) ∙ length-header _ _)
+    (start .pre .0 .0) (start .pre .0 .1) _ _ (at-header .header .ensures)
 
 pub write-block-spec : {M : Type 1} → statement M
 write-block-spec =

@@ -28,7 +28,9 @@ array-write-b c = search needs
 
 returns : tie.Need-returns
 unfolding over
-returns c = correction-law _ _ _ _ _ _ _ (search needs) (search needs) (c .before .before .before .before .store-all .ensures) (c .before .store .ensures) refl
+returns c =
+    correction-law _ _ _ _ _ _ _ (search needs) (search needs)
+    (c .before .before .before .before .store-all .ensures) (c .before .store .ensures) refl
 
 pub correction-bytes-spec : {M : Type 1} → statement M
 correction-bytes-spec =

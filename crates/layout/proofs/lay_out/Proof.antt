@@ -18,7 +18,8 @@ returns c =
     let at-head = at-tail .before in
     let at-seed = at-head .before .before .before .before in
     let start = at-seed .before .before .before .before in
-    fields-law (start .args .name) (start .args .party) (start .args .s) _ _ _ _ (at-head .head .ensures) (at-tail .tail .ensures) (c .joined .ensures)
+    fields-law (start .args .name) (start .args .party) (start .args .s) _ _ _ _
+    (at-head .head .ensures) (at-tail .tail .ensures) (c .joined .ensures)
 
 pub lay-out-spec : {M : Type 1} → statement M
 lay-out-spec = tie.close (tie.spec head-requires tail-requires joined-requires returns)

@@ -11,7 +11,8 @@ use Rattle.layout.proofs.store_corrections.Statement.{statement}
 use Rattle.layout.proofs.store_corrections.Tie as tie
 
 abbrev Inv-loop : tie.InvT-loop
-Inv-loop out₀ at cs i₀ out i = (i ≤ 32) × (length (front cs i) ≡ 37 * i) × (out ≡ over at (front cs i) out₀) × (length out ≡ length out₀)
+Inv-loop out₀ at cs i₀ out i =
+    (i ≤ 32) × (length (front cs i) ≡ 37 * i) × (out ≡ over at (front cs i) out₀) × (length out ≡ length out₀)
 
 abbrev μ-loop : tie.MeasureT-loop
 μ-loop out₀ at cs i₀ out i = 32 - i
@@ -27,7 +28,10 @@ array-copy-out-c : tie.Need-array-copy-out-c Inv-loop μ-loop
 array-copy-out-c c = search needs
 
 correction-bytes-requires : tie.Need-correction-bytes-requires Inv-loop μ-loop
-correction-bytes-requires c κs = flag-at _ _ (c .before .before .before .before .before .pre .1) (search needs)
+correction-bytes-requires c κs =
+    let at-loop = c .before .before .before in
+    let start = at-loop .before .before in
+    flag-at _ _ (start .pre .1) (search needs)
 
 mul-copy : tie.Need-mul-copy Inv-loop μ-loop
 mul-copy c = search needs
@@ -50,7 +54,12 @@ loop-less c = search needs
 loop-again : tie.Need-loop-again Inv-loop μ-loop
 unfolding correctionBytes
 loop-again c =
-    let more = front-next (c .before .before .before .before .before .before .before .before .before .before .before .args .t3) (c .before .before .before .before .before .before .before .before .before .loop .i) _ _ _ _ _ (search needs) (c .before .before .before .before .before .before .before .before .before .loop .inv .1) (c .before .before .before .before .before .before .before .before .before .loop .inv .2) (search needs) (c .before .before .before .before .before .correction-bytes .ensures) (c .before .before .copy .ensures) in
+    let at-copy = c .before .before in
+    let at-correction-bytes = at-copy .before .before .before in
+    let at-loop = at-correction-bytes .before .before .before .before in
+    let start = at-loop .before .before in
+    let more = front-next (start .args .t3) (at-loop .loop .i) _ _ _ _ _ (search needs) (at-loop .loop .inv .1)
+    (at-loop .loop .inv .2) (search needs) (at-correction-bytes .correction-bytes .ensures) (at-copy .copy .ensures) in
     (search needs, more .1, more .0, search needs)
 
 same-length : tie.Need-same-length Inv-loop μ-loop
@@ -60,8 +69,12 @@ returns : tie.Need-returns Inv-loop μ-loop
 returns c =
     let cs = c .before .before .before .args .t3 in
     let last : c .before .loop .i ≡ 32 = omega arith in
-    let all : front cs (c .before .loop .i) ≡ flat (map correctionBytes cs) = ap (front cs) last ∙ front-all cs 32 (search needs) in
-    (c .before .loop .inv .2 ∙ ap (λ l. over (c .before .before .before .args .at) l (c .before .before .before .args .out .now)) all, ap length (sym all) ∙ c .before .loop .inv .1 ∙ ap (λ k. 37 * k) last)
+    let all : front cs (c .before .loop .i) ≡ flat (map correctionBytes cs) =
+    ap (front cs) last ∙ front-all cs 32 (search needs) in (
+      c .before .loop .inv .2
+          ∙ ap (λ l. over (c .before .before .before .args .at) l (c .before .before .before .args .out .now)) all,
+      ap length (sym all) ∙ c .before .loop .inv .1 ∙ ap (λ k. 37 * k) last,
+    )
 
 pub store-corrections-spec : {M : Type 1} → statement M
 store-corrections-spec =

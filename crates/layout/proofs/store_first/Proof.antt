@@ -9,10 +9,14 @@ array-share-prefix-w : tie.Need-array-share-prefix-w
 array-share-prefix-w c = search needs
 
 slice-aggregate-store-all : tie.Need-slice-aggregate-store-all
-slice-aggregate-store-all c = sym (length-take-le (c .before .before .before .args .n) (c .before .before .before .args .t4) (search needs))
+slice-aggregate-store-all c =
+    sym (length-take-le (c .before .before .before .args .n) (c .before .before .before .args .t4) (search needs))
 
 store-all-requires : tie.Need-store-all-requires
-store-all-requires c κs = omega (arith, length-take-le (c .before .before .before .args .n) (c .before .before .before .args .t4) (search needs))
+store-all-requires c κs = omega (
+  arith,
+  length-take-le (c .before .before .before .args .n) (c .before .before .before .args .t4) (search needs),
+)
 
 same-length : tie.Need-same-length
 same-length c = search needs

@@ -18,10 +18,12 @@ first-refusal-requires c κs = search needs
 
 returns : tie.Need-returns
 returns c =
-    let at-add = c .before .before .before .before .before in
+    let at-struct-known = c .before .before .before .before in
+    let at-add = at-struct-known .before in
     let at-second = at-add .before in
     let at-first = at-second .before in
-    c .first-refusal .ensures ∙ why-is _ _ _ _ _ _ _ _ _ _ (at-first .expected .ensures) (at-second .expected2 .ensures) (at-add .add .ensures)
+    c .first-refusal .ensures
+    ∙ why-is _ _ _ _ _ _ _ _ _ _ (at-first .expected .ensures) (at-second .expected2 .ensures) (at-add .add .ensures)
 
 pub why-not-join-spec : {M : Type 1} → statement M
 why-not-join-spec =

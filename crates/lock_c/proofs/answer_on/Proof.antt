@@ -23,11 +23,13 @@ join-requires : tie.Need-join-requires
 join-requires c κs = search needs
 
 -- the join on the padded name, where the name has 16 bytes
-on-padded : (name : List ℕ) (last : ℕ) (l0 : Label) (name0 : List ℕ) (answer0 : ℕ) (l1 : Label) (name1 : List ℕ) (answer1 : ℕ) {p : List ℕ} {r : LockAnswer}
+on-padded : (name : List ℕ) (last : ℕ) (l0 : Label) (name0 : List ℕ) (answer0 : ℕ)
+    (l1 : Label) (name1 : List ℕ) (answer1 : ℕ) {p : List ℕ} {r : LockAnswer}
     → length name ≡ 16 → p ≡ padded name → r ≡ join (record { name = p; last = last }) l0 name0 answer0 l1 name1 answer1
     → r ≡ answerOn name last l0 name0 answer0 l1 name1 answer1
 on-padded name last l0 name0 answer0 l1 name1 answer1 h ep er =
-    er ∙ ap (λ (n : List ℕ). join (record { name = n; last = last }) l0 name0 answer0 l1 name1 answer1) (ep ∙ padded-whole name h) ∙ on-lock name last l0 name0 answer0 l1 name1 answer1 h
+    er ∙ ap (λ (n : List ℕ). join (record { name = n; last = last }) l0 name0 answer0 l1 name1 answer1)
+    (ep ∙ padded-whole name h) ∙ on-lock name last l0 name0 answer0 l1 name1 answer1 h
 
 returns-2 : tie.Need-returns-2
 returns-2 c = on-padded _ _ _ _ _ _ _ _ (c .before .before .if1 .left) (c .before .padded .ensures) (c .join .ensures)

@@ -20,7 +20,9 @@ returns c = taken _ _ refl (c .if1 .taken) ∙ hands-on _ _ _ _ _ _ _ _ _ (c .be
 
 returns-2 : tie.Need-returns-2
 unfolding label
-returns-2 c = refused _ _ refl (c .before .if1 .left) ∙ hands-on _ _ _ _ _ _ _ _ _ (c .before .before .before .answer-on .ensures) .0
+returns-2 c =
+    refused _ _ refl (c .before .if1 .left)
+    ∙ hands-on _ _ _ _ _ _ _ _ _ (c .before .before .before .answer-on .ensures) .0
 
 pub lock-join-spec : {M : Type 1} → statement M
 lock-join-spec = tie.close (tie.spec answer-on-requires add-result returns returns-2)

@@ -15,7 +15,8 @@ add-requires-3 c κs = search needs
 returns : tie.Need-returns
 returns c =
     let a = c .before .before .before .args in
-    rw (c .before .before .add .ensures, c .before .add2 .ensures, c .add3 .ensures) (within-words (a .w) (a .low) (a .high) (search needs) (search needs) (search needs))
+    rw (c .before .before .add .ensures, c .before .add2 .ensures, c .add3 .ensures)
+    (within-words (a .w) (a .low) (a .high) (search needs) (search needs) (search needs))
 
 pub between-spec : {M : Type 1} → statement M
 between-spec = tie.close (tie.spec add-requires add-requires-2 add-requires-3 returns)

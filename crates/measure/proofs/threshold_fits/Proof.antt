@@ -12,7 +12,8 @@ between-requires c κs = search needs
 returns : tie.Need-returns
 returns c =
     let row = c .before .row-of in
-    threshold-range _ _ (row .result .least) (row .result .most) _ (row .ensures .4) (row .ensures .5) (c .between .ensures)
+    threshold-range _ _ (row .result .least) (row .result .most) _
+    (row .ensures .4) (row .ensures .5) (c .between .ensures)
 
 pub threshold-fits-spec : {M : Type 1} → statement M
 threshold-fits-spec = tie.close (tie.spec row-of-requires between-requires returns)

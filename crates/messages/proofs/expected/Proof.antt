@@ -15,8 +15,11 @@ equal-requires c κs = search needs
 returns : tie.Need-returns
 unfolding expected
 returns c =
-    let a = c .before .before .before .before .before .args in
-    ap (λ (t : Bool). eqb (a .label .kind) (a .kind) && (t && eqb (a .label .sender) (a .sender))) (c .before .equal .ensures)
+    let at-equal = c .before in
+    let start = at-equal .before .before .before .before in
+    let a = start .args in
+    ap (λ (t : Bool). eqb (a .label .kind) (a .kind) && (t && eqb (a .label .sender) (a .sender)))
+    (at-equal .equal .ensures)
 
 pub expected-spec : {M : Type 1} → statement M
 expected-spec = tie.close (tie.spec slice-aggregate-equal equal-requires returns)

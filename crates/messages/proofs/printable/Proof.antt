@@ -36,8 +36,11 @@ loop-again : tie.Need-loop-again Inv-loop μ-loop
 loop-again c =
     let at = c .before .before .before .loop in
     let name = c .before .before .before .before .args .name .now in
-    let byte = getD name (at .i) 0 in
-    (search needs, ap (λ (t : Bool). t && (leb 32 byte && leb byte 126)) (at .inv .1) ∙ sym (printable-more name (at .i) (omega arith)))
+    let byte = getD name (at .i) 0 in (
+      search needs,
+      ap (λ (t : Bool). t && (leb 32 byte && leb byte 126)) (at .inv .1)
+          ∙ sym (printable-more name (at .i) (omega arith)),
+    )
 
 returns : tie.Need-returns Inv-loop μ-loop
 returns c =

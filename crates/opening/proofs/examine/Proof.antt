@@ -15,10 +15,18 @@ returns c =
     let at-if1 = c .before in
     let at-is-whole = at-if1 .before in
     let start = at-is-whole .before .before in
-    examined-4 (start .args .key .now) (start .args .name) (start .args .h .now) (start .args .party) (start .args .last) (at-is-whole .is-whole .result) (at-is-whole .is-whole .ensures) _ (at-if1 .if1 .taken) (c .refused .ensures)
+    examined-4 (start .args .key .now) (start .args .name) (start .args .h .now)
+    (start .args .party) (start .args .last) (at-is-whole .is-whole .result)
+    (at-is-whole .is-whole .ensures) _ (at-if1 .if1 .taken) (c .refused .ensures)
 
 load-number-requires : tie.Need-load-number-requires
-load-number-requires c κs = omega (arith, some-blocks (c .before .before .before .args .key .now) (c .before .before .before .args .name) (c .before .before .before .args .h .now) (c .before .before .before .args .party) (c .before .before .before .args .last) (c .before .is-whole .result) (c .before .is-whole .ensures) (c .if1 .left))
+load-number-requires c κs = omega (
+  arith,
+  some-blocks (c .before .before .before .args .key .now)
+      (c .before .before .before .args .name) (c .before .before .before .args .h .now)
+      (c .before .before .before .args .party) (c .before .before .before .args .last)
+      (c .before .is-whole .result) (c .before .is-whole .ensures) (c .if1 .left),
+)
 
 refused-requires-2 : tie.Need-refused-requires-2
 refused-requires-2 c κs = search needs
@@ -30,15 +38,23 @@ returns-2 c =
     let at-if1 = at-load-number .before in
     let at-is-whole = at-if1 .before in
     let start = at-is-whole .before .before in
-    examined-7 (start .args .key .now) (start .args .name) (start .args .h .now) (start .args .party) (start .args .last) (at-is-whole .is-whole .result) (at-is-whole .is-whole .ensures) (at-if1 .if1 .left) (at-load-number .load-number .result) (at-load-number .load-number .ensures) _ (at-if2 .if2 .taken) (c .refused2 .ensures)
+    examined-7 (start .args .key .now) (start .args .name) (start .args .h .now)
+    (start .args .party) (start .args .last) (at-is-whole .is-whole .result)
+    (at-is-whole .is-whole .ensures) (at-if1 .if1 .left) (at-load-number .load-number .result)
+    (at-load-number .load-number .ensures) _ (at-if2 .if2 .taken) (c .refused2 .ensures)
 
 open-within-requires : tie.Need-open-within-requires
 open-within-requires c κs =
     let at-load-number = c .before in
     let at-if1 = at-load-number .before in
     let at-is-whole = at-if1 .before in
-    let start = at-is-whole .before .before in
-    (some-blocks (start .args .key .now) (start .args .name) (start .args .h .now) (start .args .party) (start .args .last) (at-is-whole .is-whole .result) (at-is-whole .is-whole .ensures) (at-if1 .if1 .left) .0, some-blocks (start .args .key .now) (start .args .name) (start .args .h .now) (start .args .party) (start .args .last) (at-is-whole .is-whole .result) (at-is-whole .is-whole .ensures) (at-if1 .if1 .left) .1, at-load-number .load-number .ensures)
+    let start = at-is-whole .before .before in (
+      some-blocks (start .args .key .now) (start .args .name) (start .args .h .now) (start .args .party)
+          (start .args .last) (at-is-whole .is-whole .result) (at-is-whole .is-whole .ensures) (at-if1 .if1 .left) .0,
+      some-blocks (start .args .key .now) (start .args .name) (start .args .h .now) (start .args .party)
+          (start .args .last) (at-is-whole .is-whole .result) (at-is-whole .is-whole .ensures) (at-if1 .if1 .left) .1,
+      at-load-number .load-number .ensures,
+    )
 
 returns-3 : tie.Need-returns-3
 returns-3 c =
@@ -47,7 +63,10 @@ returns-3 c =
     let at-if1 = at-load-number .before in
     let at-is-whole = at-if1 .before in
     let start = at-is-whole .before .before in
-    examined-whole (start .args .key .now) (start .args .name) (start .args .h .now) (start .args .party) (start .args .last) (at-is-whole .is-whole .result) (at-is-whole .is-whole .ensures) (at-if1 .if1 .left) (at-load-number .load-number .result) (at-load-number .load-number .ensures) _ (at-if2 .if2 .left) (c .open-within .ensures)
+    examined-whole (start .args .key .now) (start .args .name) (start .args .h .now)
+    (start .args .party) (start .args .last) (at-is-whole .is-whole .result)
+    (at-is-whole .is-whole .ensures) (at-if1 .if1 .left) (at-load-number .load-number .result)
+    (at-load-number .load-number .ensures) _ (at-if2 .if2 .left) (c .open-within .ensures)
 
 pub examine-spec : {M : Type 1} → statement M
 examine-spec =

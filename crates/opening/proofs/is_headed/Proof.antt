@@ -25,8 +25,11 @@ returns c =
     let x = at-low .load in
     let y = at-high .load2 in
     let z = at-index .load3 in (
-      headed b (x .result) (y .result) (z .result) (start .args .number) (start .args .i) (start .pre) (x .ensures) (y .ensures) (z .ensures) (c .joined .result) (c .joined .ensures),
-      headed-words b (x .result) (y .result) (z .result) (start .args .number) (start .args .i) (start .pre) (x .ensures) (y .ensures) (z .ensures) (c .joined .result) (c .joined .ensures) (search needs) (search needs) (search needs),
+      headed b (x .result) (y .result) (z .result) (start .args .number) (start .args .i) (start .pre)
+          (x .ensures) (y .ensures) (z .ensures) (c .joined .result) (c .joined .ensures),
+      headed-words b (x .result) (y .result) (z .result) (start .args .number) (start .args .i)
+          (start .pre) (x .ensures) (y .ensures) (z .ensures) (c .joined .result)
+          (c .joined .ensures) (search needs) (search needs) (search needs),
     )
 
 pub is-headed-spec : {M : Type 1} → statement M

@@ -17,7 +17,8 @@ returns : tie.Need-returns
 returns c =
     let at-load2 = c .before in
     let at-load = at-load2 .before in
-    c .joined .ensures ∙ load-law _ _ _ (at-load .before .before .pre) (at-load .load .ensures) (at-load2 .load2 .ensures)
+    c .joined .ensures
+    ∙ load-law _ _ _ (at-load .before .before .pre) (at-load .load .ensures) (at-load2 .load2 .ensures)
 
 pub load-number-spec : {M : Type 1} → statement M
 load-number-spec = tie.close (tie.spec load-requires load-requires-2 joined-requires returns)

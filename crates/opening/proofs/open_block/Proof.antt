@@ -14,8 +14,11 @@ returns : tie.Need-returns
 returns c =
     let test = c .before in
     let start = test .before .before .before in
-    let args = start .args in
-    (not-headed (args .key .now) (args .b .now) (args .number) (args .i) (start .pre .0 .0) (test .is-headed .result) (test .is-headed .ensures .0) (c .if1 .taken), λ e. absurd (true≢false (sym e)))
+    let args = start .args in (
+      not-headed (args .key .now) (args .b .now) (args .number) (args .i) (start .pre .0 .0)
+          (test .is-headed .result) (test .is-headed .ensures .0) (c .if1 .taken),
+      λ e. absurd (true≢false (sym e)),
+    )
 
 open-text-requires : tie.Need-open-text-requires
 open-text-requires c κs =
@@ -34,8 +37,11 @@ returns-2 c =
     let branch = text .before .before in
     let test = branch .before in
     let start = test .before .before .before in
-    let args = start .args in
-    (block-fits (args .key .now) (args .b .now) (args .number) (args .i) (start .pre .0 .0) (test .is-headed .result) (test .is-headed .ensures .0) (text .open-text .result) (branch .if1 .left) (text .open-text .ensures .0), text .open-text .ensures .1)
+    let args = start .args in (
+      block-fits (args .key .now) (args .b .now) (args .number) (args .i) (start .pre .0 .0) (test .is-headed .result)
+          (test .is-headed .ensures .0) (text .open-text .result) (branch .if1 .left) (text .open-text .ensures .0),
+      text .open-text .ensures .1,
+    )
 
 pub open-block-spec : {M : Type 1} → statement M
 open-block-spec = tie.close (tie.spec is-headed-requires returns open-text-requires same-length returns-2)

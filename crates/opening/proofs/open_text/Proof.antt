@@ -52,10 +52,14 @@ slice-aggregate-open-by c = search needs
 
 open-by-requires : tie.Need-open-by-requires
 open-by-requires c κs =
-    let at-text = c .before .before .before .before .before .before in
-    let at-nonce = at-text .before .before .before .before .before .before .before .before in
-    let start = at-nonce .before .before .before .before .before in
-    start .pre .1 ∙ ap (polyKey (start .args .key .now)) (sym (nonce-part _ _ (start .pre .0 .0) (at-nonce .copy .ensures)))
+    let at-nonce3 = c .before .before .before in
+    let at-text = at-nonce3 .before .before .before in
+    let at-copy2 = at-text .before .before .before .before in
+    let at-nonce = at-copy2 .before .before .before .before in
+    let at-shared-slice-known = at-nonce .before .before .before .before in
+    let start = at-shared-slice-known .before in
+    start .pre .1
+    ∙ ap (polyKey (start .args .key .now)) (sym (nonce-part _ _ (start .pre .0 .0) (at-nonce .copy .ensures)))
 
 same-length : tie.Need-same-length
 same-length c = search needs
@@ -63,10 +67,12 @@ same-length c = search needs
 returns : tie.Need-returns
 returns c =
     let opened = c .before .before in
-    let text = opened .before .before .before .before .before .before .before in
+    let at-nonce3 = opened .before .before .before .before in
+    let text = at-nonce3 .before .before .before in
     let tag = text .before .before .before .before in
     let nonce = tag .before .before .before .before in
-    let start = nonce .before .before .before .before .before in
+    let at-nonce = nonce .before .before in
+    let start = at-nonce .before .before .before in
     let en = nonce .copy .ensures in
     let et = tag .copy2 .ensures in
     let eo = text .copy3 .ensures in

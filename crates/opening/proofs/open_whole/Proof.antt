@@ -17,7 +17,9 @@ returns c =
     let at-if1 = c .before in
     let at-open-blocks = at-if1 .before .before .before in
     let start = at-open-blocks .before .before .before .before in
-    whole-10 (start .args .key .now) (start .args .name) (start .args .h .now) (start .args .party) (at-open-blocks .open-blocks .result) (at-open-blocks .open-blocks .ensures .0) _ (at-if1 .if1 .taken) (c .refused .ensures)
+    whole-10 (start .args .key .now) (start .args .name) (start .args .h .now)
+    (start .args .party) (at-open-blocks .open-blocks .result)
+    (at-open-blocks .open-blocks .ensures .0) _ (at-if1 .if1 .taken) (c .refused .ensures)
 
 content-fits-requires : tie.Need-content-fits-requires
 content-fits-requires c κs = search needs
@@ -35,10 +37,22 @@ returns-2 c =
     let at-if1 = at-content-fits .before .before in
     let at-open-blocks = at-if1 .before .before .before in
     let start = at-open-blocks .before .before .before .before in
-    whole-11 (start .args .key .now) (start .args .name) (start .args .h .now) (start .args .party) (at-open-blocks .open-blocks .result) (at-open-blocks .open-blocks .ensures .0) (at-if1 .if1 .left) _ (at-open-blocks .open-blocks .ensures .1) (at-content-fits .content-fits .result) (at-content-fits .content-fits .ensures) _ (at-if2 .if2 .taken) (c .refused2 .ensures)
+    whole-11 (start .args .key .now) (start .args .name) (start .args .h .now) (start .args .party)
+    (at-open-blocks .open-blocks .result) (at-open-blocks .open-blocks .ensures .0) (at-if1 .if1 .left) _
+    (at-open-blocks .open-blocks .ensures .1) (at-content-fits .content-fits .result)
+    (at-content-fits .content-fits .ensures) _ (at-if2 .if2 .taken) (c .refused2 .ensures)
 
 read-set-requires : tie.Need-read-set-requires
-read-set-requires c κs = whole-reads (c .before .before .before .before .before .before .before .before .before .before .before .args .key .now) (c .before .before .before .before .before .before .before .before .before .before .before .args .name) (c .before .before .before .before .before .before .before .before .before .before .before .args .h .now) (c .before .before .before .before .before .before .before .before .before .before .before .args .party) (c .before .before .before .before .before .before .before .open-blocks .result) (c .before .before .before .before .before .before .before .open-blocks .ensures .0) (c .before .before .before .before .if1 .left) _ (c .before .before .before .before .before .before .before .open-blocks .ensures .1) (c .before .before .content-fits .result) (c .before .before .content-fits .ensures) (c .before .if2 .left) (search needs)
+read-set-requires c κs =
+    let at-if2 = c .before in
+    let at-content-fits = at-if2 .before in
+    let at-if1 = at-content-fits .before .before in
+    let at-open-blocks = at-if1 .before .before .before in
+    let start = at-open-blocks .before .before .before .before in
+    let args = start .args in
+    whole-reads (args .key .now) (args .name) (args .h .now) (args .party) (at-open-blocks .open-blocks .result)
+    (at-open-blocks .open-blocks .ensures .0) (at-if1 .if1 .left) _ (at-open-blocks .open-blocks .ensures .1)
+    (at-content-fits .content-fits .result) (at-content-fits .content-fits .ensures) (at-if2 .if2 .left) (search needs)
 
 same-length-3 : tie.Need-same-length-3
 same-length-3 c = search needs
@@ -50,7 +64,10 @@ returns-3 c =
     let at-if1 = at-content-fits .before .before in
     let at-open-blocks = at-if1 .before .before .before in
     let start = at-open-blocks .before .before .before .before in
-    whole-0 (start .args .key .now) (start .args .name) (start .args .h .now) (start .args .party) (at-open-blocks .open-blocks .result) (at-open-blocks .open-blocks .ensures .0) (at-if1 .if1 .left) _ (at-open-blocks .open-blocks .ensures .1) (at-content-fits .content-fits .result) (at-content-fits .content-fits .ensures) _ _ (at-if2 .if2 .left) (start .pre .2) (c .read-set .ensures)
+    whole-0 (start .args .key .now) (start .args .name) (start .args .h .now) (start .args .party)
+    (at-open-blocks .open-blocks .result) (at-open-blocks .open-blocks .ensures .0) (at-if1 .if1 .left) _
+    (at-open-blocks .open-blocks .ensures .1) (at-content-fits .content-fits .result)
+    (at-content-fits .content-fits .ensures) _ _ (at-if2 .if2 .left) (start .pre .2) (c .read-set .ensures)
 
 pub open-whole-spec : {M : Type 1} → statement M
 open-whole-spec =

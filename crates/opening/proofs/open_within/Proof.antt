@@ -14,7 +14,8 @@ slice-aggregate-open-whole : tie.Need-slice-aggregate-open-whole
 slice-aggregate-open-whole c = sym (length-take-le _ _ (search needs))
 
 open-whole-requires : tie.Need-open-whole-requires
-open-whole-requires c κs = (c .before .before .pre .0, c .before .before .pre .1, c .before .before .pre .2, length-take-le _ _ (search needs))
+open-whole-requires c κs =
+    (c .before .before .pre .0, c .before .before .pre .1, c .before .before .pre .2, length-take-le _ _ (search needs))
 
 returns : tie.Need-returns
 returns c = search needs

@@ -10,7 +10,9 @@ sum-of-squares-requires : tie.Need-sum-of-squares-requires
 sum-of-squares-requires c κs = search needs
 
 returns : tie.Need-returns
-returns c = own-squares _ (c .before .before .before .before .args .v .now) _ _ (c .before .if1 .taken) (c .before .before .row-of .ensures .0) (c .sum-of-squares .ensures)
+returns c =
+    own-squares _ (c .before .before .before .before .args .v .now) _ _ (c .before .if1 .taken)
+    (c .before .before .row-of .ensures .0) (c .sum-of-squares .ensures)
 
 returns-2 : tie.Need-returns-2
 returns-2 c = own-none _ (c .before .before .before .args .v .now) _ (c .if1 .left) (c .before .row-of .ensures .0)

@@ -24,8 +24,10 @@ mul-requires c κs = search needs
 returns : tie.Need-returns
 returns c =
     let at-if = c .before in
-    small-square _ (at-if .before .magnitude .result) _ (search needs) (at-if .before .magnitude .ensures) (search needs)
-    (ap (λ l. getD l (at-if .before .magnitude .result) 0) (at-if .before .before .pre) ∙ entry-square 1025 (at-if .before .magnitude .result) (omega arith))
+    small-square _ (at-if .before .magnitude .result) _
+    (search needs) (at-if .before .magnitude .ensures) (search needs)
+    (ap (λ l. getD l (at-if .before .magnitude .result) 0) (at-if .before .before .pre)
+    ∙ entry-square 1025 (at-if .before .magnitude .result) (omega arith))
 
 returns-2 : tie.Need-returns-2
 returns-2 c = search needs

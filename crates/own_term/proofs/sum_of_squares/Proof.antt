@@ -40,8 +40,12 @@ loop-less c = search needs
 
 loop-again : tie.Need-loop-again Inv-loop μ-loop
 loop-again c =
-    let at-loop = c .before .before .before .before .before in
-    (c .add .ensures ∙ ap₂ add (at-loop .loop .inv .0) (c .before .square .ensures) ∙ sym (sum-more _ (at-loop .loop .i)), search needs)
+    let at-square = c .before in
+    let at-loop = at-square .before .before .before .before in (
+      c .add .ensures ∙ ap₂ add (at-loop .loop .inv .0) (at-square .square .ensures)
+          ∙ sym (sum-more _ (at-loop .loop .i)),
+      search needs,
+    )
 
 returns : tie.Need-returns Inv-loop μ-loop
 returns c =

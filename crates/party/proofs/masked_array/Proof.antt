@@ -11,7 +11,10 @@ add-vectors-requires : tie.Need-add-vectors-requires
 add-vectors-requires c κs = search needs
 
 returns : tie.Need-returns
-returns c = masked-law _ _ _ _ _ (c .before .before .before .before .before .pre .0) refl (c .before .add-vectors .ensures)
+returns c =
+    let at-add-vectors = c .before in
+    let start = at-add-vectors .before .before .before .before in
+    masked-law _ _ _ _ _ (start .pre .0) refl (at-add-vectors .add-vectors .ensures)
 
 pub masked-array-spec : {M : Type 1} → statement M
 masked-array-spec =

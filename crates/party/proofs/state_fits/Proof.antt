@@ -16,7 +16,9 @@ length-fits-requires : tie.Need-length-fits-requires
 length-fits-requires c κs = search needs
 
 returns-3 : tie.Need-returns-3
-returns-3 c = with-set _ _ _ (c .before .before .before .if1 .left) (c .before .before .if2 .left) _ _ (c .before .is-code .ensures) (c .length-fits .ensures)
+returns-3 c =
+    with-set _ _ _ (c .before .before .before .if1 .left) (c .before .before .if2 .left) _ _
+    (c .before .is-code .ensures) (c .length-fits .ensures)
 
 pub state-fits-spec : {M : Type 1} → statement M
 state-fits-spec =

@@ -33,11 +33,14 @@ loop-less c = search needs
 loop-again : tie.Need-loop-again Inv-loop μ-loop
 loop-again c =
     let b = c .before .before .before .args .b .now in
-    let i = c .before .before .loop .i in
-    (search needs, ap (λ all. all && eqb (getD b i 0) 0) (c .before .before .loop .inv .1) ∙ sym (zeros-more b i (search needs)))
+    let i = c .before .before .loop .i in (
+      search needs,
+      ap (λ all. all && eqb (getD b i 0) 0) (c .before .before .loop .inv .1) ∙ sym (zeros-more b i (search needs)),
+    )
 
 returns : tie.Need-returns Inv-loop μ-loop
-returns c = c .before .loop .inv .1 ∙ ap zeros (take-all (c .before .loop .i) (c .before .before .args .b .now) (omega arith))
+returns c =
+    c .before .loop .inv .1 ∙ ap zeros (take-all (c .before .loop .i) (c .before .before .args .b .now) (omega arith))
 
 pub all-zero-spec : {M : Type 1} → statement M
 all-zero-spec =

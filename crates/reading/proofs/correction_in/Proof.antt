@@ -35,7 +35,8 @@ returns c =
     let at-load = c .before in
     let at-seed-in = at-load .before in
     let start = at-seed-in .before .before .before in
-    correction-in-law (start .args .f .now) _ (start .args .i) _ _ (at-seed-in .seed-in .ensures) (at-load .load .ensures) (c .byte .ensures .0)
+    correction-in-law (start .args .f .now) _ (start .args .i) _ _
+    (at-seed-in .seed-in .ensures) (at-load .load .ensures) (c .byte .ensures .0)
 
 pub correction-in-spec : {M : Type 1} → statement M
 correction-in-spec =

@@ -38,10 +38,18 @@ loop-less : tie.Need-loop-less Inv-loop μ-loop
 loop-less c = search needs
 
 loop-again : tie.Need-loop-again Inv-loop μ-loop
-loop-again c = (search needs, corrections-more (c .before .before .before .before .before .args .f .now) _ _ _ (c .before .before .loop .i) (search needs) (c .before .before .loop .inv .1) (c .correction-in .ensures))
+loop-again c =
+    let at-loop = c .before .before in
+    let start = at-loop .before .before .before in (
+      search needs,
+      corrections-more (start .args .f .now) _ _ _ (at-loop .loop .i)
+          (search needs) (at-loop .loop .inv .1) (c .correction-in .ensures),
+    )
 
 returns : tie.Need-returns Inv-loop μ-loop
-returns c = corrections-all (c .before .before .before .before .args .f .now) _ _ (c .before .loop .i) 32 (c .before .loop .inv .1) (omega arith) refl
+returns c =
+    corrections-all (c .before .before .before .before .args .f .now) _ _
+    (c .before .loop .i) 32 (c .before .loop .inv .1) (omega arith) refl
 
 pub corrections-in-spec : {M : Type 1} → statement M
 corrections-in-spec =

@@ -38,8 +38,10 @@ loop-less c = search needs
 loop-again : tie.Need-loop-again Inv-loop μ-loop
 loop-again c =
     let f = c .before .before .before .args .f .now in
-    let i = c .before .before .loop .i in
-    (search needs, ap (λ all. all && ltb (getD f (37 * i + 36) 0) 4) (c .before .before .loop .inv .1) ∙ sym (flags-more f i))
+    let i = c .before .before .loop .i in (
+      search needs,
+      ap (λ all. all && ltb (getD f (37 * i + 36) 0) 4) (c .before .before .loop .inv .1) ∙ sym (flags-more f i),
+    )
 
 returns : tie.Need-returns Inv-loop μ-loop
 returns c =

@@ -15,7 +15,10 @@ key-words-requires : tie.Need-key-words-requires
 key-words-requires c κs = search needs
 
 returns : tie.Need-returns
-returns c = c .key-words .ensures ∙ ap (wordsAt 8) (c .before .before .before .copy .ensures ∙ over-all _ _ (c .before .before .before .before .before .before .pre))
+returns c =
+    let at-copy = c .before .before .before in
+    let start = at-copy .before .before .before in
+    c .key-words .ensures ∙ ap (wordsAt 8) (at-copy .copy .ensures ∙ over-all _ _ (start .pre))
 
 pub seed-in-spec : {M : Type 1} → statement M
 seed-in-spec = tie.close (tie.spec slice-aggregate-copy copy-requires key-words-requires returns)

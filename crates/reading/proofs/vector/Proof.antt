@@ -39,12 +39,17 @@ loop-less : tie.Need-loop-less Inv-loop μ-loop
 loop-less c = search needs
 
 loop-again : tie.Need-loop-again Inv-loop μ-loop
-loop-again c = (search needs, vector-more (c .before .before .before .before .args .f .now) _ _ (c .before .before .loop .i) _ (search needs) (c .before .before .loop .inv .1) (c .load .ensures))
+loop-again c = (
+  search needs,
+  vector-more (c .before .before .before .before .args .f .now) _ _ (c .before .before .loop .i) _
+      (search needs) (c .before .before .loop .inv .1) (c .load .ensures),
+)
 
 returns : tie.Need-returns Inv-loop μ-loop
 returns c =
     let last : c .before .loop .i ≡ c .before .before .before .args .n = omega arith in
-    vector-law (c .before .before .before .args .f .now) _ _ (c .before .before .before .args .n) (search needs) refl (rw last at (c .before .loop .inv .1))
+    vector-law (c .before .before .before .args .f .now) _ _ (c .before .before .before .args .n)
+    (search needs) refl (rw last at (c .before .loop .inv .1))
 
 pub vector-spec : {M : Type 1} → statement M
 vector-spec =

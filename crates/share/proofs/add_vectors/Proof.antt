@@ -49,11 +49,15 @@ loop-less : tie.Need-loop-less Inv-loop μ-loop
 loop-less c = search needs
 
 loop-again : tie.Need-loop-again Inv-loop μ-loop
-loop-again c = (
-  search needs,
-  length-set (c .before .before .before .before .loop .out) (c .before .before .before .before .loop .i) (c .add .result) ∙ c .before .before .before .before .loop .inv .1,
-  add-more (c .before .before .before .before .before .before .before .before .args .a .now) (c .before .before .before .before .before .before .before .before .args .b .now) (c .before .before .before .before .before .before .before .before .args .out .now) (c .before .before .before .before .loop .out) (c .before .before .before .before .loop .i) (c .add .result) (c .before .before .before .before .loop .inv .2) (c .add .ensures),
-)
+loop-again c =
+    let at-loop = c .before .before .before .before in
+    let start = at-loop .before .before .before .before in
+    let args = start .args in (
+      search needs,
+      length-set (at-loop .loop .out) (at-loop .loop .i) (c .add .result) ∙ at-loop .loop .inv .1,
+      add-more (args .a .now) (args .b .now) (args .out .now) (at-loop .loop .out)
+          (at-loop .loop .i) (c .add .result) (at-loop .loop .inv .2) (c .add .ensures),
+    )
 
 same-length : tie.Need-same-length Inv-loop μ-loop
 same-length c = search needs
@@ -61,7 +65,9 @@ same-length c = search needs
 returns : tie.Need-returns Inv-loop μ-loop
 unfolding plus
 returns c =
-    let done : c .before .loop .i ≡ c .before .before .before .before .before .args .n = omega arith in rw done at (c .before .loop .inv .2)
+    let at-loop = c .before in
+    let start = at-loop .before .before .before .before in
+    let done : at-loop .loop .i ≡ start .args .n = omega arith in rw done at (at-loop .loop .inv .2)
 
 pub add-vectors-spec : {M : Type 1} → statement M
 add-vectors-spec =

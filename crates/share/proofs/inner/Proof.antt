@@ -45,11 +45,16 @@ loop-less c = search needs
 
 loop-again : tie.Need-loop-again Inv-loop μ-loop
 loop-again c =
-    (search needs, inner-more _ _ (c .before .before .before .before .before .loop .i) _ _ _ (c .before .before .before .before .before .loop .inv .1) (c .before .mul .ensures) (c .add .ensures))
+    let at-mul = c .before in
+    let at-loop = at-mul .before .before .before .before in (
+      search needs,
+      inner-more _ _ (at-loop .loop .i) _ _ _ (at-loop .loop .inv .1) (at-mul .mul .ensures) (c .add .ensures),
+    )
 
 returns : tie.Need-returns Inv-loop μ-loop
 returns c =
-    let done : c .before .loop .i ≡ c .before .before .before .before .args .n = omega arith in rw done at (c .before .loop .inv .1)
+    let done : c .before .loop .i ≡ c .before .before .before .before .args .n = omega arith in
+    rw done at (c .before .loop .inv .1)
 
 pub inner-spec : {M : Type 1} → statement M
 inner-spec =

@@ -71,10 +71,28 @@ loop-less : tie.Need-loop-less Inv-loop μ-loop
 loop-less c = search needs
 
 loop-again : tie.Need-loop-again Inv-loop μ-loop
-loop-again c = (search needs, share-more (c .before .before .before .before .before .before .before .before .before .before .before .before .before .before .before .before .before .args .party) (c .before .before .before .before .before .before .before .before .before .before .before .before .loop .i) (c .before .before .before .before .before .before .before .before .before .before .before .before .before .before .before .before .before .args .c) (c .before .before .before .before .before .before .before .before .before .before .before .before .before .before .before .before .before .args .mx .now) (c .before .before .before .before .before .before .before .before .before .before .before .before .before .before .before .before .before .args .my .now) (c .before .before .before .before .before .before .before .before .before .before .before .before .before .before .before .before .before .args .sx .now) (c .before .before .before .before .before .before .before .before .before .before .before .before .before .before .before .before .before .args .sy .now) _ _ _ _ _ _ _ (c .before .before .before .before .before .before .before .before .before .before .before .before .loop .inv .1) (c .before .before .before .before .before .before .before .before .before .only .ensures) (c .before .before .before .before .before .before .before .sub .ensures) (c .before .before .before .before .before .mul .ensures) (c .before .before .mul2 .ensures) (c .before .sub2 .ensures) (c .add .ensures))
+loop-again c =
+    let at-sub2 = c .before in
+    let at-mul2 = at-sub2 .before in
+    let at-mul = at-mul2 .before .before .before in
+    let at-sub = at-mul .before .before in
+    let at-only = at-sub .before .before in
+    let at-loop = at-only .before .before .before in
+    let at-shared-slice-known = at-loop .before .before .before .before in
+    let start = at-shared-slice-known .before in
+    let args = start .args in (
+      search needs,
+      share-more (args .party) (at-loop .loop .i) (args .c) (args .mx .now) (args .my .now) (args .sx .now)
+          (args .sy .now) _ _ _ _ _ _ _ (at-loop .loop .inv .1) (at-only .only .ensures) (at-sub .sub .ensures)
+          (at-mul .mul .ensures) (at-mul2 .mul2 .ensures) (at-sub2 .sub2 .ensures) (c .add .ensures),
+    )
 
 returns : tie.Need-returns Inv-loop μ-loop
-returns c = let done : c .before .loop .i ≡ c .before .before .before .before .before .before .args .n = omega arith in rw done at (c .before .loop .inv .1)
+returns c =
+    let at-loop = c .before in
+    let at-shared-slice-known = at-loop .before .before .before .before in
+    let start = at-shared-slice-known .before in
+    let done : at-loop .loop .i ≡ start .args .n = omega arith in rw done at (at-loop .loop .inv .1)
 
 pub share-of-spec : {M : Type 1} → statement M
 share-of-spec =

@@ -21,7 +21,8 @@ write-halves-requires c κs =
     let at-if1 = c .before .before in
     let at-why-not-deal = at-if1 .before in
     let start = at-why-not-deal .before .before .before .before in
-    none (at-why-not-deal .why-not-deal .ensures (start .args .self) (start .args .seed .now) refl refl) (at-if1 .if1 .left)
+    none (at-why-not-deal .why-not-deal .ensures (start .args .self) (start .args .seed .now) refl refl)
+    (at-if1 .if1 .left)
 
 same-length : tie.Need-same-length
 same-length c = search needs

@@ -19,7 +19,9 @@ add-requires : tie.Need-add-requires
 add-requires c κs = search needs
 
 returns-2 : tie.Need-returns-2
-returns-2 c = joined _ _ _ _ _ _ _ _ _ (c .before .before .before .why-not-join .ensures) (c .before .before .if1 .left) (c .add .ensures)
+returns-2 c =
+    joined _ _ _ _ _ _ _ _ _ (c .before .before .before .why-not-join .ensures)
+    (c .before .before .if1 .left) (c .add .ensures)
 
 pub join-spec : {M : Type 1} → statement M
 join-spec = tie.close (tie.spec why-not-join-requires refused-requires returns add-requires returns-2)

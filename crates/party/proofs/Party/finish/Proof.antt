@@ -41,4 +41,6 @@ returns-2 c =
     (c .idle .ensures) (at-add .add .ensures) (at-answer .answer .ensures)
 
 pub finish-spec : {M : Type 1} → statement M
-finish-spec = tie.close (tie.spec in-turn-requires why-not-message-requires refused-requires returns add-requires answer-requires idle-requires returns-2)
+finish-spec =
+    tie.close (tie.spec in-turn-requires why-not-message-requires
+    refused-requires returns add-requires answer-requires idle-requires returns-2)

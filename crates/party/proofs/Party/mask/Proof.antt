@@ -56,8 +56,10 @@ returns c =
     let args = at-turn .before .before .before .before .args in
     let turn = at-turn .in-turn .ensures in
     let why = at-why .why-not-mask .ensures in (
-      mask-taken (args .self) _ turn (args .v .now) (args .out .now) _ why _ _ (at-if1 .if1 .taken) (at-masked-array .masked-array .ensures) (c .own .ensures),
-      out-taken (args .self) _ turn (args .v .now) (args .out .now) _ why _ (at-if1 .if1 .taken) (at-write-masked .write-masked .ensures),
+      mask-taken (args .self) _ turn (args .v .now) (args .out .now) _ why _ _
+          (at-if1 .if1 .taken) (at-masked-array .masked-array .ensures) (c .own .ensures),
+      out-taken (args .self) _ turn (args .v .now) (args .out .now) _ why _
+          (at-if1 .if1 .taken) (at-write-masked .write-masked .ensures),
     )
 
 -- it is refused
@@ -67,8 +69,12 @@ returns-2 c =
     let at-turn = at-why .before in
     let args = at-turn .before .before .before .before .args in
     let turn = at-turn .in-turn .ensures in
-    let why = at-why .why-not-mask .ensures in
-    (mask-refused (args .self) _ turn (args .v .now) (args .out .now) _ why (c .if1 .left), out-refused (args .self) _ turn (args .v .now) (args .out .now) _ why (c .if1 .left))
+    let why = at-why .why-not-mask .ensures in (
+      mask-refused (args .self) _ turn (args .v .now) (args .out .now) _ why (c .if1 .left),
+      out-refused (args .self) _ turn (args .v .now) (args .out .now) _ why (c .if1 .left),
+    )
 
 pub mask-spec : {M : Type 1} → statement M
-mask-spec = tie.close (tie.spec in-turn-requires why-not-mask-requires write-masked-requires masked-array-requires own-requires same-length returns returns-2)
+mask-spec =
+    tie.close (tie.spec in-turn-requires why-not-mask-requires write-masked-requires
+    masked-array-requires own-requires same-length returns returns-2)

@@ -46,4 +46,6 @@ returns-2 c =
     (at-bytes-32 .bytes-32 .ensures) (c .idle2 .ensures)
 
 pub start-spec : {M : Type 1} → statement M
-start-spec = tie.close (tie.spec why-not-start-requires idle-requires refused-requires returns padded-requires bytes-32-requires idle-requires-2 returns-2)
+start-spec =
+    tie.close (tie.spec why-not-start-requires idle-requires refused-requires
+    returns padded-requires bytes-32-requires idle-requires-2 returns-2)

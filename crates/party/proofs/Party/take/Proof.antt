@@ -44,4 +44,6 @@ returns-2 c =
     (at-share .box-share .ensures) (at-word .word .ensures)
 
 pub take-spec : {M : Type 1} → statement M
-take-spec = tie.close (tie.spec in-turn-requires why-not-message-requires refused-requires returns box-share-requires word-requires returns-2)
+take-spec =
+    tie.close (tie.spec in-turn-requires why-not-message-requires
+    refused-requires returns box-share-requires word-requires returns-2)
