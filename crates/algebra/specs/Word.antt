@@ -1,5 +1,6 @@
 -- Words: numbers below 2^32, whose sums, differences and products are taken modulo 2^32 (01, "Measures"); and how the
 -- ring tactic reads them. `ring (x ∷ y ∷ []) (search words depth 40 fits 5000) refl` proves `a ≈ b`. Assumes nothing.
+-- [SPEC 2.1, 2.2]
 use mathlib.Core.Path.{_≡_, refl, sym}
 use mathlib.Core.Bool.{Bool, true, false, cond}
 use mathlib.Core.List.{List}
@@ -25,7 +26,7 @@ neg a = (2 ^ 32 - a % 2 ^ 32) % 2 ^ 32
 unfoldable pub mul : ℕ → ℕ → ℕ
 mul a b = a * b % 2 ^ 32
 
--- a negative number stands for itself plus 2^32
+-- a negative number stands for itself plus 2^32 [SPEC 2.3, 2.4]
 unfoldable pub signed : ℕ → ℤ
 signed w = cond (ltb w (2 ^ 31)) (pos w) (pos w -ℤ pos (2 ^ 32))
 

@@ -1,4 +1,5 @@
 // What a box sends in one check (01, "One check at a box"): its word, and its answer to the lock.
+// [SPEC 17.4, 18.3, 18.4]
 ghost use mathlib.Core.Path.{_≡_};
 ghost use Rattle.algebra.specs.Bit.{less};
 ghost use Rattle.share.specs.Share.{boxWord as wordOf, answer as answerOf};

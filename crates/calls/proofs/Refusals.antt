@@ -15,7 +15,8 @@ use Rattle.party.specs.declared.Party.{Party}
 use Rattle.party.specs.Party as BoxCalls
 use Rattle.lock.specs.declared.Lock.{Lock}
 use Rattle.lock.specs.Lock as LockCalls
-use Rattle.calls.specs.Lists.{Box, put, World, Call, deal, load, mask, take, finish, drop, join, Event, dealt, loaded, sent, dropped, joined, refused, eventOf, step}
+use Rattle.calls.specs.Lists.{Box, put, World, Call, deal, load, mask, take, finish, drop, join, Event, dealt}
+use Rattle.calls.specs.Lists.{loaded, sent, dropped, joined, refused, eventOf, step}
 use Rattle.calls.specs.Refusals.{lent, lentAfter, said, NothingChanges, RefusalsChangeNothing}
 use Rattle.calls.proofs.Boxes.{put-same}
 
@@ -77,17 +78,23 @@ alone w c k why e n q f p =
     }
 
 pub refusals-change-nothing : RefusalsChangeNothing
-unfolding RefusalsChangeNothing DealerCalls.deal DealerCalls.dealOut BoxCalls.load BoxCalls.mask BoxCalls.maskOut BoxCalls.takeVector BoxCalls.finish BoxCalls.dropSet LockCalls.join
+unfolding RefusalsChangeNothing DealerCalls.deal DealerCalls.dealOut BoxCalls.load BoxCalls.mask
+    BoxCalls.maskOut BoxCalls.takeVector BoxCalls.finish BoxCalls.dropSet LockCalls.join
 refusals-change-nothing w (deal d out0 out1) k =
     alone w _ k _ _ refl refl
     (λ z. (same-dealer w _ (old _ _ _ z), buffers (old _ _ out0 z) (buffers (old _ _ out1 z) refl), refl))
-refusals-change-nothing w (load b h) k = alone w _ k _ _ refl refl (λ z. (same-box w b _ (old _ _ _ z), refl, old _ _ _ z))
+refusals-change-nothing w (load b h) k =
+    alone w _ k _ _ refl refl (λ z. (same-box w b _ (old _ _ _ z), refl, old _ _ _ z))
 refusals-change-nothing w (mask b v out) k =
     alone w _ k _ _ refl refl (λ z. (same-box w b _ (old _ _ _ z), buffers (old _ _ out z) refl, old _ _ _ z))
-refusals-change-nothing w (take b m) k = alone w _ k _ _ refl refl (λ z. (same-box w b _ (old _ _ _ z), refl, old _ _ _ z))
-refusals-change-nothing w (finish b m) k = alone w _ k _ _ refl refl (λ z. (same-box w b _ (old _ _ _ z), refl, old _ _ _ z))
-refusals-change-nothing w (drop b) k = alone w _ k _ _ refl refl (λ z. (same-box w b _ (old _ _ _ z), refl, old _ _ _ z))
-refusals-change-nothing w (join m n) k = alone w _ k _ _ refl refl (λ z. (same-lock w _ (old _ _ _ z), refl, old _ _ _ z))
+refusals-change-nothing w (take b m) k =
+    alone w _ k _ _ refl refl (λ z. (same-box w b _ (old _ _ _ z), refl, old _ _ _ z))
+refusals-change-nothing w (finish b m) k =
+    alone w _ k _ _ refl refl (λ z. (same-box w b _ (old _ _ _ z), refl, old _ _ _ z))
+refusals-change-nothing w (drop b) k =
+    alone w _ k _ _ refl refl (λ z. (same-box w b _ (old _ _ _ z), refl, old _ _ _ z))
+refusals-change-nothing w (join m n) k =
+    alone w _ k _ _ refl refl (λ z. (same-lock w _ (old _ _ _ z), refl, old _ _ _ z))
 
 pub refused-still : (w : World) (c : Call) (why : ℕ) → step w c .event ≡ refused why → step w c .world ≡ w
 unfolding RefusalsChangeNothing

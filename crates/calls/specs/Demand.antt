@@ -1,5 +1,5 @@
 -- Demand 3 (01, "A door's list of calls"): what a list's accepted calls were, and the eight claims: over every list,
--- and what the verdict is. No proof stands here. Assumes nothing.
+-- and what the verdict is. No proof stands here. Assumes nothing. [SPEC 25.6 to 25.8, 27.1 to 27.5, 28.1 to 28.13]
 use mathlib.Core.Path.{_≡_}
 use mathlib.Core.Bool.{Bool, true, false, cond}
 use mathlib.Core.List.{List, [], _∷_, _++_, map}
@@ -111,7 +111,7 @@ vectors b n h = collect (sentOf vectorOf n) (collect (sendsBy b) h)
 abbrev pub sentWords : Box → ℕ → List Event → List ℕ
 sentWords b n h = collect (sentOf wordOf n) (collect (sendsBy b) h)
 
--- "A part's last number is that of its last accepted deal, load or join, else its floor"
+-- "A part's last number is that of its last accepted deal, load or join, else its floor" [SPEC 25.7]
 abbrev pub newest : ℕ → List ℕ → ℕ
 newest floor [] = floor
 newest floor (n ∷ l) = n
@@ -141,6 +141,7 @@ verdict d x y = cond (reached (d .terms) (measure (d .terms) x y) (signed (d .t)
 
 -- "For an accepted join under n, the list's accepted deal of n gives measure and T, X is the vector handed to the
 -- camera box's accepted call 2 under n, and Y the office box's; that each is there exactly once is part of the claim"
+-- [SPEC 27.3, 27.4]
 pub record Right (h : List Event) (n bit : ℕ) : Type 0 where
   pub d : Deal
   pub x : List ℕ
@@ -161,7 +162,7 @@ NoReuse = (s : Starts) → Started s → (cs : List Call) → Admissible s cs �
     → (length (vectors b n (history s cs)) ≤ 1) × (length (sentWords b n (history s cs)) ≤ 1)
 
 -- ---- a run in the right order: "one deal, at each box a load
--- and calls 2 to 4 in turn, and the join, all under one number"
+-- and calls 2 to 4 in turn, and the join, all under one number" [SPEC 28.1]
 
 -- how far it is: whether the deal was made, how many of a box's four calls, whether the join
 pub record Progress : Type 0 where
@@ -192,7 +193,7 @@ Labelled door kind b n m = (m .label ≡ record { kind = kind; sender = partyOf 
 module _ (door : List ℕ) (d : Deal) (v : Box → List ℕ) where
   -- which of its own calls may come next, where the run's events so far are h. "Each load gets the half the deal wrote
   -- for its box, and messages are handed on as sent. Any order will do in which nothing is handed on before it is
-  -- written or sent." Output buffers are as refusal 5 asks.
+  -- written or sent." Output buffers are as refusal 5 asks. [SPEC 28.2 to 28.4]
   abbrev pub Ready : Progress → List Event → Call → Type 0
   Ready g h (deal e out0 out1) =
       (g .begun ≡ false) × (e ≡ d) × (halfSize (d .terms .n) ≤ length out0) × (halfSize (d .terms .n) ≤ length out1)
@@ -211,7 +212,7 @@ module _ (door : List ℕ) (d : Deal) (v : Box → List ℕ) where
       × SentAnswer h office (d .number) (n .content)
 
   -- its calls so far: "mixed at most with calls that change no state", and with any that are turned down, of which 01
-  -- says so ("no state and no byte changes")
+  -- says so ("no state and no byte changes") [SPEC 22.4, 28.5]
   pub data Run (w : World) : List Call → Progress → Type 0 where
     start : Run w [] nothingMade
     own : {cs : List Call} {g : Progress} → Run w cs g → (c : Call) → Ready g (events w cs) c
@@ -223,7 +224,7 @@ module _ (door : List ℕ) (d : Deal) (v : Box → List ℕ) where
         → Run w (c ∷ cs) g
 
 -- "answered means that none of the run's own calls is refused": what call c of the run left is the run's own, by the
--- call's box and "all under one number", and a join reports what it should
+-- call's box and "all under one number", and a join reports what it should [SPEC 28.1, 28.7, 28.9]
 abbrev pub Answered : Deal → (Box → List ℕ) → Call → Event → Type 0
 Answered d v (deal e out0 out1) x = (f : Box → List ℕ) × (x ≡ dealt d f)
 Answered d v (load b half) x = x ≡ loaded b (d .number)
@@ -234,7 +235,7 @@ Answered d v (drop b) x = ⊥
 Answered d v (join m n) x = x ≡ joined (d .number) (verdict d (v camera) (v office))
 
 -- "In range means that code, lengths, output buffers, threshold and elements are as refusals 2, 4, 5 and 8 ask" (the
--- buffers stand in `Ready`)
+-- buffers stand in `Ready`) [SPEC 28.6]
 pub record InRange (d : Deal) (v : Box → List ℕ) : Type 0 where
   pub number-fits : d .number < 2 ^ 64
   pub code-fits : isCode (d .terms .code) ≡ true
@@ -264,7 +265,7 @@ AlwaysAnswered =
 
 -- ---- a run can be ended
 
--- all of it is made: "one deal, at each box a load and calls 2 to 4 in turn, and the join"
+-- all of it is made: "one deal, at each box a load and calls 2 to 4 in turn, and the join" [SPEC 28.1]
 abbrev pub Whole : Progress → Type 0
 Whole g = (g .begun ≡ true) × ((b : Box) → g .made b ≡ 4) × (g .ended ≡ true)
 
@@ -278,7 +279,7 @@ NeverStuck = (s : Starts) → Started s → (cs : List Call) → Admissible s cs
     → Whole g ⊎ ((c : Call) × Ready (padded (s .name)) d v g (events w rs) c))
 
 -- "The run in the right order follows the list": a whole run rs after the list cs. Both are one admissible list; its
--- last call is the join, which is accepted and right; and then every higher number is free.
+-- last call is the join, which is accepted and right; and then every higher number is free. [SPEC 28.1, 28.11]
 pub record Ended (s : Starts) (cs : List Call) (d : Deal) (v : Box → List ℕ) : Type 0 where
   pub rs : List Call
   pub g : Progress
@@ -295,7 +296,7 @@ CanEnd = (s : Starts) → Started s → (cs : List Call) → Admissible s cs →
     → Free s (history s cs) (d .number) → Ended s cs d v
 
 -- "Drop ends the open set": after every admissible list, a box
--- with a set open is not refused its drop, and then has none
+-- with a set open is not refused its drop, and then has none [SPEC 19.1, 28.12]
 unfoldable pub CanDrop : Type 0
 CanDrop = (s : Starts) → Started s → (cs : List Call) → Admissible s cs → (b : Box) → 1 ≤ openSets b (history s cs)
     → (history s (drop b ∷ cs) ≡ dropped b ∷ history s cs) × (openSets b (history s (drop b ∷ cs)) ≡ 0)

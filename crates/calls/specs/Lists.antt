@@ -1,6 +1,6 @@
 -- A door's list of calls (01, "A door's list of calls"): the calls by the definitions that the contracts of dealer,
 -- party and lock name, what they do, and what is asked of what is handed in. A list stands newest call first.
--- Assumes nothing.
+-- Assumes nothing. [SPEC 25.1 to 25.4, 25.6, 26.1 to 26.4]
 use mathlib.Core.Path.{_≡_}
 use mathlib.Core.Bool.{Bool, true, false}
 use mathlib.Core.List.{List, [], _∷_}
@@ -49,7 +49,7 @@ pub record World : Type 0 where
   pub lock : Lock
 
 -- "A list begins with what accepted starts return: dealer, camera box, office box and lock, one name, any floors, each
--- box with the key the dealer has for its party"
+-- box with the key the dealer has for its party" [SPEC 25.1, 25.2]
 pub record Starts : Type 0 where
   pub name : List ℕ
   pub key : Box → List ℕ
@@ -84,7 +84,7 @@ pub record Message (A : Type 0) : Type 0 where
   pub content : A
 
 -- "It holds deals, loads, calls 2 to 4, drops and joins in any order, refused ones included": a call with all that it
--- is handed beside its part's state
+-- is handed beside its part's state [SPEC 25.3]
 pub data Call : Type 0 where
   -- what is to be dealt, and the two buffers lent
   deal : Deal → List ℕ → List ℕ → Call
@@ -114,7 +114,7 @@ pub data Event : Type 0 where
   -- which number was loaded
   loaded : Box → ℕ → Event
   -- "An accepted call 2, 3 or 4 sends its masked vector, word
-  -- or answer under its box's party and the open set's number"
+  -- or answer under its box's party and the open set's number" [SPEC 25.6]
   sent : Box → ℕ → Body → Event
   dropped : Box → Event
   -- under which number, and what was reported
@@ -122,7 +122,7 @@ pub data Event : Type 0 where
   -- and why
   refused : ℕ → Event
 
--- "Each call gets its part's state as the last call on that part left it, and nothing else writes it"
+-- "Each call gets its part's state as the last call on that part left it, and nothing else writes it" [SPEC 25.4]
 pub record Step : Type 0 where
   pub world : World
   pub event : Event
@@ -151,7 +151,7 @@ onLock w a e =
     record { world = record { dealer = w .dealer; box = w .box; lock = a .lock }; event = eventOf (a .why) e }
 
 -- "An accepted call writes only from the start of an output buffer: a deal the whole blocks of one half in each of two,
--- call 2 its L words": what was written is the start of the buffer as the call leaves it
+-- call 2 its L words": what was written is the start of the buffer as the call leaves it [SPEC 22.6]
 abbrev pub written : Dealer → Deal → List ℕ → List ℕ → Box → List ℕ
 written s d out0 out1 b = part 0 (halfSize (d .terms .n)) (DealerCalls.dealOut s d out0 out1 (partyOf b))
 
@@ -195,7 +195,7 @@ pub data In {A : Type 0} (a : A) : List A → Type 0 where
   there : {x : A} {l : List A} → In a l → In a (x ∷ l)
 
 -- what is handed in fits its type: only of a dealt number is
--- that needed, which has 64 bits ("A set has a 64-bit number")
+-- that needed, which has 64 bits ("A set has a 64-bit number") [SPEC 2.6, 26.4]
 abbrev pub Fits : Call → Type 0
 Fits (deal d out0 out1) = d .number < 2 ^ 64
 Fits (load b h) = Unit {0}
@@ -206,13 +206,14 @@ Fits (drop b) = Unit {0}
 Fits (join m n) = Unit {0}
 
 -- "Each whole block of 512 bytes handed to a load equals one
--- that an earlier accepted deal of the list wrote for that box"
+-- that an earlier accepted deal of the list wrote for that box" [SPEC 26.1]
 abbrev pub Written : List Event → Box → List ℕ → Type 0
 Written e b block = (d : Deal) × (f : Box → List ℕ) × In (dealt d f) e
     × (i : ℕ) × (i < length (f b) / blockBytes) × (block ≡ blockAt (f b) i)
 
 -- "A message of the kind the call takes, under this door's padded name, was sent earlier in the list, with the same
 -- sender, number and content. Any other message is free": S b n content says that box b sent it under n
+-- [SPEC 26.2, 26.3]
 abbrev pub Sent : {A : Type 0} → List ℕ → ℕ → (Box → ℕ → A → Type 0) → Message A → Type 0
 Sent door kind S m = m .label .kind ≡ kind → m .name ≡ door
     → (b : Box) × (m .label .sender ≡ partyOf b) × S b (m .label .number) (m .content)

@@ -1,5 +1,5 @@
 -- A refusal changes nothing (01, "When a call is turned down"), over every call on any states, whatever is handed in.
--- No proof stands here. Assumes nothing.
+-- No proof stands here. Assumes nothing. [SPEC 22.4]
 use mathlib.Core.Path.{_≡_}
 use mathlib.Core.List.{List, [], _∷_}
 use Prim.Native.Nat.{ℕ}
@@ -21,6 +21,7 @@ lent (drop b) = []
 lent (join m n) = []
 
 -- the same buffers after it, by the definitions that the contracts name: "each lent byte afterwards can be worked out"
+-- [SPEC 29.1]
 abbrev pub lentAfter : World → Call → List (List ℕ)
 lentAfter w (deal d out0 out1) =
     DealerCalls.dealOut (w .dealer) d out0 out1 cameraParty
@@ -43,7 +44,7 @@ said w (drop b) = BoxCalls.dropSet (w .box b) .word
 said w (join m n) =
     LockCalls.join (w .lock) (m .label) (m .name) (m .content) (n .label) (n .name) (n .content) .bit
 
--- "The answer is the number alone; no state and no byte changes."
+-- "The answer is the number alone; no state and no byte changes." [SPEC 22.4]
 pub record NothingChanges (w : World) (c : Call) (why : ℕ) : Type 0 where
   pub a-number : why ≡ 0 → ⊥
   pub same-states : step w c .world ≡ w

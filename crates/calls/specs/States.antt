@@ -1,5 +1,5 @@
 -- What a box's state holds after any list of calls, whatever was handed in (01, "One check at a box"). No proof stands
--- here. Assumes nothing.
+-- here. Assumes nothing. [SPEC 12.9 to 12.11]
 use mathlib.Core.Path.{_≡_}
 use mathlib.Core.List.{List}
 use Prim.Native.Nat.{ℕ, _≤_}
@@ -11,13 +11,13 @@ use Rattle.calls.specs.Lists.{In}
 
 -- ---- until a set is closed or dropped
 
--- "Drop ends the open set. .. call 4 closes it": the events that end the set open at b
+-- "Drop ends the open set. .. call 4 closes it": the events that end the set open at b [SPEC 18.5, 19.1]
 pub data Ends (b : Box) : Event → Type 0 where
   by-call-4 : (n a : ℕ) → Ends b (sent b n (answer a))
   by-drop : Ends b (dropped b)
 
 -- "What a set has brought into the state stays there", from s to t: load brings the set, call 2 the masked vector and
--- own, call 3 the word, and each call its phase
+-- own, call 3 the word, and each call its phase [SPEC 12.9]
 pub record Stays (s t : Party) : Type 0 where
   pub not-back : s .check .phase ≤ t .check .phase
   pub same-set : t .check .set ≡ s .check .set
@@ -26,7 +26,7 @@ pub record Stays (s t : Party) : Type 0 where
   pub same-word : takenPhase ≤ s .check .phase → t .check .word ≡ s .check .word
 
 -- ".. until it is closed or dropped": with a set open at b, over any list of calls from any states on, none of which
--- ends it
+-- ends it [SPEC 12.9]
 unfoldable pub StaysUntilEnded : Type 0
 StaysUntilEnded = (w : World) (b : Box) → loadedPhase ≤ w .box b .check .phase → (cs : List Call)
     → ((e : Event) → In e (events w cs) → Ends b e → ⊥) → Stays (w .box b) (after w cs .box b)
@@ -34,6 +34,7 @@ StaysUntilEnded = (w : World) (b : Box) → loadedPhase ≤ w .box b .check .pha
 -- ---- what else it holds
 
 -- "with no set open all of it is zero, code and L included, and array places past L are always zero"
+-- [SPEC 12.10, 12.11]
 pub record Tidy (s : Party) : Type 0 where
   pub none-open : s .check .phase ≡ idlePhase → s .check ≡ noCheck
   pub past-length : (i : ℕ) → s .check .set .terms .n ≤ i

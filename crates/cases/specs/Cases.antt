@@ -1,4 +1,4 @@
--- 01, "The proved cases": the lines marked *, as one table with one theorem. Assumes nothing.
+-- 01, "The proved cases": the lines marked *, as one table with one theorem. Assumes nothing. [SPEC 30.1]
 use mathlib.Core.Path.{_≡_, refl}
 use mathlib.Core.Bool.{Bool, true, false, _&&_, Bool·beq}
 use mathlib.Core.List.{List, [], _∷_, map}
@@ -57,29 +57,29 @@ holds (filled n b) = eqb (blockCount n) b
 
 unfoldable pub table : List Line
 table =
-    -- scalar (3, -4) with (2, 5): -14. T = -14 reached, T = -13 not
+    -- scalar (3, -4) with (2, 5): -14. T = -14 reached, T = -13 not [SPEC 30.3, 30.4]
     measured 0 (pos 3 ∷ negℤ (pos 4) ∷ []) (pos 2 ∷ pos 5 ∷ []) (pos 0) (pos 0) (negℤ (pos 14)) (negℤ (pos 14))
     ∷ reaches 0 (pos 3 ∷ negℤ (pos 4) ∷ []) (pos 2 ∷ pos 5 ∷ []) (negℤ (pos 14)) true
     ∷ reaches 0 (pos 3 ∷ negℤ (pos 4) ∷ []) (pos 2 ∷ pos 5 ∷ []) (negℤ (pos 13)) false
-    -- squared Euclid of the same: 25 + 29 + 28 = 82
+    -- squared Euclid of the same: 25 + 29 + 28 = 82 [SPEC 30.5]
     ∷ measured 1 (pos 3 ∷ negℤ (pos 4) ∷ []) (pos 2 ∷ pos 5 ∷ []) (pos 25) (pos 29) (pos 28) (pos 82)
-    -- Hamming (1,0,1,1) with (1,1,0,1): 3 + 3 - 4 = 2
+    -- Hamming (1,0,1,1) with (1,1,0,1): 3 + 3 - 4 = 2 [SPEC 30.6]
     ∷ measured 2 (pos 1 ∷ pos 0 ∷ pos 1 ∷ pos 1 ∷ [])
     (pos 1 ∷ pos 1 ∷ pos 0 ∷ pos 1 ∷ []) (pos 3) (pos 3) (negℤ (pos 4)) (pos 2)
-    -- element -4, mask 4,294,967,295: 4,294,967,291; element 3, mask 4,294,967,294: 1
+    -- element -4, mask 4,294,967,295: 4,294,967,291; element 3, mask 4,294,967,294: 1 [SPEC 30.7, 30.8]
     ∷ masked (negℤ (pos 4)) 4294967295 4294967291
     ∷ masked (pos 3) 4294967294 1
-    -- ideal gate with r = 0: difference 0 gives 1; -2^31 gives 0
+    -- ideal gate with r = 0: difference 0 gives 1; -2^31 gives 0 [SPEC 30.9]
     ∷ gated 0 (pos 0) 0 1
     ∷ gated 0 (negℤ (pos (2 ^ 31))) (2 ^ 31) 0
-    -- r = 1, difference -1: Z = 0, gives 0
+    -- r = 1, difference -1: Z = 0, gives 0 [SPEC 30.10]
     ∷ gated 1 (negℤ (pos 1)) 0 0
-    -- r = 2^32 - 1, difference 0: Z = 2^32 - 1, gives 1
+    -- r = 2^32 - 1, difference 0: Z = 2^32 - 1, gives 1 [SPEC 30.11]
     ∷ gated (2 ^ 32 - 1) (pos 0) (2 ^ 32 - 1) 1
-    -- r = 2^31: difference 2^31 - 1 gives 1; -2^31 gives 0
+    -- r = 2^31: difference 2^31 - 1 gives 1; -2^31 gives 0 [SPEC 30.12]
     ∷ gated (2 ^ 31) (pos (2 ^ 31 - 1)) (2 ^ 32 - 1) 1
     ∷ gated (2 ^ 31) (negℤ (pos (2 ^ 31))) 0 0
-    -- blocks: L = 1: 3; 17: 3; 18: 4; 512: 16
+    -- blocks: L = 1: 3; 17: 3; 18: 4; 512: 16 [SPEC 30.13]
     ∷ filled 1 3
     ∷ filled 17 3
     ∷ filled 18 4

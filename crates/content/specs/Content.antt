@@ -1,6 +1,6 @@
 -- What a half holds (01, "The sealed half"): the plain content of a set for a party, as a list of fields in order, and
 -- the set read back from it. A field more is a name for its place, its width, its bytes, and where it is read back.
--- Bytes are numbers below 256. Assumes nothing.
+-- Bytes are numbers below 256. Assumes nothing. [SPEC 9.1 to 9.6]
 use mathlib.Core.Path.{_≡_}
 use mathlib.Core.Bool.{Bool, true, _&&_}
 use mathlib.Core.List.{List, [], _∷_, _++_, map}
@@ -34,18 +34,19 @@ abbrev pub roomBytes : ℕ
 roomBytes = mostBlocks * textBytes
 
 -- an array of a vector's words (01, "Forms by place"): "fixed arrays of 512 words, zero-filled past L"
+-- [SPEC 12.11, 31.2]
 unfoldable pub fill : List ℕ → List ℕ
 fill l = l ++ replicate (mostElements - length l) 0
 
 -- ---- the layout
 
--- a correction: "seed, word, flag byte: bit 0 left, bit 1 right", 37 bytes
+-- a correction: "seed, word, flag byte: bit 0 left, bit 1 right", 37 bytes [SPEC 9.2, 9.3]
 unfoldable pub correctionBytes : Correction → List ℕ
 correctionBytes c = bytesOf (c .seed) ++ (le32 (c .word) ++ (c .flags ∷ []))
 
 -- "name (16 bytes, zero after its end), party, measure code, L (2 bytes, little-endian), own mask (L words), the
 -- party's share of X's mask, then of Y's (L words each), its c and r words, key seed, 32 corrections of 37 bytes (..),
--- final word": each field by its place among them, ..
+-- final word": each field by its place among them, .. [SPEC 9.1]
 abbrev pub nameField : ℕ
 nameField = 0
 
@@ -107,7 +108,7 @@ offset n f = sumFirst (widths n) f
 unfoldable pub width : ℕ → ℕ → ℕ
 width n f = getD (widths n) f 0
 
--- all of them: "That is 1,248 + 12 × L bytes, zero-filled to whole blocks of 484" (Laws.`size-is`)
+-- all of them: "That is 1,248 + 12 × L bytes, zero-filled to whole blocks of 484" (Laws.`size-is`) [SPEC 9.4 to 9.6]
 unfoldable pub size : ℕ → ℕ
 size n = sumFirst (widths n) (length (widths n))
 
@@ -162,7 +163,7 @@ setIn set b =
       key = keyIn b;
     }
 
--- no set: all that a set brings is zero, "code and L included"
+-- no set: all that a set brings is zero, "code and L included" [SPEC 12.10]
 unfoldable pub noCorrection : Correction
 noCorrection = record { seed = replicate 8 0; word = 0; flags = 0 }
 
@@ -181,7 +182,7 @@ noSet =
     }
 
 -- ---- 01's eleventh refusal: "Opened content has another name or party, a code, L or flag byte out of range, a block
--- count that doesn't fit L, or non-zero fill"
+-- count that doesn't fit L, or non-zero fill" [SPEC 23.11]
 
 unfoldable pub flagsFit : List Correction → Bool
 flagsFit [] = true

@@ -222,7 +222,7 @@ module _ (name : List ℕ) (party : ℕ) (s : Set) (named : length name ≡ 16) 
   unfolding plain
   drop-plain = drop-at laid rest (size n) length-fields
 
-  -- what stands where a field's bytes do
+  -- what stands where a field's bytes do [SPEC 9.1]
   piece-plain : (f : ℕ) → part (offset n f) (width n f) (plain name party s) ≡ getD (fields name party s) f []
   unfolding plain offset width
   piece-plain f =

@@ -1,5 +1,5 @@
 // What a half holds (01, "The sealed half"): a set as a box carries it once it is opened. `layout`
-// writes its plain bytes and `reading` reads them.
+// writes its plain bytes and `reading` reads them. [SPEC 9.1, 12.6]
 ghost use mathlib.Core.Path.{_≡_};
 ghost use Prim.Native.Nat.{_≤_};
 ghost use Rattle.content.specs.Content.{xField, yField, cField, rField, seedField, correctionsField, lastField};
@@ -23,7 +23,7 @@ pub const MOST_BLOCKS: usize = 16;
 pub const ROOM: usize = MOST_BLOCKS * TEXT;
 
 // An opened set: the mask of the party's own vector, its shares of X's mask and of Y's, its c and r
-// words, its key seed, and the comparison key. Arrays are zero past the terms' length.
+// words, its key seed, and the comparison key. Arrays are zero past the terms' length. [SPEC 3.1, 12.11]
 #[repr(C)]
 pub struct Set {
     pub number: u64,

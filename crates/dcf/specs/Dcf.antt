@@ -1,7 +1,7 @@
 -- The comparison function of Boyle and others, "Function Secret Sharing for Mixed-Mode and Fixed-Point Secure
 -- Computation" (2021), as 01, "Dealing a set", has it: the key for a point, and the value of a key at u. Over any seeds
 -- and any opening of a node, which may depend on the level, counted from 0. A bit, a flag and a side are Booleans: true
--- is 1, set, right. Assumes nothing.
+-- is 1, set, right. Assumes nothing. [SPEC 7.1, 7.14, 8.1, 8.7]
 use mathlib.Core.Bool.{Bool, true, false, not, xor, _&&_}
 use Prim.Native.Nat.{ℕ, zero, suc, _-_, _/_, _^_}
 use Rattle.algebra.specs.Word.{add, sub, neg}
@@ -34,12 +34,12 @@ pub record Walk (Seed : Type 0) : Type 0 where
   pub flag : Bool
   pub total : ℕ
 
--- "Sign is -1 if party 1's flag before the level is 1, else +1": Sign × x
+-- "Sign is -1 if party 1's flag before the level is 1, else +1": Sign × x [SPEC 7.5]
 unfoldable pub bySign : Bool → ℕ → ℕ
 bySign true x = neg x
 bySign false x = x
 
--- the bit of a level of a number of n bits, "taken from the highest"
+-- the bit of a level of a number of n bits, "taken from the highest" [SPEC 7.1, 8.2]
 unfoldable pub bits : ℕ → ℕ → ℕ → Bool
 bits n u i = odd (u / 2 ^ (n - suc i))
 
@@ -53,7 +53,7 @@ abbrev pub Opened : Type 0 → Type 0
 Opened Seed = Bool → Child Seed
 
 -- "Each party goes on with its Keep seed and flag, each xored with its correction if its old flag was 1": from flag t
--- to side d, whose child is k
+-- to side d, whose child is k [SPEC 7.11, 7.12, 8.4, 8.5]
 unfoldable pub nextFlag : {Seed : Type 0} → Correction Seed → Bool → Bool → Child Seed → Bool
 nextFlag c t d k = xor (k .flag) (t && sideFlag c d)
 
@@ -76,7 +76,7 @@ module _ {Seed : Type 0} (_⊕_ : Seed → Seed → Seed) where
     right = xor (xor ((n0 true) .flag) ((n1 true) .flag)) b;
   }
 
-  -- key making after that level, by its correction c: "V becomes V - v1 Keep + v0 Keep + Sign × W"
+  -- key making after that level, by its correction c: "V becomes V - v1 Keep + v0 Keep + Sign × W" [SPEC 7.8]
   unfoldable pub kept : Correction Seed → Bool → Making Seed → Opened Seed → Opened Seed → Making Seed
   kept c b g n0 n1 = record {
     s0 = nextSeed c (g .t0) (n0 b);
@@ -87,7 +87,7 @@ module _ {Seed : Type 0} (_⊕_ : Seed → Seed → Seed) where
   }
 
   -- "At each level add v of the side taken, plus W if the old
-  -- flag was 1": a level of a walk to side d, whose child is k
+  -- flag was 1": a level of a walk to side d, whose child is k [SPEC 8.3]
   unfoldable pub taken : Correction Seed → Bool → Child Seed → Walk Seed → Walk Seed
   taken c d k w = record {
     seed = nextSeed c (w .flag) k;
@@ -96,7 +96,7 @@ module _ {Seed : Type 0} (_⊕_ : Seed → Seed → Seed) where
   }
 
   module _ (node : ℕ → Seed → Opened Seed) (first : Seed → ℕ) where
-    -- "At each of 32 levels both parties' seeds are opened"
+    -- "At each of 32 levels both parties' seeds are opened" [SPEC 7.3]
     unfoldable pub levelCorrection : ℕ → Bool → Making Seed → Correction Seed
     levelCorrection i b g = correction b g (node i (g .s0)) (node i (g .s1))
 
@@ -104,7 +104,7 @@ module _ {Seed : Type 0} (_⊕_ : Seed → Seed → Seed) where
     nextMaking i b g = kept (levelCorrection i b g) b g (node i (g .s0)) (node i (g .s1))
 
     -- "Start with the two key seeds, flags 0 and 1, and V = 0":
-    -- after i levels, for the point whose bits are r 0, r 1, ..
+    -- after i levels, for the point whose bits are r 0, r 1, .. [SPEC 7.2]
     unfoldable pub making : Seed → Seed → (ℕ → Bool) → ℕ → Making Seed
     making a b r zero = record { s0 = a; s1 = b; t0 = false; t1 = true; v = 0 }
     making a b r (suc i) = nextMaking i (r i) (making a b r i)
@@ -114,6 +114,7 @@ module _ {Seed : Type 0} (_⊕_ : Seed → Seed → Seed) where
     keyCorrection a b r i = levelCorrection i (r i) (making a b r i)
 
     -- "Final word = Sign × (s1 - s0 - V), with Sign from party 1's last flag and s the first word of each last seed"
+    -- [SPEC 7.13]
     unfoldable pub lastWord : Making Seed → ℕ
     lastWord g = bySign (g .t1) (sub (sub (first (g .s1)) (first (g .s0))) (g .v))
 
@@ -121,6 +122,7 @@ module _ {Seed : Type 0} (_⊕_ : Seed → Seed → Seed) where
     finalWord a b r n = lastWord (making a b r n)
 
     -- "Walk u's bits from the highest, opening and correcting as above": level i, to side d under the correction c
+    -- [SPEC 8.2]
     unfoldable pub nextWalk : ℕ → Correction Seed → Bool → Walk Seed → Walk Seed
     nextWalk i c d w = taken c d (node i (w .seed) d) w
 
@@ -128,10 +130,10 @@ module _ {Seed : Type 0} (_⊕_ : Seed → Seed → Seed) where
     walk c u s t zero = record { seed = s; flag = t; total = 0 }
     walk c u s t (suc i) = nextWalk i (c i) (u i) (walk c u s t i)
 
-    -- "At the end add the first word of the seed, plus the final word if the flag is 1"
+    -- "At the end add the first word of the seed, plus the final word if the flag is 1" [SPEC 8.6]
     unfoldable pub total : ℕ → Walk Seed → ℕ
     total f w = add (add (w .total) (first (w .seed))) (only (w .flag) f)
 
-    -- "Party 1 negates the total". Party p starts with flag p: the party's value at u, n levels deep
+    -- "Party 1 negates the total". Party p starts with flag p: the party's value at u, n levels deep [SPEC 8.1, 8.7]
     unfoldable pub value : Bool → (ℕ → Correction Seed) → ℕ → Seed → (ℕ → Bool) → ℕ → ℕ
     value p c f s u n = bySign p (total f (walk c u s p n))

@@ -1,5 +1,5 @@
 -- Dealing a set (01, "Dealing a set"): the words that the dealer draws, and the set that each party gets. A party is
--- its number. Assumes nothing.
+-- its number. Assumes nothing. [SPEC 5.1, 5.9 to 5.11]
 use mathlib.Core.Bool.{cond}
 use mathlib.Core.List.{List, [], _∷_}
 use Prim.Native.Nat.{ℕ, _+_, _*_}
@@ -14,12 +14,12 @@ use Rattle.content.specs.declared.Set.{Set}
 use Rattle.content.specs.Content.{part, fill}
 
 -- "words from the ChaCha20 key stream of the set seed (block
--- counter from 0, nonce byte 0 is 1, the other eleven are 0)"
+-- counter from 0, nonce byte 0 is 1, the other eleven are 0)" [SPEC 5.2]
 unfoldable pub setWords : List ℕ → ℕ → List ℕ
 setWords seed n = stream (wordsAt 8 seed) (1 ∷ 0 ∷ 0 ∷ []) (4 * n + 19)
 
 -- "in this order: L words each of x0, x1, y0, y1; then c0, r,
--- r0; then eight words each for the key seeds of party 0 and 1"
+-- r0; then eight words each for the key seeds of party 0 and 1" [SPEC 5.3]
 module _ (n : ℕ) (w : List ℕ) where
   unfoldable pub x : ℕ → List ℕ
   x party = part (party * n) n w
@@ -39,7 +39,7 @@ module _ (n : ℕ) (w : List ℕ) where
   unfoldable pub keySeed : ℕ → List ℕ
   keySeed party = part (4 * n + 3 + 8 * party) 8 w
 
-  -- "X's mask is x0 + x1, element by element; Y's is y0 + y1"
+  -- "X's mask is x0 + x1, element by element; Y's is y0 + y1" [SPEC 5.5, 5.6]
   unfoldable pub maskX : List ℕ
   maskX = plus n (x 0) (x 1)
 

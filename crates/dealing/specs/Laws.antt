@@ -1,5 +1,6 @@
 -- What holds of a dealt set: its fields lie in their ranges (01, "The sealed half"), and two boxes that compute with
 -- the two sets of a deal get the join law's sum (01, "One check at a box"). For every set seed. Assumes nothing.
+-- [SPEC 9.1, 18.7]
 use mathlib.Core.Path.{_≡_, refl, ap, ap₂}
 use mathlib.Core.Bool.{Bool, true, false, cond}
 use mathlib.Core.List.{List, [], _∷_, _++_}

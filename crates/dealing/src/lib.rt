@@ -1,5 +1,6 @@
 // Deals a set (01, "Dealing a set"): from the set seed's key stream to what each party's half holds.
 // The words that are drawn stand in one array, in 01's order, and are read from there by their place.
+// [SPEC 5.2, 5.3, 5.9 to 5.11]
 ghost use mathlib.Core.Path.{_≡_};
 ghost use mathlib.Core.List.{List};
 ghost use Prim.Native.Nat.{ℕ, _+_, _*_, _≤_};

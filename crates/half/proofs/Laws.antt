@@ -22,9 +22,11 @@ use Rattle.half.specs.Half.{header, block, textAt, firstBlocks, half}
 use Rattle.half.specs.OneTime.{header-words}
 use Rattle.half.specs.Laws.{part-front, length-tag, length-block, length-blocks, put-over}
 
-pub header-law : (a i x y : ℕ) (out t : List ℕ) → x ≡ a % 2 ^ 32 → y ≡ a / 2 ^ 32 → length out ≡ 12 → t ≡ over 0 (bytesOf (x ∷ y ∷ i ∷ [])) out → t ≡ header a i
+pub header-law : (a i x y : ℕ) (out t : List ℕ) → x ≡ a % 2 ^ 32 → y ≡ a / 2 ^ 32
+    → length out ≡ 12 → t ≡ over 0 (bytesOf (x ∷ y ∷ i ∷ [])) out → t ≡ header a i
 unfolding bytesOf le32 nonceOf
-header-law a i x y out t ex ey size e = e ∙ over-all (bytesOf (x ∷ y ∷ i ∷ [])) out (sym size) ∙ (λ j. nonceOf (ex j) (ey j) i) ∙ header-words a i
+header-law a i x y out t ex ey size e =
+    e ∙ over-all (bytesOf (x ∷ y ∷ i ∷ [])) out (sym size) ∙ (λ j. nonceOf (ex j) (ey j) i) ∙ header-words a i
 
 -- ---- a block
 
@@ -36,8 +38,10 @@ module _ (key h text out0 : List ℕ) (lh : length h ≡ 12) (lt : length text �
   -- after the two copies
   two : (out1 out2 : List ℕ) → out1 ≡ over 0 h out0 → out2 ≡ over 12 text out1 → out2 ≡ h ++ (text ++ rest)
   two out1 out2 e f =
-      let first : out1 ≡ h ++ drop 12 out0 = e ∙ over-after [] h out0 0 refl (omega arith) ∙ ap (λ (k : ℕ). h ++ drop k out0) lh in
-      f ∙ ap (over 12 text) first ∙ over-after h text (drop 12 out0) 12 lh (omega (arith, length-drop 12 out0)) ∙ ap (λ (k : ℕ). h ++ (text ++ drop k (drop 12 out0))) lt
+      let first : out1 ≡ h ++ drop 12 out0 =
+      e ∙ over-after [] h out0 0 refl (omega arith) ∙ ap (λ (k : ℕ). h ++ drop k out0) lh in
+      f ∙ ap (over 12 text) first ∙ over-after h text (drop 12 out0) 12 lh (omega (arith, length-drop 12 out0))
+      ∙ ap (λ (k : ℕ). h ++ (text ++ drop k (drop 12 out0))) lt
 
   module _ (out1 out2 y out : List ℕ) (s : Sealed) (e1 : out1 ≡ over 0 h out0) (e2 : out2 ≡ over 12 text out1) where
     middle : take textBytes (drop 12 out2) ≡ text
@@ -60,7 +64,9 @@ module _ (key h text out0 : List ℕ) (lh : length h ≡ 12) (lt : length text �
 
     tag-is : s ≡ sealed key h h (take textBytes (drop 12 out2)) → s .tag ≡ tagFor key h h (cipher key h text)
     unfolding sealed within
-    tag-is e = ap (λ z. z .tag) e ∙ ap (λ (l : List ℕ). sealed key h h l .tag) middle ∙ rw (le-leb (length text) ((2 ^ 32 - 1) * 64) (omega arith)) refl
+    tag-is e =
+        ap (λ z. z .tag) e ∙ ap (λ (l : List ℕ). sealed key h h l .tag) middle
+        ∙ rw (le-leb (length text) ((2 ^ 32 - 1) * 64) (omega arith)) refl
 
     pub length-put : y ≡ sealedText key h (take textBytes (drop 12 out2))
         → length (putMid 12 textBytes out2 y) ≡ blockBytes
@@ -82,10 +88,12 @@ module _ (key h text out0 : List ℕ) (lh : length h ≡ 12) (lt : length text �
         f ∙ ap (over (12 + textBytes) (s .tag)) (put ly ∙ sym (append-assoc h y rest))
         ∙ over-after (h ++ y) (s .tag) rest (12 + textBytes) lf (omega (arith, length-rest, length-tag-is g))
         ∙ append-assoc h y (s .tag ++ drop (length (s .tag)) rest)
-        ∙ ap (λ (l : List ℕ). h ++ (y ++ l)) (ap (λ (l : List ℕ). s .tag ++ l) (drop-of-length-le rest end) ∙ append-nil (s .tag))
+        ∙ ap (λ (l : List ℕ). h ++ (y ++ l))
+        (ap (λ (l : List ℕ). s .tag ++ l) (drop-of-length-le rest end) ∙ append-nil (s .tag))
         ∙ ap₂ (λ (a b : List ℕ). h ++ (a ++ b)) (sealed-is e) (tag-is g)
 
-  pub is-block : (set i : ℕ) → h ≡ header set i → h ++ (cipher key h text ++ tagFor key h h (cipher key h text)) ≡ block key set i text
+  pub is-block : (set i : ℕ) → h ≡ header set i
+      → h ++ (cipher key h text ++ tagFor key h h (cipher key h text)) ≡ block key set i text
   unfolding block
   is-block set i e = ap (λ (l : List ℕ). l ++ (cipher key l text ++ tagFor key l l (cipher key l text))) e
 

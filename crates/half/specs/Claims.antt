@@ -1,5 +1,6 @@
--- Claim half: the half that a deal writes for a party is taken there and opens to the dealt set; and of any whole blocks that some deals of distinct numbers wrote for that
--- party, only one deal's whole half is taken. A deal is its set here. Assumes nothing.
+-- Claim half: the half that a deal writes for a party is taken there and opens to the dealt set; and of any whole
+-- blocks that some deals of distinct numbers wrote for that party, only one deal's whole half is taken. A deal is its
+-- set here. Assumes nothing.
 use mathlib.Core.Path.{_≡_, refl, sym, ap, ap₂, _∙_, subst}
 use mathlib.Core.Bool.{Bool, true, false, _&&_}
 use mathlib.Core.List.{List, _++_}
@@ -79,7 +80,8 @@ module _ (key name : List ℕ) (party : ℕ) (named : length name ≡ 16) where
           le-leb count mostBlocks (some-blocks .1),
           half-number,
           lt-ltb last (s .number) l,
-          are-fit key (s .number) text (half key name party s) count (omega (arith, long)) (p .number-fits) (omega (arith, some-blocks .1)) half-number are,
+          are-fit key (s .number) text (half key name party s) count (omega (arith, long))
+              (p .number-fits) (omega (arith, some-blocks .1)) half-number are,
           opens-to,
           fits-plain name party s named p,
         )
@@ -116,15 +118,22 @@ module _ (key name : List ℕ) (party : ℕ) (named : length name ≡ 16) where
       }
 
   -- block i of those that fit
-  fits-at : (h : List ℕ) (k i : ℕ) → firstFit key h k ≡ true → i < k → blockFits key (setNumber h) i (blockAt h i) ≡ true
+  fits-at : (h : List ℕ) (k i : ℕ) → firstFit key h k ≡ true → i < k
+      → blockFits key (setNumber h) i (blockAt h i) ≡ true
   unfolding firstFit
   fits-at h zero i e l = absurd (omega arith)
-  fits-at h (suc k) i e l = last-or (ltb i k) refl (both (firstFit key h k) (blockFits key (setNumber h) k (blockAt h k)) e) (λ e l. fits-at h k i e l)
+  fits-at h (suc k) i e l =
+      last-or (ltb i k) refl (both (firstFit key h k) (blockFits key (setNumber h) k (blockAt h k)) e)
+      (λ e l. fits-at h k i e l)
     where
-      last-or : (t : Bool) → ltb i k ≡ t → (firstFit key h k ≡ true) × (blockFits key (setNumber h) k (blockAt h k) ≡ true)
-          → (firstFit key h k ≡ true → i < k → blockFits key (setNumber h) i (blockAt h i) ≡ true) → blockFits key (setNumber h) i (blockAt h i) ≡ true
+      last-or : (t : Bool) → ltb i k ≡ t
+          → (firstFit key h k ≡ true) × (blockFits key (setNumber h) k (blockAt h k) ≡ true)
+          → (firstFit key h k ≡ true → i < k → blockFits key (setNumber h) i (blockAt h i) ≡ true)
+          → blockFits key (setNumber h) i (blockAt h i) ≡ true
       last-or true q b before = before (b .0) (ltb-true i k q)
-      last-or false q b before = let same : k ≡ i = omega (arith, ltb-false i k q) in subst (λ (j : ℕ). blockFits key (setNumber h) j (blockAt h j) ≡ true) same (b .1)
+      last-or false q b before =
+          let same : k ≡ i = omega (arith, ltb-false i k q) in
+          subst (λ (j : ℕ). blockFits key (setNumber h) j (blockAt h j) ≡ true) same (b .1)
 
   -- blocks that are a list's, all of it, make the list
   made : (set : ℕ) (p h : List ℕ) (k : ℕ) → blockBytes * k ≤ length h
@@ -140,7 +149,8 @@ module _ (key name : List ℕ) (party : ℕ) (named : length name ≡ 16) where
       (part-is (blockBytes * k) blockBytes h ∙ f k (omega arith)))
 
   -- some deals, whose sets' numbers are distinct
-  module _ (D : Set → Type 0) (sound : (s : Set) → D s → Proper s) (one : (s t : Set) → D s → D t → s .number ≡ t .number → s ≡ t) where
+  module _ (D : Set → Type 0) (sound : (s : Set) → D s → Proper s)
+      (one : (s t : Set) → D s → D t → s .number ≡ t .number → s ≡ t) where
     -- a block that some deal wrote for this party
     pub record Wrote (b : List ℕ) : Type 0 where
       pub set : Set
@@ -188,11 +198,15 @@ module _ (key name : List ℕ) (party : ℕ) (named : length name ≡ 16) where
           × (blockAt h i ≡ block key (deal .number) i (textAt (plain name party deal) i))
       all-its i l =
           let w = wrote i l in
-          let same : w .set ≡ deal = one (w .set) deal (w .dealt) (wrote 0 none .dealt) (placed i l .1 ∙ sym (placed 0 none .1)) in
+          let same : w .set ≡ deal =
+          one (w .set) deal (w .dealt) (wrote 0 none .dealt) (placed i l .1 ∙ sym (placed 0 none .1)) in
           let among : i < blockCount (deal .terms .n) =
           subst (λ (s : Set). i < blockCount (s .terms .n)) same
-          (subst (λ (k : ℕ). k < blockCount (w .set .terms .n)) (placed i l .0) (w .among)) in
-          (among, w .is ∙ ap₂ (λ (s : Set) (k : ℕ). blockAt (half key name party s) k) same (placed i l .0) ∙ are deal proper i among)
+          (subst (λ (k : ℕ). k < blockCount (w .set .terms .n)) (placed i l .0) (w .among)) in (
+            among,
+            w .is ∙ ap₂ (λ (s : Set) (k : ℕ). blockAt (half key name party s) k) same (placed i l .0)
+                ∙ are deal proper i among,
+          )
 
       -- as many blocks as it has
       counts : length h / blockBytes ≡ blockCount (deal .terms .n)
@@ -221,4 +235,6 @@ module _ (key name : List ℕ) (party : ℕ) (named : length name ≡ 16) where
     -- Of whole blocks each of which some deal wrote for this party, what is taken is one deal's whole half
     pub only-whole : (last : ℕ) (h : List ℕ) → ((i : ℕ) → i < length h / blockBytes → Wrote (blockAt h i))
         → whyNot key name party last h ≡ 0 → (s : Set) × D s × (h ≡ half key name party s)
-    only-whole last h wrote e = let t = taken last h e in (deal h wrote t, wrote 0 (none h wrote t) .dealt, is-its h wrote t)
+    only-whole last h wrote e =
+        let t = taken last h e in
+        (deal h wrote t, wrote 0 (none h wrote t) .dealt, is-its h wrote t)

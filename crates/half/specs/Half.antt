@@ -1,5 +1,5 @@
 -- A half as blocks (01, "The sealed half"), and why one is turned down (01, "When a call is turned down", 4, 7, 10 and
--- 11). Assumes nothing.
+-- 11). Assumes nothing. [SPEC 10.1, 10.2, 10.6, 23.4, 23.7, 23.10, 23.11]
 use mathlib.Core.Bool.{Bool, true, _&&_}
 use mathlib.Core.List.{List, [], _++_}
 use Prim.Native.Nat.{ℕ, zero, suc, _+_, _*_, _/_, _%_}
@@ -13,7 +13,7 @@ use Rattle.content.specs.Content.{blockBytes, textBytes, mostBlocks, part, bloc
 
 -- "A block is 512 bytes: set number (8, little-endian), block index from 0 (4, little-endian), 484 sealed bytes, tag
 -- (16). Sealing is RFC 8439's ChaCha20-Poly1305 under the box's key, with the first twelve bytes as nonce and as
--- additional data"
+-- additional data" [SPEC 10.1, 10.3, 10.4]
 unfoldable pub header : ℕ → ℕ → List ℕ
 header set i = bytes 8 set ++ bytes 4 i
 
@@ -41,11 +41,11 @@ half key name party s = firstBlocks key (s .number) (plain name party s) (blockC
 unfoldable pub blockAt : List ℕ → ℕ → List ℕ
 blockAt h i = part (blockBytes * i) blockBytes h
 
--- "load by block 0's number"
+-- "load by block 0's number" [SPEC 15.2, 23.7]
 unfoldable pub setNumber : List ℕ → ℕ
 setNumber h = number (part 0 8 h)
 
--- "A block's index is not its place, its number differs from block 0's, or its tag doesn't fit"
+-- "A block's index is not its place, its number differs from block 0's, or its tag doesn't fit" [SPEC 23.10]
 unfoldable pub blockFits : List ℕ → ℕ → ℕ → List ℕ → Bool
 blockFits key set i b =
     let h : List ℕ = part 0 12 b in
@@ -64,7 +64,7 @@ unfoldable pub openedBlocks : List ℕ → List ℕ → ℕ → List ℕ
 openedBlocks key h zero = []
 openedBlocks key h (suc i) = openedBlocks key h i ++ textIn key (blockAt h i)
 
--- "a half 3 to 16 whole blocks"
+-- "a half 3 to 16 whole blocks" [SPEC 23.4]
 unfoldable pub wholeBlocks : List ℕ → Bool
 wholeBlocks h =
     eqb (length h % blockBytes) 0 && (leb 3 (length h / blockBytes) && leb (length h / blockBytes) mostBlocks)

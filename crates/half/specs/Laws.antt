@@ -59,11 +59,19 @@ module _ (key : List ℕ) (set i : ℕ) (text : List ℕ) (long : length text �
 
   pub length-block : length (block key set i text) ≡ blockBytes
   unfolding block
-  length-block = omega (arith, length-append h (sealed ++ tag), length-append sealed tag, length-header set i, length-sealed, length-tag key h h sealed)
+  length-block = omega (
+    arith,
+    length-append h (sealed ++ tag),
+    length-append sealed tag,
+    length-header set i,
+    length-sealed,
+    length-tag key h h sealed,
+  )
 
   pub block-header : part 0 12 (block key set i text) ≡ h
   unfolding block
-  block-header = part-front h (sealed ++ tag) 0 12 (omega (arith, length-header set i)) ∙ part-all h 12 (length-header set i)
+  block-header =
+      part-front h (sealed ++ tag) 0 12 (omega (arith, length-header set i)) ∙ part-all h 12 (length-header set i)
 
   pub block-set : part 0 8 (block key set i text) ≡ bytes 8 set
   unfolding block header
@@ -102,7 +110,8 @@ module _ (key : List ℕ) (set i : ℕ) (text : List ℕ) (long : length text �
   -- it opens, to the text that was sealed
   pub block-opens : (let b : List ℕ = block key set i text in
       opens key (part 0 12 b) (part 0 12 b) (part 12 textBytes b) (part (12 + textBytes) 16 b)) ≡ true
-  block-opens = rw (block-header, block-sealed, block-tag) (opens-if key h h sealed tag (omega (arith, length-sealed)) refl)
+  block-opens =
+      rw (block-header, block-sealed, block-tag) (opens-if key h h sealed tag (omega (arith, length-sealed)) refl)
 
   pub block-text : cipher key (part 0 12 (block key set i text)) (part 12 textBytes (block key set i text)) ≡ text
   block-text = rw (block-header, block-sealed) (cipher-twice key h text)

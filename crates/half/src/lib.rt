@@ -1,4 +1,4 @@
-// Seals a half in blocks (01, "The sealed half"). `opening` examines one.
+// Seals a half in blocks (01, "The sealed half"). `opening` examines one. [SPEC 10.1 to 10.4, 10.6]
 ghost use mathlib.Core.Path.{_≡_};
 ghost use Prim.Native.Nat.{_*_, _/_, _%_, _^_, _≤_, _<_};
 ghost use lib.ListN.{length};

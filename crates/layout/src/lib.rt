@@ -1,4 +1,4 @@
-// The plain bytes of a set (01, "The sealed half"), field after field.
+// The plain bytes of a set (01, "The sealed half"), field after field. [SPEC 9.1 to 9.3, 9.5]
 ghost use mathlib.Core.Path.{_≡_};
 ghost use mathlib.Core.List.{[], _∷_, _++_, map};
 ghost use Prim.Native.Nat.{_+_, _-_, _*_, _<_, _≤_};

@@ -1,5 +1,6 @@
 -- The lock (01, "One check at a box" and "When a call is turned down"): why a start or a join is turned down, the next
 -- state, and what it reports, for any state and anything handed in. Assumes nothing.
+-- [SPEC 13.1, 13.4, 13.5, 20.1 to 20.4, 24.3, 24.10]
 use mathlib.Core.Bool.{_&&_}
 use mathlib.Core.List.{List}
 use Prim.Native.Nat.{ℕ}
@@ -27,7 +28,7 @@ startLock name floor =
     let why : ℕ = whyNotLock name in
     record { why = why; lock = ifTaken why (record { name = padded name; last = floor }) noLock; bit = 0 }
 
--- "The lock takes party 0's answer first and party 1's second, and joins by summing the two"
+-- "The lock takes party 0's answer first and party 1's second, and joins by summing the two" [SPEC 20.1, 20.2]
 unfoldable pub whyNotJoin : Lock → Label → List ℕ → ℕ → Label → List ℕ → ℕ → ℕ
 whyNotJoin s l0 name0 answer0 l1 name1 answer1 =
     unless (isName name0 && isName name1) wrongLength

@@ -63,6 +63,7 @@ module _ (name : List ℕ) (last : ℕ) (l0 : Label) (name0 : List ℕ)
       go false e = rw (← off-lock (eqb-false _ _ e)) (omega arith)
 
   -- "it gets 0 or 1, or 100 plus the refusal number, and after a 0 or 1 the joined number is the last one"
+  -- [SPEC 21.2 to 21.4]
   pub told : ((cJoin name last l0 name0 answer0 l1 name1 answer1 ≤ 1)
       × (cLast name last l0 name0 answer0 l1 name1 answer1 ≡ l0 .number))
       ⊎ ((100 < cJoin name last l0 name0 answer0 l1 name1 answer1)

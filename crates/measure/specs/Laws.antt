@@ -1,6 +1,6 @@
 -- What a caller uses of the measures: how long a vector may be; their words are the residues of the whole numbers; what
 -- two boxes open fits a signed word (01, "Measures"), and the word's sign says whether the threshold is reached; and
--- that by the table's signs all this is 01's, word for word. Assumes nothing.
+-- that by the table's signs all this is 01's, word for word. Assumes nothing. [SPEC 3.5]
 use mathlib.Core.Path.{_≡_, refl, sym, ap, ap₂, _∙_, subst}
 use mathlib.Core.Bool.{Bool, true, false, cond, _&&_}
 use mathlib.Core.List.{List, [], _∷_}
@@ -76,7 +76,7 @@ unfolding word
 word-lt (pos n) = omega arith
 word-lt (negsuc n) = neg-lt (suc n)
 
--- ---- "A negative number stands for itself plus 2^32": a number's word, read as signed, is the number
+-- ---- "A negative number stands for itself plus 2^32": a number's word, read as signed, is the number [SPEC 2.3, 2.4]
 
 pub signed-low : (w : ℕ) → w < 2 ^ 31 → signed w ≡ pos w
 unfolding signed
@@ -214,7 +214,7 @@ one-sum terms x y =
     (r .k)
     n
 
--- ---- "So measure - T always lies from -2^31 to 2^31 - 1", and so does T - measure
+-- ---- "So measure - T always lies from -2^31 to 2^31 - 1", and so does T - measure [SPEC 3.5]
 
 -- an element of a row's range
 record In (r : Row) (z : ℤ) : Type 0 where
@@ -442,7 +442,7 @@ difference-plain terms m t = ap (λ (s : ℤ). s *ℤ (m -ℤ t)) (sign-plain te
     once : (d : ℤ) → pos 1 *ℤ d ≡ d
     once d = ringℤ (d ∷ []) (search reifyℤ depth 20 fits 5000) refl
 
--- "Reached means measure ≥ T, for all three"
+-- "Reached means measure ≥ T, for all three" [SPEC 3.6]
 pub reached-plain : (terms : Terms) (m t : ℤ) → reached terms m t ≡ leZ t m
 unfolding reached
 reached-plain terms m t = ap (leZ (pos 0)) (difference-plain terms m t) ∙ above-zero m t

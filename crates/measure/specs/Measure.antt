@@ -1,6 +1,7 @@
 -- The three measures (01, "Measures"): the table, the whole number that a set's terms and two vectors have, and the
 -- words that a box computes. Elements and thresholds are words: a negative number stands for itself plus 2^32. The
 -- terms are what both boxes know of a set: its measure's code, and L as `n`. Assumes nothing.
+-- [SPEC 2.3, 2.4, 3.1 to 3.3]
 use mathlib.Core.Bool.{Bool, true, false, cond, _&&_}
 use mathlib.Core.List.{List, [], _∷_}
 use Prim.Native.Nat.{ℕ, zero, suc, _*_, _-_, _%_, _^_}
@@ -18,7 +19,7 @@ mostElements = 512
 
 -- 01's table, a row for each code. `squares`: own is the sum of squares, else 0. An element lies from `low` to `high`,
 -- a threshold from `least` to `most`. Two columns more: a vector has at most `longest` elements; `sign` is 1 where a
--- set opens measure - T, and would be -1 where it opened T - measure.
+-- set opens measure - T, and would be -1 where it opened T - measure. [SPEC 3.3]
 pub record Row : Type 0 where
   pub squares : Bool
   pub k : ℤ
@@ -54,13 +55,13 @@ unfoldable pub hamming : Row
 hamming = columns true (negℤ (pos 2)) (pos 0) (pos 1) (pos 0) (pos 513) mostElements (pos 1)
 
 -- 01's table, column "code". A code above 2 reads as 2: no accepted
--- call has one (01, "When a call is turned down", 2, 3 and 11).
+-- call has one (01, "When a call is turned down", 2, 3 and 11). [SPEC 3.3, 3.10, 23.2]
 unfoldable pub row : ℕ → Row
 row zero = scalarProduct
 row (suc zero) = squaredEuclid
 row (suc (suc code)) = hamming
 
--- the codes that there are (01, "When a call is turned down", 2)
+-- the codes that there are (01, "When a call is turned down", 2) [SPEC 23.2]
 unfoldable pub isCode : ℕ → Bool
 isCode code = ltb code 3
 
@@ -72,7 +73,7 @@ lengthFits terms = leb 1 (terms .n) && leb (terms .n) (row (terms .code) .longes
 unfoldable pub element : List ℕ → ℕ → ℤ
 element v i = signed (getD v i 0)
 
--- own(X) over the first L places (01's table, column "own")
+-- own(X) over the first L places (01's table, column "own") [SPEC 3.3, 3.4]
 unfoldable pub own : Terms → List ℕ → ℤ
 own terms v = cond (row (terms .code) .squares) (sumℤ (λ i. element v i *ℤ element v i) (terms .n)) (pos 0)
 
@@ -80,7 +81,7 @@ own terms v = cond (row (terms .code) .squares) (sumℤ (λ i. element v i *ℤ 
 unfoldable pub cross : Terms → List ℕ → List ℕ → ℤ
 cross terms x y = sumℤ (λ i. element x i *ℤ element y i) (terms .n)
 
--- "Measure = own(X) + own(Y) + k × (sum of X_i × Y_i)"
+-- "Measure = own(X) + own(Y) + k × (sum of X_i × Y_i)" [SPEC 3.2]
 unfoldable pub measure : Terms → List ℕ → List ℕ → ℤ
 measure terms x y = own terms x +ℤ own terms y +ℤ row (terms .code) .k *ℤ cross terms x y
 
@@ -101,7 +102,7 @@ reached terms m t = leZ (pos 0) (difference terms m t)
 unfoldable pub within : ℤ → ℤ → ℤ → Bool
 within low high z = leZ low z && leZ z high
 
--- 01's table, column "elements": terms, word
+-- 01's table, column "elements": terms, word [SPEC 3.3, 23.8]
 unfoldable pub inRange : Terms → ℕ → Bool
 inRange terms w = within (row (terms .code) .low) (row (terms .code) .high) (signed w)
 
@@ -109,13 +110,13 @@ unfoldable pub allInRange : Terms → List ℕ → Bool
 allInRange terms [] = true
 allInRange terms (w ∷ v) = inRange terms w && allInRange terms v
 
--- 01's table, column "threshold T": terms, word
+-- 01's table, column "threshold T": terms, word [SPEC 3.3, 23.8]
 unfoldable pub thresholdFits : Terms → ℕ → Bool
 thresholdFits terms t = within (row (terms .code) .least) (row (terms .code) .most) (signed t)
 
--- ---- as words (01, "Measures": "word sums, differences and products are taken modulo 2^32")
+-- ---- as words (01, "Measures": "word sums, differences and products are taken modulo 2^32") [SPEC 2.2, 3.7]
 
--- "A negative number stands for itself plus 2^32"
+-- "A negative number stands for itself plus 2^32" [SPEC 2.3]
 unfoldable pub word : ℤ → ℕ
 word (pos n) = n % 2 ^ 32
 word (negsuc n) = neg (suc n)
@@ -139,7 +140,7 @@ abbrev pub ordinaryWidth : ℕ
 ordinaryWidth = 2 ^ 31 - 1
 
 -- the table of squares: n of them, from that of i on. The checker computes this list and holds the constant to it,
--- entry by entry
+-- entry by entry [SPEC 3.8]
 unfoldable pub squaresFrom : ℕ → ℕ → List ℕ
 squaresFrom i zero = []
 squaresFrom i (suc n) = i * i ∷ squaresFrom (suc i) n

@@ -1,6 +1,7 @@
 // The three measures (01, "Measures"): what the table says of each code, as words. Elements and
 // thresholds are words; a negative number stands for itself plus 2^32. No public function asks
 // anything of its caller. (1073741824 is 2^30, and 2147483648 is 2^31.) `own_term` has the own term.
+// [SPEC 2.3, 2.4, 3.3, 3.7]
 ghost use mathlib.Core.Path.{_≡_};
 ghost use Rattle.algebra.specs.Word.{signed};
 ghost use Rattle.measure.specs.Measure.{row, isCode, lengthFits, inRange, allInRange, thresholdFits};
@@ -43,7 +44,7 @@ pub struct Row {
 }
 
 impl Row {
-    // The columns in the order of 01's table, then the length's and the sign's.
+    // The columns in the order of 01's table, then the length's and the sign's. [SPEC 3.3]
     fn new(
         squares: bool,
         k: u32,

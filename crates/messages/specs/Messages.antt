@@ -1,5 +1,5 @@
 -- What every call of a door has in common: a chain of refusals, the door's name, and a message's label (01, "One check
--- at a box" and "When a call is turned down"). Assumes nothing.
+-- at a box" and "When a call is turned down"). Assumes nothing. [SPEC 11.1, 11.2, 11.4, 22.1]
 use mathlib.Core.Bool.{Bool, true, cond, _&&_}
 use mathlib.Core.List.{List, [], _∷_, _++_}
 use Prim.Native.Nat.{ℕ, _-_}
@@ -60,11 +60,11 @@ unfoldable pub printable : List ℕ → Bool
 printable [] = true
 printable (b ∷ s) = leb 32 b && (leb b 126 && printable s)
 
--- 1: "A name at a start is empty, above 16 bytes, or has a byte outside 32 to 126"
+-- 1: "A name at a start is empty, above 16 bytes, or has a byte outside 32 to 126" [SPEC 11.1, 23.1]
 unfoldable pub nameFits : List ℕ → Bool
 nameFits s = leb 1 (length s) && (leb (length s) 16 && printable s)
 
--- "the 16-byte name": zero after its end
+-- "the 16-byte name": zero after its end [SPEC 11.2]
 unfoldable pub padded : List ℕ → List ℕ
 padded s = s ++ replicate (16 - length s) 0
 
@@ -88,7 +88,7 @@ abbrev pub officeParty : ℕ
 officeParty = 1
 
 -- 6: "A message's kind is not the one this call takes, its name is not this door's padded name, or its sender is not
--- the expected party"
+-- the expected party" [SPEC 23.6]
 unfoldable pub expected : ℕ → List ℕ → ℕ → Label → List ℕ → Bool
 expected kind door sender l name = eqb (l .kind) kind && (same name door && eqb (l .sender) sender)
 
@@ -96,6 +96,6 @@ expected kind door sender l name = eqb (l .kind) kind && (same name door && eqb 
 unfoldable pub isName : List ℕ → Bool
 isName name = eqb (length name) 16
 
--- 4: "key or seed 32 bytes"
+-- 4: "key or seed 32 bytes" [SPEC 23.4]
 unfoldable pub isKey : List ℕ → Bool
 isKey key = eqb (length key) 32

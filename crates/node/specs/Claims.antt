@@ -103,6 +103,7 @@ shares k0 k1 r u hr hu =
     ∙ ap₂ less (all-bits 32 u hu) (all-bits 32 r hr))
 
 -- ---- a node in bytes: "Bytes 0 to 31 are the child seed, 32 to 35 its word v, the lowest bit of byte 36 its flag"
+-- [SPEC 6.3 to 6.5]
 
 pub blockword-lt : (s t : List ℕ) (i : ℕ) → getD (added s t) i 0 < 2 ^ 32
 unfolding added

@@ -1,5 +1,5 @@
 -- 01, "Node", "Key for a point" and "Value of a key at u", over ChaCha20 blocks and 32 levels: what the contracts of
--- key making and walking cite. A seed of 32 bytes is its eight words. Assumes nothing.
+-- key making and walking cite. A seed of 32 bytes is its eight words. Assumes nothing. [SPEC 6.1, 7.14, 8.7]
 use mathlib.Core.Path.{_≡_, refl}
 use mathlib.Core.List.{List, [], _∷_, _++_}
 use Prim.Native.Nat.{ℕ, zero, suc, _+_, _*_, _/_}
@@ -13,7 +13,7 @@ use Rattle.node.specs.declared.Key.{Key}
 use Rattle.node.specs.declared.Walk.{Walk}
 
 -- "Bytes 0 to 31 are the child seed, 32 to 35 its word v, the lowest bit of byte 36 its flag": words 0 to 7, word 8,
--- and the lowest bit of word 9
+-- and the lowest bit of word 9 [SPEC 6.3 to 6.6]
 unfoldable pub child : List ℕ → D.Child (List ℕ)
 child b = record { seed = take 8 b; word = getD b 8 0; flag = odd (getD b 9 0) }
 
@@ -27,7 +27,7 @@ pub length-nonce : (level : ℕ) → length (nodeNonce level) ≡ 3
 unfolding nodeNonce
 length-nonce level = refl
 
--- "the ChaCha20 block under that seed", at a counter, which opens a child of that level
+-- "the ChaCha20 block under that seed", at a counter, which opens a child of that level [SPEC 6.2]
 unfoldable pub openedBlock : ℕ → List ℕ → ℕ → List ℕ
 openedBlock level seed counter = block seed counter (nodeNonce level)
 
@@ -35,11 +35,11 @@ openedBlock level seed counter = block seed counter (nodeNonce level)
 unfoldable pub node : ℕ → List ℕ → D.Opened (List ℕ)
 node i seed side = child (openedBlock (i + 1) seed (only side 1))
 
--- "the first word of the seed"
+-- "the first word of the seed" [SPEC 7.13, 8.6]
 unfoldable pub first : List ℕ → ℕ
 first seed = getD seed 0 0
 
--- a correction as it is stored: of its flags bit 0 is the left one, bit 1 the right one ("The sealed half")
+-- a correction as it is stored: of its flags bit 0 is the left one, bit 1 the right one ("The sealed half") [SPEC 9.3]
 unfoldable pub packed : D.Correction (List ℕ) → Correction
 packed c = record { seed = c .seed; word = c .word; flags = only (c .left) 1 + 2 * only (c .right) 1 }
 

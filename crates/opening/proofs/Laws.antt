@@ -29,23 +29,28 @@ load-law b x y h e f = (λ i. e i + f i * 2 ^ 32) ∙ sym (number-words b 0 h)
 
 -- ---- a block's header: x, y and z are its three words
 
-module _ (b : List ℕ) (x y z set i : ℕ) (long : 12 ≤ length b) (ex : x ≡ wordAt b 0) (ey : y ≡ wordAt b 4) (ez : z ≡ wordAt b 8) where
+module _ (b : List ℕ) (x y z set i : ℕ) (long : 12 ≤ length b)
+    (ex : x ≡ wordAt b 0) (ey : y ≡ wordAt b 4) (ez : z ≡ wordAt b 8) where
   pub headed : (s : ℕ) → s ≡ x + y * 2 ^ 32 → eqb z i && eqb s set ≡ eqb (wordAt b 8) i && eqb (setNumber b) set
   headed s e = rw (ez, e ∙ load-law b x y (omega arith) ex ey) refl
 
-  header-is : z ≡ i → x + y * 2 ^ 32 ≡ set → x < 2 ^ 32 → y < 2 ^ 32 → z < 2 ^ 32 → wordsAt 3 (part 0 12 b) ≡ wordsAt 3 (header set i)
+  header-is : z ≡ i → x + y * 2 ^ 32 ≡ set → x < 2 ^ 32 → y < 2 ^ 32 → z < 2 ^ 32
+      → wordsAt 3 (part 0 12 b) ≡ wordsAt 3 (header set i)
   unfolding wordsAt tab
   header-is ei es hx hy hz =
       let low : set % 2 ^ 32 ≡ x = omega arith in
       let high : set / 2 ^ 32 ≡ y = omega arith in
       let made : wordsAt 3 (header set i) ≡ x ∷ y ∷ z ∷ [] =
-      ap (wordsAt 3) (sym (header-words set i)) ∙ nonce-words (set % 2 ^ 32) (set / 2 ^ 32) i (omega arith) (omega arith) (omega arith) ∙ (λ j. low j ∷ high j ∷ sym ei j ∷ []) in
+      ap (wordsAt 3) (sym (header-words set i))
+      ∙ nonce-words (set % 2 ^ 32) (set / 2 ^ 32) i (omega arith) (omega arith) (omega arith)
+      ∙ (λ j. low j ∷ high j ∷ sym ei j ∷ []) in
       let read0 = wordAt-part 0 12 b 0 (omega arith) ∙ sym ex in
       let read1 = wordAt-part 0 12 b 4 (omega arith) ∙ sym ey in
       let read2 = wordAt-part 0 12 b 8 (omega arith) ∙ sym ez in
       (λ j. read0 j ∷ read1 j ∷ read2 j ∷ []) ∙ sym made
 
-  pub headed-words : (s : ℕ) → s ≡ x + y * 2 ^ 32 → x < 2 ^ 32 → y < 2 ^ 32 → z < 2 ^ 32 → eqb z i && eqb s set ≡ true → wordsAt 3 (part 0 12 b) ≡ wordsAt 3 (header set i)
+  pub headed-words : (s : ℕ) → s ≡ x + y * 2 ^ 32 → x < 2 ^ 32 → y < 2 ^ 32 → z < 2 ^ 32 → eqb z i && eqb s set ≡ true
+      → wordsAt 3 (part 0 12 b) ≡ wordsAt 3 (header set i)
   headed-words s e hx hy hz ok =
       let parts = both (eqb z i) (eqb s set) ok in
       header-is (eqb-true z i (parts .0)) (sym e ∙ eqb-true s set (parts .1)) hx hy hz
@@ -55,7 +60,8 @@ pub nonce-part : (b n : List ℕ) → length b ≡ blockBytes → n ≡ over 0 (
 unfolding part
 nonce-part b n lb e = e ∙ over-all (take 12 b) (replicate 12 0) (length-take-le 12 b (omega arith))
 
--- a block's text: n, t and o are the copies of its nonce, its tag and its sealed bytes, and z is what the opening leaves of o
+-- a block's text: n, t and o are the copies of its nonce, its tag
+-- and its sealed bytes, and z is what the opening leaves of o
 module _ (key b out0 n t o : List ℕ) (r : Bool) (lb : length b ≡ blockBytes) (lo : length out0 ≡ textBytes)
     (en : n ≡ over 0 (take 12 (drop 0 b)) (replicate 12 0))
     (et : t ≡ over 0 (take 16 (drop (12 + textBytes) b)) (replicate 16 0))
@@ -138,4 +144,5 @@ module _ (key h out0 out b : List ℕ) (set i k m : ℕ) (fit this : Bool) (es :
 
 pub opened-all : (key h out0 out : List ℕ) (count : ℕ) → blockBytes * count ≤ length h → length out0 ≡ textBytes * count
     → out ≡ over 0 (openedBlocks key h count) out0 → out ≡ openedBlocks key h count
-opened-all key h out0 out count l lo e = e ∙ over-all (openedBlocks key h count) out0 (length-opened key h count l ∙ sym lo)
+opened-all key h out0 out count l lo e =
+    e ∙ over-all (openedBlocks key h count) out0 (length-opened key h count l ∙ sym lo)

@@ -19,11 +19,14 @@ use Rattle.half.specs.Half.{setNumber, firstFit, openedBlocks, wholeBlocks, why
 use Rattle.opening.specs.Examined.{refused, answerFor, examined}
 
 -- an answer that refuses, and one that does not
-refused-as : (why k : ℕ) (key h : List ℕ) (r : Examined) → r ≡ refused k → k ≡ why → (k ≡ 0 → ⊥) → r ≡ answerFor why key h
+refused-as : (why k : ℕ) (key h : List ℕ) (r : Examined) → r ≡ refused k → k ≡ why → (k ≡ 0 → ⊥)
+    → r ≡ answerFor why key h
 unfolding refused answerFor
-refused-as why k key h r e ek some = e ∙ (λ i. record { why = ek i; set = Refusals.refused (openedSet key h) noSet ek some i })
+refused-as why k key h r e ek some =
+    e ∙ (λ i. record { why = ek i; set = Refusals.refused (openedSet key h) noSet ek some i })
 
-opened-as : (why : ℕ) (key h : List ℕ) (s : Set) → 0 ≡ why → s ≡ openedSet key h → record { why = 0; set = s } ≡ answerFor why key h
+opened-as : (why : ℕ) (key h : List ℕ) (s : Set) → 0 ≡ why → s ≡ openedSet key h
+    → record { why = 0; set = s } ≡ answerFor why key h
 unfolding answerFor
 opened-as why key h s ew es = λ i. record { why = ew i; set = (es ∙ Refusals.taken (openedSet key h) noSet ew refl) i }
 
@@ -40,17 +43,23 @@ module _ (key name h : List ℕ) (party : ℕ) (fits : Bool) (ef : fits ≡ firs
     tested : fit ≡ contentFits name party (length h / blockBytes) (openedBlocks key h (length h / blockBytes))
     tested = ec ∙ ap (contentFits name party (length h / blockBytes)) et
 
-    pub whole-11 : (r : Examined) → not fit ≡ true → r ≡ refused 11 → r ≡ answerFor (whyNotOpened key name party h) key h
+    pub whole-11 : (r : Examined) → not fit ≡ true → r ≡ refused 11
+        → r ≡ answerFor (whyNotOpened key name party h) key h
     unfolding whyNotOpened
-    whole-11 r e er = refused-as _ 11 key h r er (goes-on _ 10 _ (rw ef at left) (turned-down _ 11 _ (rw tested at e))) (λ z. omega arith)
+    whole-11 r e er =
+        refused-as _ 11 key h r er
+        (goes-on _ 10 _ (rw ef at left) (turned-down _ 11 _ (rw tested at e))) (λ z. omega arith)
 
     pub whole-reads : not fit ≡ false → length t ≡ textBytes * (length h / blockBytes)
         → (lengthIn t ≤ mostElements) × (size (lengthIn t) ≤ length t)
     whole-reads e l = fits-reads name party (length h / blockBytes) t (sym ec ∙ not-false fit e) l
 
-    pub whole-0 : (number : ℕ) (s : Set) → not fit ≡ false → number ≡ setNumber h → s ≡ setIn number t → record { why = 0; set = s } ≡ answerFor (whyNotOpened key name party h) key h
+    pub whole-0 : (number : ℕ) (s : Set) → not fit ≡ false → number ≡ setNumber h → s ≡ setIn number t
+        → record { why = 0; set = s } ≡ answerFor (whyNotOpened key name party h) key h
     unfolding whyNotOpened openedSet
-    whole-0 number s e en es = opened-as _ key h s (goes-on _ 10 _ (rw ef at left) (goes-on _ 11 _ (rw tested at e) refl)) (es ∙ ap₂ setIn en et)
+    whole-0 number s e en es =
+        opened-as _ key h s (goes-on _ 10 _ (rw ef at left) (goes-on _ 11 _ (rw tested at e) refl))
+        (es ∙ ap₂ setIn en et)
 
 module _ (key name h : List ℕ) (party last : ℕ) (whole : Bool)
     (ew : whole
@@ -67,10 +76,14 @@ module _ (key name h : List ℕ) (party last : ℕ) (whole : Bool)
         (leb-true 3 (length h / blockBytes) (b .0), leb-true (length h / blockBytes) mostBlocks (b .1))
 
     module _ (number : ℕ) (en : number ≡ setNumber h) where
-      pub examined-7 : (r : Examined) → not (ltb last number) ≡ true → r ≡ refused 7 → r ≡ examined key name party last h
+      pub examined-7 : (r : Examined) → not (ltb last number) ≡ true → r ≡ refused 7
+          → r ≡ examined key name party last h
       unfolding examined whyNot wholeBlocks
-      examined-7 r e er = refused-as _ 7 key h r er (goes-on _ 4 _ (rw ew at left) (turned-down _ 7 _ (rw en at e))) (λ z. omega arith)
+      examined-7 r e er =
+          refused-as _ 7 key h r er (goes-on _ 4 _ (rw ew at left) (turned-down _ 7 _ (rw en at e))) (λ z. omega arith)
 
-      pub examined-whole : (r : Examined) → not (ltb last number) ≡ false → r ≡ answerFor (whyNotOpened key name party h) key h → r ≡ examined key name party last h
+      pub examined-whole : (r : Examined) → not (ltb last number) ≡ false
+          → r ≡ answerFor (whyNotOpened key name party h) key h → r ≡ examined key name party last h
       unfolding examined whyNot wholeBlocks
-      examined-whole r e er = er ∙ ap (λ (k : ℕ). answerFor k key h) (goes-on _ 4 _ (rw ew at left) (goes-on _ 7 _ (rw en at e) refl))
+      examined-whole r e er =
+          er ∙ ap (λ (k : ℕ). answerFor k key h) (goes-on _ 4 _ (rw ew at left) (goes-on _ 7 _ (rw en at e) refl))

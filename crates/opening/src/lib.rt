@@ -1,5 +1,5 @@
 // Examines a half: opens its blocks and reads the set (01, "The sealed half" and "When a call is turned
-// down").
+// down"). [SPEC 15.2, 15.3, 23.4, 23.7, 23.10, 23.11]
 ghost use mathlib.Core.Path.{_≡_};
 ghost use mathlib.Core.Bool.{true, _&&_};
 ghost use Prim.Native.Nat.{_+_, _*_, _/_, _%_, _^_, _≤_};

@@ -1,5 +1,5 @@
 // A box's own term of a measure (01, "Measures"): the sum of its elements' squares, looked up in a
-// table whose every entry is proved.
+// table whose every entry is proved. [SPEC 3.4, 3.8, 3.9]
 ghost use mathlib.Core.Path.{_≡_};
 ghost use Prim.Native.Nat.{_≤_};
 ghost use lib.ListN.{length, getD};

@@ -1,5 +1,5 @@
 // The table of squares: 1,025 entries, for 0 to 1,024 (01, "Measures").
-// Entry i is i * i.
+// Entry i is i * i. [SPEC 3.8]
 pub(crate) const SQUARES: [u32; 1025] = [
     0,
     1,

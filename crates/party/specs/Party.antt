@@ -1,5 +1,6 @@
 -- A box (01, "One check at a box" and "When a call is turned down"): for each call why it is turned down, the next
 -- state, what it sends, and what it leaves in a lent buffer, for any state and anything handed in. Assumes nothing.
+-- [SPEC 12.5, 13.3, 15.3, 16.3, 17.5, 18.5, 19.2, 24.2, 24.5 to 24.9]
 use mathlib.Core.Bool.{Bool, cond, _&&_, not}
 use mathlib.Core.List.{List}
 use Prim.Native.Nat.{ℕ, _-_}
@@ -75,6 +76,7 @@ startParty name party key floor =
 -- ---- the turn
 
 -- 3: "or the state handed in holds a phase or party, or at its phase a code or L, that no call leaves"
+-- [SPEC 12.16, 23.3]
 unfoldable pub stateFits : ℕ → ℕ → Terms → Bool
 stateFits party phase terms =
     leb party officeParty
@@ -84,7 +86,7 @@ stateFits party phase terms =
 unfoldable pub sound : Party → Bool
 sound s = stateFits (s .who .party) (s .check .phase) (s .check .set .terms)
 
--- 3: "A box call is out of its turn"
+-- 3: "A box call is out of its turn" [SPEC 12.15, 23.3]
 unfoldable pub inTurn : ℕ → Party → Bool
 inTurn phase s = eqb (s .check .phase) phase && sound s
 
@@ -113,11 +115,11 @@ whyNotMask s v room =
     (unless (leb (s .check .set .terms .n) room) shortBuffer
     (unless (allInRange (s .check .set .terms) v) outOfRange 0)))
 
--- "Mask its own vector: element plus mask, as words"
+-- "Mask its own vector: element plus mask, as words" [SPEC 16.2]
 unfoldable pub maskedVector : Set → ℕ → List ℕ → List ℕ
 maskedVector set party v = plus (set .terms .n) (carried (set .terms) party v) (set .mask)
 
--- "The state keeps the masked vector and own"
+-- "The state keeps the masked vector and own" [SPEC 16.4]
 unfoldable pub masked : Party → List ℕ → Party
 masked s v =
     withCheck s
@@ -151,12 +153,12 @@ unfoldable pub whyNotTake : Party → Label → List ℕ → List ℕ → ℕ
 whyNotTake s l name v =
     whyNotMessage maskedPhase vectorKind s l name (isName name && eqb (length v) (s .check .set .terms .n))
 
--- its share, from its own masked vector and the other's: MX is party 0's, MY party 1's
+-- its share, from its own masked vector and the other's: MX is party 0's, MY party 1's [SPEC 17.2]
 unfoldable pub boxShare : ℕ → ℕ → ℕ → List ℕ → List ℕ → List ℕ → List ℕ → ℕ
 boxShare party n c ownMasked other x y =
     cond (eqb party cameraParty) (Share.share party n c ownMasked other x y) (Share.share party n c other ownMasked x y)
 
--- "its word: k × (share) + own + its r" (Share.`boxWord`)
+-- "its word: k × (share) + own + its r" (Share.`boxWord`) [SPEC 17.4]
 unfoldable pub wordOf : Set → ℕ → List ℕ → ℕ → List ℕ → ℕ
 wordOf set party ownMasked own other =
     Share.boxWord (set .terms) (boxShare party (set .terms .n) (set .c) ownMasked other (set .x) (set .y)) own (set .r)
@@ -179,7 +181,7 @@ whyNotFinish s l name = whyNotMessage takenPhase wordKind s l name (isName name)
 unfoldable pub closed : Party → Party
 closed s = idle (s .who) (s .last)
 
--- "With Z the sum of both words"
+-- "With Z the sum of both words" [SPEC 18.2]
 unfoldable pub answerOf : Set → ℕ → ℕ → ℕ → ℕ
 answerOf set party word other = Share.answer ordinaryWidth party (set .key) (set .seed) (add word other)
 

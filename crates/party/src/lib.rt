@@ -1,6 +1,7 @@
 // A box: loads a half, masks its vector, takes the other's masked vector and word, and answers (01,
 // "One check at a box"). A call takes the state by value and hands the next one back; a refused one
 // hands it back as it was, with the refusal's number, and leaves every lent buffer as it was.
+// [SPEC 12.1, 15.3, 16.3, 17.5, 18.5, 19.1, 22.4, 22.5]
 ghost use mathlib.Core.Path.{_≡_};
 ghost use mathlib.Core.Bool.{_&&_};
 ghost use Prim.Native.Nat.{_-_, _≤_};
@@ -34,7 +35,7 @@ pub const MASKED: u32 = 2;
 pub const TAKEN: u32 = 3;
 
 // The check that a box has open: the set, this box's masked vector and own term after call 2, and its
-// word after call 3. With no set open all of it is zero.
+// word after call 3. With no set open all of it is zero. [SPEC 1.2, 1.3, 12.5, 12.8]
 #[repr(C)]
 pub struct Check {
     pub phase: u32,

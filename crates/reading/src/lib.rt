@@ -1,4 +1,5 @@
-// A set read from its plain bytes, and whether these are what a deal writes (01, "Dealing a set").
+// A set read from its plain bytes, and whether these are what a deal writes (01, "The sealed half").
+// [SPEC 9.1, 23.11]
 ghost use mathlib.Core.Path.{_≡_};
 ghost use Prim.Native.Nat.{_*_, _<_, _≤_};
 ghost use lib.ListN.{length, getD};

@@ -28,7 +28,7 @@ use Rattle.share.specs.Share.{plus, inner, otherC, otherR, share, boxWor
 
 -- ---- 01's own words
 
--- "its word: k × (share) + own + its r"
+-- "its word: k × (share) + own + its r" [SPEC 17.4]
 pub word-plain : (terms : Terms) (s own r : ℕ) → boxWord terms s own r ≡ add (add (mul (kWord terms) s) own) r
 unfolding boxWord
 word-plain terms s own r =
@@ -38,7 +38,7 @@ word-plain terms s own r =
     once : (k s o r : ℕ) → add (mul 1 (add (mul k s) o)) r ≈ add (add (mul k s) o) r
     once k s o r = ring (k ∷ s ∷ o ∷ r ∷ []) (search words depth 40 fits 5000) refl
 
--- "r1 = r - T - r0"
+-- "r1 = r - T - r0" [SPEC 5.8]
 pub other-r-plain : (terms : Terms) (r t r0 : ℕ) → otherR terms r t r0 ≡ sub (sub r t) r0
 unfolding otherR
 other-r-plain terms r t r0 =
@@ -52,7 +52,7 @@ half : (z : ℕ) → sub z (2 ^ 31) ≡ add z (2 ^ 31)
 unfolding add sub
 half z = omega arith
 
--- "its answer is value at Z + 2^31 minus value at Z, and party 1 adds 1 if Z < 2^31"
+-- "its answer is value at Z + 2^31 minus value at Z, and party 1 adds 1 if Z < 2^31" [SPEC 18.3, 18.4]
 pub answer-ordinary : (party : ℕ) (key : Key) (seed : List ℕ) (z : ℕ)
     → answer ordinaryWidth party key seed z
     ≡ add
@@ -107,7 +107,7 @@ inner-of : (n : ℕ) (a b : List ℕ) (f g : ℕ → ℕ)
 unfolding inner
 inner-of n a b f g ea eb = sum-ext _ _ n (λ i h. ap₂ mul (ea i h) (eb i h))
 
--- a check's two words, in the names of 01
+-- a check's two words, in the names of 01 [SPEC 5.5, 5.6, 16.2, 17.2, 17.4]
 module _ (terms : Terms) (t : ℕ) (x y x0 x1 y0 y1 : List ℕ) (c0 r r0 : ℕ) where
   abbrev n : ℕ
   n = terms .n

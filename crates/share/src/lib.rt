@@ -1,5 +1,6 @@
 // What a box computes of vectors in one check (01, "One check at a box"), and what the dealer computes
 // for it: the masked vector and the share of the product. `answers` has the word and the answer.
+// [SPEC 5.5 to 5.8, 16.2, 17.3]
 ghost use mathlib.Core.Path.{_≡_};
 ghost use lib.ListN.{length};
 ghost use Prim.Native.Nat.{_≤_};

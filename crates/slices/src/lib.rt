@@ -1,5 +1,5 @@
 // Words in byte slices, little-endian (01, "Measures"): loads and stores, and copies and compares of
-// bytes.
+// bytes. [SPEC 2.5]
 ghost use mathlib.Core.Path.{_≡_};
 ghost use Prim.Native.Nat.{_+_, _*_, _<_, _≤_, min};
 ghost use lib.ListN.{length};

@@ -1,5 +1,5 @@
 // A party's value of a comparison key at an input: the walk of the input's bits from the highest,
-// opening only the side taken.
+// opening only the side taken. [SPEC 8.2]
 ghost use mathlib.Core.Path.{_≡_};
 ghost use Rattle.algebra.specs.Bit.{odd};
 ghost use Rattle.words.specs.Xor.{xors};
@@ -11,7 +11,7 @@ use node::Walk;
 use pair::Two;
 
 // What a walk ends with: the first word of its seed, and the final word if its flag is set. Party 1
-// negates the total.
+// negates the total. [SPEC 8.6, 8.7]
 fn finished(w: Walk, last: u32, party: u32) -> u32
     ensures { λ r. ⌜ r ≡ bySign (odd party) (totalOf xors nodeOf first last (asWalk w)) ⌝ }
 {

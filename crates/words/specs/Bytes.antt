@@ -1,5 +1,5 @@
 -- Words as bytes, little-endian (01, "Measures"; RFC 8439, 2.3), and the rotation of a word (RFC 8439, 2.1).
--- Assumes nothing.
+-- Assumes nothing. [SPEC 2.5, 4.1]
 use mathlib.Core.Path.{_≡_, refl, sym, ap, _∙_}
 use mathlib.Core.List.{List, [], _∷_, _++_, append-assoc, append-nil}
 use Prim.Native.Nat.{ℕ, zero, suc, _+_, _-_, _*_, _/_, _%_, _^_, _<_}

@@ -1,4 +1,4 @@
-// A word is a u32; sums, differences and products are taken modulo 2^32 (01, "Measures").
+// A word is a u32; sums, differences and products are taken modulo 2^32 (01, "Measures"). [SPEC 2.1, 2.2]
 ghost use mathlib.Core.Path.{_≡_};
 ghost use Prim.Native.Nat.{_<_};
 ghost use Rattle.algebra.specs.Word.{add as addOf, sub as subOf, mul as mulOf};

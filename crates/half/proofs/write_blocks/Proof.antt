@@ -11,7 +11,8 @@ use Rattle.half.proofs.write_blocks.Statement.{statement}
 use Rattle.half.proofs.write_blocks.Tie as tie
 
 abbrev Inv-loop : tie.InvT-loop
-Inv-loop key number count p out₀ keys i₀ out i = (i ≤ count) × (length out ≡ length out₀) × (out ≡ over 0 (firstBlocks key number p i) out₀)
+Inv-loop key number count p out₀ keys i₀ out i =
+    (i ≤ count) × (length out ≡ length out₀) × (out ≡ over 0 (firstBlocks key number p i) out₀)
 
 abbrev μ-loop : tie.MeasureT-loop
 μ-loop key number count p out₀ keys i₀ out i = count - i

@@ -12,7 +12,9 @@ use Rattle.opening.proofs.open_blocks.Statement.{statement}
 use Rattle.opening.proofs.open_blocks.Tie as tie
 
 abbrev Inv-loop : tie.InvT-loop
-Inv-loop key number count h out₀ keys fit₀ i₀ out fit i = (i ≤ count) × (length out ≡ length out₀) × (fit ≡ firstFit key h i) × (fit ≡ true → out ≡ over 0 (openedBlocks key h i) out₀)
+Inv-loop key number count h out₀ keys fit₀ i₀ out fit i =
+    (i ≤ count) × (length out ≡ length out₀) × (fit ≡ firstFit key h i)
+    × (fit ≡ true → out ≡ over 0 (openedBlocks key h i) out₀)
 
 abbrev μ-loop : tie.MeasureT-loop
 μ-loop key number count h out₀ keys fit₀ i₀ out fit i = count - i
@@ -111,8 +113,10 @@ returns : tie.Need-returns Inv-loop μ-loop
 returns c =
     let at-loop = c .before in
     let start = at-loop .before .before .before .before in
-    let done : at-loop .loop .i ≡ start .args .count = omega arith in
-    (rw done at (at-loop .loop .inv .2), λ t. opened-all _ _ _ _ _ (start .pre .1) (start .pre .2) (rw done at (at-loop .loop .inv .3 t)))
+    let done : at-loop .loop .i ≡ start .args .count = omega arith in (
+      rw done at (at-loop .loop .inv .2),
+      λ t. opened-all _ _ _ _ _ (start .pre .1) (start .pre .2) (rw done at (at-loop .loop .inv .3 t)),
+    )
 
 pub open-blocks-spec : {M : Type 1} → statement M
 open-blocks-spec =
