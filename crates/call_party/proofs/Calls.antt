@@ -19,7 +19,8 @@ use Rattle.base_messages.specs.Messages.{outOfTurn, wrongLength, shortBuffer, w
 use Rattle.base_messages.specs.Messages.{vectorKind, wordKind, officeParty, unless, isName, isKey, expected, padded}
 use Rattle.base_messages.specs.Laws as Refusals
 use Rattle.base_messages.specs.Laws.{turned-down, goes-on, passed, fits-short}
-use Rattle.half_content.specs.Content.{fill}
+use Rattle.half_content.specs.declared.Set.{Set}
+use Rattle.half_content.specs.Content.{fill, noSet}
 use Rattle.half_content.specs.Laws.{fill-over}
 use Rattle.half_open.specs.declared.Examined.{Examined}
 use Rattle.half_seal.specs.Half.{openedSet}
@@ -32,7 +33,7 @@ use Rattle.call_party.specs.Party.{idlePhase, loadedPhase, maskedPhase, 
 use Rattle.call_party.specs.Party.{answered, whyNotParty, startParty, stateFits, sound, inTurn, whyNotLoad}
 use Rattle.call_party.specs.Party.{opened, loaded, whyNotMask, masked, maskedVector, maskOut, whyNotMessage}
 use Rattle.call_party.specs.Party.{whyNotTake, boxShare, wordOf, worded, whyNotFinish, answerOf, closed}
-use Rattle.call_party.specs.Party.{whyNotDrop}
+use Rattle.call_party.specs.Party.{whyNotDrop, waits, highWater, nextCheck}
 
 -- ---- an answer that refuses, and one that does not
 
@@ -47,17 +48,11 @@ moves : (k why : ℕ) (next new s : Party) (x w : ℕ) → k ≡ why → k ≡ 0
 moves k why next new s x w e none en ex =
     λ i. told (e i) ((en ∙ Refusals.taken new s e none) i) ((ex ∙ Refusals.taken w 0 e none) i)
 
+-- a box whose check has ended, as `closed` hands it back
+abbrev ended : Party → Party
+ended s = record { who = s .who; last = s .last; check = nextCheck (s .waiting); waiting = noSet }
+
 -- ---- the turn
-
--- what `in_turn` answers
-abbrev turn : ℕ → Party → Bool
-turn k s =
-    eqb (s .check .phase) k
-    && stateFits (s .who .party) (s .check .phase) (s .check .set .terms)
-
-turn-is : (k : ℕ) (s : Party) → turn k s ≡ inTurn k s
-unfolding inTurn sound
-turn-is k s = refl
 
 after-turn : {a b : Bool} (rest : ℕ) → a ≡ b → unless a outOfTurn rest ≡ unless b outOfTurn rest
 after-turn rest e = ap (λ (t : Bool). unless t outOfTurn rest) e
@@ -71,26 +66,40 @@ open-most k s e =
     let now = both (eqb phase (suc k)) _ e in
     let at : phase ≡ suc k = eqb-true phase (suc k) (now .0) in
     let some : phase ≡ 0 → ⊥ = λ z. omega arith in
+    let fits = both (stateFits (s .who .party) phase (set .terms)) _ (now .1) .0 in
     let state : leb phase 3 && (isCode (set .terms .code) && lengthFits (set .terms)) ≡ true =
-    rw (ne-eqb phase 0 some) at (both (leb (s .who .party) 1) _ (now .1) .1) in
+    rw (ne-eqb phase 0 some) at (both (leb (s .who .party) 1) _ fits .1) in
     length-fits (set .terms) (both (isCode (set .terms .code)) _ (both (leb phase 3) _ state .1) .1) .1
 
 -- ---- load
 
-module _ (s : Party) (t : Bool) (et : t ≡ turn idlePhase s) (h : List ℕ) where
-  pub load-3 : t ≡ false → told outOfTurn s 0 ≡ P.load s h
+module _ (s : Party) (t : Bool) (et : t ≡ sound s) (h : List ℕ) where
+  -- whether it is its turn, as `load` asks it
+  abbrev loadTurn : Bool
+  loadTurn = not (waits s) && t
+
+  turn-is : loadTurn ≡ not (waits s) && sound s
+  turn-is = ap (λ (b : Bool). not (waits s) && b) et
+
+  pub load-3 : loadTurn ≡ false → told outOfTurn s 0 ≡ P.load s h
   unfolding P.load whyNotLoad
   load-3 e =
       keeps outOfTurn _ _ s 0
-      (turned-down _ outOfTurn _ (ap not (sym (et ∙ turn-is idlePhase s) ∙ e)))
+      (turned-down _ outOfTurn _ (ap not (sym turn-is ∙ e)))
       (λ z. omega arith)
 
-  module _ (now : t ≡ true) (x : Examined)
-      (ex : x ≡ examined (s .who .key) (s .who .name) (s .who .party) (s .last) h) where
+  module _ (now : loadTurn ≡ true) (above : ℕ)
+      (ea : above ≡ highWater (s .check .phase) (s .check .set .number) (s .last)) (x : Examined)
+      (ex : x ≡ examined (s .who .key) (s .who .name) (s .who .party) above h) where
+    ex-above : x
+        ≡ examined (s .who .key) (s .who .name) (s .who .party)
+        (highWater (s .check .phase) (s .check .set .number) (s .last)) h
+    ex-above = ex ∙ ap (λ (n : ℕ). examined (s .who .key) (s .who .name) (s .who .party) n h) ea
+
     why-load : x .why ≡ whyNotLoad s h
     unfolding whyNotLoad examined answerFor
     why-load =
-        goes-on _ outOfTurn _ (ap not (sym (et ∙ turn-is idlePhase s) ∙ now)) (ap (λ z. z .why) ex)
+        goes-on _ outOfTurn _ (ap not (sym turn-is ∙ now)) (ap (λ z. z .why) ex-above)
 
     pub load-refused : (x .why ≡ 0 → ⊥) → told (x .why) s 0 ≡ P.load s h
     unfolding P.load
@@ -98,19 +107,38 @@ module _ (s : Party) (t : Bool) (et : t ≡ turn idlePhase s) (h : List ℕ) whe
 
     opens : x .why ≡ 0 → x .set ≡ openedSet (s .who .key) h
     unfolding examined answerFor
-    opens none = ap (λ z. z .set) ex ∙ sym (Refusals.taken _ _ (ap (λ z. z .why) ex) none)
+    opens none = ap (λ z. z .set) ex-above ∙ sym (Refusals.taken _ _ (ap (λ z. z .why) ex-above) none)
 
-    pub load-taken : (q : Check) → x .why ≡ 0 → q ≡ opened (x .set)
-        → told (x .why) (record { who = s .who; last = x .set .number; check = q }) 0 ≡ P.load s h
+    -- what an accepted load leaves, with no set open and with one
+    opened-at : s .check .phase ≡ 0 → (y : Set)
+        → record { who = s .who; last = y .number; check = opened y; waiting = noSet } ≡ loaded s y
+    unfolding loaded
+    opened-at e y = rw e refl
+
+    waits-at : (s .check .phase ≡ 0 → ⊥) → (y : Set)
+        → record { who = s .who; last = y .number; check = s .check; waiting = y } ≡ loaded s y
+    unfolding loaded
+    waits-at e y = rw (ne-eqb (s .check .phase) 0 e) refl
+
+    pub load-opens : (q : Check) (w : Set) → x .why ≡ 0 → s .check .phase ≡ 0 → q ≡ opened (x .set) → w ≡ noSet
+        → told (x .why) (record { who = s .who; last = x .set .number; check = q; waiting = w }) 0 ≡ P.load s h
     unfolding P.load loaded
-    load-taken q none eq =
+    load-opens q w none e eq ew =
         moves (x .why) _ _ _ s 0 0 why-load none
-        ((λ i. record { who = s .who; last = x .set .number; check = eq i }) ∙ ap (loaded s) (opens none))
+        (ap₂ (λ (c : Check) (y : Set). record { who = s .who; last = x .set .number; check = c; waiting = y }) eq ew
+        ∙ opened-at e (x .set) ∙ ap (loaded s) (opens none))
         refl
+
+    pub load-waits : x .why ≡ 0 → (s .check .phase ≡ 0 → ⊥)
+        → told (x .why) (record { who = s .who; last = x .set .number; check = s .check; waiting = x .set }) 0
+        ≡ P.load s h
+    unfolding P.load loaded
+    load-waits none e =
+        moves (x .why) _ _ _ s 0 0 why-load none (waits-at e (x .set) ∙ ap (loaded s) (opens none)) refl
 
 -- ---- call 2
 
-module _ (s : Party) (t : Bool) (et : t ≡ turn loadedPhase s) (v out : List ℕ) (k : ℕ)
+module _ (s : Party) (t : Bool) (et : t ≡ inTurn loadedPhase s) (v out : List ℕ) (k : ℕ)
     (ek : k
     ≡ unless t outOfTurn
     (unless (eqb (length v) (s .check .set .terms .n)) wrongLength
@@ -122,7 +150,7 @@ module _ (s : Party) (t : Bool) (et : t ≡ turn loadedPhase s) (v out : List �
 
     why-mask : k ≡ whyNotMask s v (length out)
     unfolding whyNotMask
-    why-mask = ek ∙ after-turn _ (et ∙ turn-is loadedPhase s)
+    why-mask = ek ∙ after-turn _ et
 
     pub mask-fits : k ≡ 0 → (n ≤ mostElements) × (length v ≡ n) × (n ≤ length out)
     unfolding whyNotMask
@@ -147,6 +175,7 @@ module _ (s : Party) (t : Bool) (et : t ≡ turn loadedPhase s) (v out : List �
           who = s .who;
           last = s .last;
           check = record { phase = maskedPhase; set = s .check .set; masked = a; own = o; word = 0 };
+          waiting = s .waiting;
         })
         0
         ≡ P.mask s v (length out)
@@ -158,6 +187,7 @@ module _ (s : Party) (t : Bool) (et : t ≡ turn loadedPhase s) (v out : List �
           who = s .who;
           last = s .last;
           check = record { phase = maskedPhase; set = s .check .set; masked = ea i; own = eo i; word = 0 };
+          waiting = s .waiting;
         })
         refl
 
@@ -168,7 +198,7 @@ module _ (s : Party) (t : Bool) (et : t ≡ turn loadedPhase s) (v out : List �
 
 -- ---- calls 3 and 4: what `why_not_message` answers
 
-module _ (phase kind : ℕ) (s : Party) (t : Bool) (et : t ≡ turn phase s) (l : Label) (name : List ℕ) where
+module _ (phase kind : ℕ) (s : Party) (t : Bool) (et : t ≡ inTurn phase s) (l : Label) (name : List ℕ) where
   abbrev messageWhy : Bool → ℕ
   messageWhy lengths =
       unless t outOfTurn
@@ -178,9 +208,9 @@ module _ (phase kind : ℕ) (s : Party) (t : Bool) (et : t ≡ turn phase s) (l 
 
   why-message : (lengths : Bool) → messageWhy lengths ≡ whyNotMessage phase kind s l name lengths
   unfolding whyNotMessage
-  why-message lengths = after-turn _ (et ∙ turn-is phase s)
+  why-message lengths = after-turn _ et
 
-module _ (s : Party) (t : Bool) (et : t ≡ turn maskedPhase s) (l : Label) (name v : List ℕ) (k : ℕ)
+module _ (s : Party) (t : Bool) (et : t ≡ inTurn maskedPhase s) (l : Label) (name v : List ℕ) (k : ℕ)
     (ek : k
     ≡ messageWhy maskedPhase vectorKind s t et l name
     (eqb (length name) 16 && eqb (length v) (s .check .set .terms .n)))
@@ -217,6 +247,7 @@ module _ (s : Party) (t : Bool) (et : t ≡ turn maskedPhase s) (l : Label) (nam
             own = s .check .own;
             word = w;
           };
+          waiting = s .waiting;
         })
         w
         ≡ P.takeVector s l name v
@@ -226,7 +257,7 @@ module _ (s : Party) (t : Bool) (et : t ≡ turn maskedPhase s) (l : Label) (nam
         ew ∙ ap (λ (y : ℕ). Share.boxWord (s .check .set .terms) y (s .check .own) (s .check .set .r)) ex in
         moves k _ _ _ s w _ why-take none (ap (worded s) is) is
 
-module _ (s : Party) (t : Bool) (et : t ≡ turn takenPhase s) (l : Label) (name : List ℕ) (w k : ℕ)
+module _ (s : Party) (t : Bool) (et : t ≡ inTurn takenPhase s) (l : Label) (name : List ℕ) (w k : ℕ)
     (ek : k ≡ messageWhy takenPhase wordKind s t et l name (eqb (length name) 16)) where
   why-finish : k ≡ whyNotFinish s l name
   unfolding whyNotFinish isName
@@ -236,7 +267,7 @@ module _ (s : Party) (t : Bool) (et : t ≡ turn takenPhase s) (l : Label) (name
   unfolding P.finish
   finish-refused some = keeps k _ _ s _ why-finish some
 
-  pub finish-taken : (q : Party) (z x : ℕ) → k ≡ 0 → q ≡ idle (s .who) (s .last) → z ≡ add (s .check .word) w
+  pub finish-taken : (q : Party) (z x : ℕ) → k ≡ 0 → q ≡ ended s → z ≡ add (s .check .word) w
       → x ≡ Share.answer ordinaryWidth (s .who .party) (s .check .set .key) (s .check .set .seed) z
       → told k q x ≡ P.finish s l name w
   unfolding P.finish closed answerOf
@@ -247,9 +278,8 @@ module _ (s : Party) (t : Bool) (et : t ≡ turn takenPhase s) (l : Label) (name
 -- ---- drop
 
 module _ (s : Party) (t : Bool)
-    (et : t ≡ stateFits (s .who .party) (s .check .phase) (s .check .set .terms)) where
+    (et : t ≡ sound s) where
   drop-turn : not (eqb (s .check .phase) idlePhase) && t ≡ not (eqb (s .check .phase) idlePhase) && sound s
-  unfolding sound
   drop-turn = ap (λ (b : Bool). not (eqb (s .check .phase) idlePhase) && b) et
 
   pub drop-refused : not (not (eqb (s .check .phase) idlePhase) && t) ≡ true → told outOfTurn s 0 ≡ P.dropSet s
@@ -257,7 +287,7 @@ module _ (s : Party) (t : Bool)
   drop-refused e =
       keeps outOfTurn _ _ s 0 (turned-down _ outOfTurn _ (rw drop-turn at e)) (λ z. omega arith)
 
-  pub drop-taken : (q : Party) → not (not (eqb (s .check .phase) idlePhase) && t) ≡ false → q ≡ idle (s .who) (s .last)
+  pub drop-taken : (q : Party) → not (not (eqb (s .check .phase) idlePhase) && t) ≡ false → q ≡ ended s
       → told 0 q 0 ≡ P.dropSet s
   unfolding P.dropSet whyNotDrop closed
   drop-taken q e eq = moves 0 _ _ _ s 0 0 (goes-on _ outOfTurn _ (rw drop-turn at e) refl) refl eq refl

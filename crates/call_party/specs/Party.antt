@@ -3,7 +3,7 @@
 -- [SPEC 12.5, 13.3, 15.3, 16.3, 17.5, 18.5, 19.2, 24.2, 24.5 to 24.9]
 use mathlib.Core.Bool.{Bool, cond, _&&_, not}
 use mathlib.Core.List.{List}
-use Prim.Native.Nat.{ℕ, _-_}
+use Prim.Native.Nat.{ℕ, suc, _-_}
 use lib.Dec.{eqb, leb}
 use lib.ListN.{length, replicate}
 use Rattle.base_algebra.specs.Word.{add}
@@ -44,12 +44,20 @@ takenPhase = 3
 unfoldable pub noCheck : Check
 noCheck = record { phase = idlePhase; set = noSet; masked = replicate mostElements 0; own = 0; word = 0 }
 
+-- .. and with no set waiting all of that
 unfoldable pub idle : Identity → ℕ → Party
-idle who last = record { who = who; last = last; check = noCheck }
+idle who last = record { who = who; last = last; check = noCheck; waiting = noSet }
 
 -- the box with another check
 abbrev pub withCheck : Party → Check → Party
-withCheck s check = record { who = s .who; last = s .last; check = check }
+withCheck s check = record { who = s .who; last = s .last; check = check; waiting = s .waiting }
+
+-- whether a set is open, and whether one waits: a set that a load leaves has an L that is not 0
+abbrev pub isOpen : Party → Bool
+isOpen s = not (eqb (s .check .phase) idlePhase)
+
+abbrev pub waits : Party → Bool
+waits s = not (eqb (s .waiting .terms .n) 0)
 
 abbrev pub nobody : Identity
 nobody = record { name = replicate 16 0; party = 0; key = replicate 32 0 }
@@ -83,8 +91,17 @@ stateFits party phase terms =
     && cond (eqb phase idlePhase) (eqb (terms .code) 0 && eqb (terms .n) 0)
     (leb phase takenPhase && (isCode (terms .code) && lengthFits terms))
 
+-- 02, §1: "in a state handed in, that" (a waiting number not above the open one), "or a waiting code or L that no load
+-- leaves, is 01's third". No call leaves a waiting set with none open, and with none waiting all of it is zero.
+unfoldable pub waitingFits : ℕ → ℕ → ℕ → Terms → Bool
+waitingFits phase number waitingNumber terms =
+    cond (eqb (terms .n) 0) (eqb (terms .code) 0)
+    (not (eqb phase idlePhase) && (leb (suc number) waitingNumber && (isCode (terms .code) && lengthFits terms)))
+
 unfoldable pub sound : Party → Bool
-sound s = stateFits (s .who .party) (s .check .phase) (s .check .set .terms)
+sound s =
+    stateFits (s .who .party) (s .check .phase) (s .check .set .terms)
+    && waitingFits (s .check .phase) (s .check .set .number) (s .waiting .number) (s .waiting .terms)
 
 -- 3: "A box call is out of its turn" [SPEC 12.15, 23.3]
 unfoldable pub inTurn : ℕ → Party → Bool
@@ -92,16 +109,30 @@ inTurn phase s = eqb (s .check .phase) phase && sound s
 
 -- ---- load
 
+-- a half's number has to be above this: the last number, and with a set open its number too
+unfoldable pub highWater : ℕ → ℕ → ℕ → ℕ
+highWater phase number last = cond (not (eqb phase idlePhase) && leb last number) number last
+
+-- 02, §1: "A box may load one further set while another is still open. .. A load with a set already waiting is out of
+-- turn"
 unfoldable pub whyNotLoad : Party → List ℕ → ℕ
 whyNotLoad s h =
-    unless (inTurn idlePhase s) outOfTurn (whyNot (s .who .key) (s .who .name) (s .who .party) (s .last) h)
+    unless (not (waits s) && sound s) outOfTurn
+    (whyNot (s .who .key) (s .who .name) (s .who .party)
+    (highWater (s .check .phase) (s .check .set .number) (s .last)) h)
 
 -- the check that a set opens
 unfoldable pub opened : Set → Check
 opened set = record { phase = loadedPhase; set = set; masked = replicate mostElements 0; own = 0; word = 0 }
 
+-- the set is opened, or waits for the open one to end; its number is spent in either case
 unfoldable pub loaded : Party → Set → Party
-loaded s set = record { who = s .who; last = set .number; check = opened set }
+loaded s set = record {
+  who = s .who;
+  last = set .number;
+  check = cond (isOpen s) (s .check) (opened set);
+  waiting = cond (isOpen s) set noSet;
+}
 
 unfoldable pub load : Party → List ℕ → PartyAnswer
 load s h = answered (whyNotLoad s h) (loaded s (openedSet (s .who .key) h)) s 0
@@ -178,8 +209,12 @@ takeVector s l name v =
 unfoldable pub whyNotFinish : Party → Label → List ℕ → ℕ
 whyNotFinish s l name = whyNotMessage takenPhase wordKind s l name (isName name)
 
+-- 02, §1: "The waiting set becomes the open one when the open one is answered or dropped"
+unfoldable pub nextCheck : Set → Check
+nextCheck waiting = cond (eqb (waiting .terms .n) 0) noCheck (opened waiting)
+
 unfoldable pub closed : Party → Party
-closed s = idle (s .who) (s .last)
+closed s = record { who = s .who; last = s .last; check = nextCheck (s .waiting); waiting = noSet }
 
 -- "With Z the sum of both words" [SPEC 18.2]
 unfoldable pub answerOf : Set → ℕ → ℕ → ℕ → ℕ
@@ -192,7 +227,7 @@ finish s l name w = answered (whyNotFinish s l name) (closed s) s
 -- ---- drop
 
 unfoldable pub whyNotDrop : Party → ℕ
-whyNotDrop s = unless (not (eqb (s .check .phase) idlePhase) && sound s) outOfTurn 0
+whyNotDrop s = unless (isOpen s && sound s) outOfTurn 0
 
 unfoldable pub dropSet : Party → PartyAnswer
 dropSet s = answered (whyNotDrop s) (closed s) s 0

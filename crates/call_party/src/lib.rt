@@ -12,9 +12,10 @@ ghost use Rattle.measure_table.specs.Measure.{mostElements, allInRange};
 ghost use Rattle.share_vectors.specs.Share.{plus};
 ghost use Rattle.base_messages.specs.Messages.{outOfTurn, wrongLength, shortBuffer, wrongMessage, wrongNumber};
 ghost use Rattle.base_messages.specs.Messages.{outOfRange, officeParty, unless, expected};
-ghost use Rattle.half_content.specs.Content.{fill};
+ghost use Rattle.half_content.specs.Content.{fill, noSet};
 ghost use Rattle.call_party.specs.Party.{noCheck, opened as openedCheck, idle as idleOf, whyNotParty, startParty};
-ghost use Rattle.call_party.specs.Party.{stateFits, load as loadOf, mask as maskOf, maskOut};
+ghost use Rattle.call_party.specs.Party.{nextCheck, highWater};
+ghost use Rattle.call_party.specs.Party.{stateFits, waitingFits, sound as soundOf, inTurn, load as loadOf, mask as maskOf, maskOut};
 ghost use Rattle.call_party.specs.Party.{takeVector as takeOf, boxShare, finish as finishOf, dropSet as dropOf};
 use base_messages::Identity;
 use base_messages::KEY;
@@ -45,12 +46,14 @@ pub struct Check {
     pub word: u32,
 }
 
-// A box of 01: who it is, its last set number, and its check.
+// A box of 01: who it is, its last set number, its check, and the set that waits for that check to
+// end. A set waits if its L is not 0; with none waiting all of it is zero.
 #[repr(C)]
 pub struct Party {
     pub who: Identity,
     pub last: u64,
     pub check: Check,
+    pub waiting: Set,
 }
 
 // Why a call was refused (0 if it was not), the next state, and the word or answer that is sent.
@@ -74,11 +77,45 @@ fn state_fits(party: u32, phase: u32, terms: Terms) -> bool
     (phase <= TAKEN) & (measure_table::is_code(terms.code) & measure_table::length_fits(terms))
 }
 
-// Whether it is the turn of the call that comes at phase `wanted`.
-fn in_turn(wanted: u32, party: u32, phase: u32, terms: Terms) -> bool
-    ensures { λ r. ⌜ r ≡ (eqb phase wanted && stateFits party phase terms) ⌝ }
+// Whether a call could have left this waiting number, code and length beside this phase and open
+// number.
+fn waiting_fits(phase: u32, number: u64, waiting: u64, terms: Terms) -> bool
+    ensures { λ r. ⌜ r ≡ waitingFits phase number waiting terms ⌝ }
 {
-    (phase == wanted) & state_fits(party, phase, terms)
+    if terms.n == 0 {
+        return terms.code == 0;
+    }
+    (phase != IDLE)
+        & ((number < waiting)
+            & (measure_table::is_code(terms.code) & measure_table::length_fits(terms)))
+}
+
+// Whether a call could have left this state, as far as it is tested. (Compiled in place, it copies
+// nothing.)
+fn sound(s: Party) -> bool
+    ensures { λ r. ⌜ r ≡ soundOf s ⌝ }
+{
+    let phase = s.check.phase;
+    state_fits(s.who.party, phase, s.check.set.terms)
+        & waiting_fits(phase, s.check.set.number, s.waiting.number, s.waiting.terms)
+}
+
+// Whether it is the turn of the call that comes at phase `wanted`.
+fn in_turn(wanted: u32, s: Party) -> bool
+    ensures { λ r. ⌜ r ≡ inTurn wanted s ⌝ }
+{
+    (s.check.phase == wanted) & sound(s)
+}
+
+// What a half's number has to be above.
+fn high_water(phase: u32, number: u64, last: u64) -> u64
+    ensures { λ r. ⌜ r ≡ highWater phase number last ⌝ }
+{
+    if (phase != IDLE) & (last <= number) {
+        number
+    } else {
+        last
+    }
 }
 
 fn no_check() -> Check
@@ -114,6 +151,29 @@ fn idle(who: Identity, last: u64) -> Party
         who,
         last,
         check: no_check(),
+        waiting: half_content::no_set(),
+    }
+}
+
+// The check that follows one that has ended.
+fn next_check(waiting: Set) -> Check
+    ensures { λ r. ⌜ r ≡ nextCheck waiting ⌝ }
+{
+    if waiting.terms.n == 0 {
+        return no_check();
+    }
+    opened(waiting)
+}
+
+// A box whose check has ended: the waiting set, if there is one, becomes the open one.
+fn closed(who: Identity, last: u64, waiting: Set) -> Party
+    ensures { λ r. ⌜ r ≡ record { who = who; last = last; check = nextCheck waiting; waiting = noSet } ⌝ }
+{
+    Party {
+        who,
+        last,
+        check: next_check(waiting),
+        waiting: half_content::no_set(),
     }
 }
 
@@ -272,19 +332,26 @@ impl Party {
     pub fn load(self, h: &[u8]) -> PartyAnswer
         ensures { λ r. ⌜ r ≡ loadOf self (now (h .entry)) ⌝ }
     {
-        let terms = self.check.set.terms;
-        let turn = in_turn(IDLE, self.who.party, self.check.phase, terms);
+        let phase = self.check.phase;
+        let waits = self.waiting.terms.n != 0;
+        let sound = sound(self);
         let mut next = self;
         let mut why = base_messages::OUT_OF_TURN;
-        if turn {
+        if !waits & sound {
             let who = self.who;
             let name = who.name;
-            let examined = half_open::examine(&who.key, name, who.party, self.last, h);
+            let above = high_water(phase, self.check.set.number, self.last);
+            let examined = half_open::examine(&who.key, name, who.party, above, h);
             why = examined.why;
             if why == 0 {
                 let set = examined.set;
                 next.last = set.number;
-                next.check = opened(set);
+                if phase == IDLE {
+                    next.check = opened(set);
+                    next.waiting = half_content::no_set();
+                } else {
+                    next.waiting = set;
+                }
             }
         }
         PartyAnswer {
@@ -300,9 +367,10 @@ impl Party {
         ensures { λ _. ⌜ now (out .exit) ≡ maskOut self (now (v .entry)) (now (out .entry)) ⌝ }
     {
         let terms = self.check.set.terms;
-        let turn = in_turn(LOADED, self.who.party, self.check.phase, terms);
+        let turn = in_turn(LOADED, self);
         let refusal = why_not_mask(turn, terms, v, out.len());
         let who = self.who;
+        let waiting = self.waiting;
         let mut check = self.check;
         if refusal == 0 {
             let mask = self.check.set.mask;
@@ -319,6 +387,7 @@ impl Party {
                 who,
                 last: self.last,
                 check,
+                waiting,
             },
             word: 0,
         }
@@ -330,7 +399,7 @@ impl Party {
     {
         let terms = self.check.set.terms;
         let party = self.who.party;
-        let turn = in_turn(MASKED, party, self.check.phase, terms);
+        let turn = in_turn(MASKED, self);
         let lengths = (name.len() == NAME) & (v.len() == terms.n);
         let door = self.who.name;
         let number = self.check.set.number;
@@ -367,8 +436,7 @@ impl Party {
         ensures { λ r. ⌜ r ≡ finishOf self label (now (name .entry)) word ⌝ }
     {
         let party = self.who.party;
-        let terms = self.check.set.terms;
-        let turn = in_turn(TAKEN, party, self.check.phase, terms);
+        let turn = in_turn(TAKEN, self);
         let lengths = name.len() == NAME;
         let door = self.who.name;
         let number = self.check.set.number;
@@ -389,10 +457,9 @@ impl Party {
         let seed = self.check.set.seed;
         let z = base_words::add(self.check.word, word);
         let answer = share_answers::answer(ORDINARY_WIDTH, party, key, seed, z);
-        let who = self.who;
         PartyAnswer {
             why,
-            party: idle(who, self.last),
+            party: closed(self.who, self.last, self.waiting),
             word: answer,
         }
     }
@@ -402,16 +469,13 @@ impl Party {
         ensures { λ r. ⌜ r ≡ dropOf self ⌝ }
     {
         let phase = self.check.phase;
-        let terms = self.check.set.terms;
-        let sound = state_fits(self.who.party, phase, terms);
+        let sound = sound(self);
         if !((phase != IDLE) & sound) {
             return refused(base_messages::OUT_OF_TURN, self);
         }
-        let who = self.who;
-        let last = self.last;
         PartyAnswer {
             why: 0,
-            party: idle(who, last),
+            party: closed(self.who, self.last, self.waiting),
             word: 0,
         }
     }

@@ -1,15 +1,13 @@
-use mathlib.Core.Path.{ap}
-use mathlib.Core.Bool.{Bool, _&&_}
-use lib.Dec.{eqb}
+use Rattle.call_party.proofs.Laws.{turn-law}
 use borrow.Author.Needs.{needs}
 use Rattle.call_party.proofs.in_turn.Statement.{statement}
 use Rattle.call_party.proofs.in_turn.Tie as tie
 
-state-fits-requires : tie.Need-state-fits-requires
-state-fits-requires c κs = search needs
+sound-requires : tie.Need-sound-requires
+sound-requires c κs = search needs
 
 returns : tie.Need-returns
-returns c = ap (λ (b : Bool). eqb (c .before .args .phase) (c .before .args .wanted) && b) (c .state-fits .ensures)
+returns c = turn-law _ _ _ (c .sound .ensures)
 
 pub in-turn-spec : {M : Type 1} → statement M
-in-turn-spec = tie.close (tie.spec state-fits-requires returns)
+in-turn-spec = tie.close (tie.spec sound-requires returns)

@@ -27,20 +27,20 @@ add-requires c κs = search needs
 answer-requires : tie.Need-answer-requires
 answer-requires c κs = search needs
 
-idle-requires : tie.Need-idle-requires
-idle-requires c κs = search needs
+closed-requires : tie.Need-closed-requires
+closed-requires c κs = search needs
 
 returns-2 : tie.Need-returns-2
 returns-2 c =
-    let at-answer = c .before .before in
+    let at-answer = c .before in
     let at-add = at-answer .before in
     let at-if1 = at-add .before .before .before in
     let at-why = at-if1 .before in
     let at-turn = at-why .before .before in
     finish-taken _ _ (at-turn .in-turn .ensures) _ _ _ _ (at-why .why-not-message .ensures) _ _ _ (at-if1 .if1 .left)
-    (c .idle .ensures) (at-add .add .ensures) (at-answer .answer .ensures)
+    (c .closed .ensures) (at-add .add .ensures) (at-answer .answer .ensures)
 
 pub finish-spec : {M : Type 1} → statement M
 finish-spec =
     tie.close (tie.spec in-turn-requires why-not-message-requires
-    refused-requires returns add-requires answer-requires idle-requires returns-2)
+    refused-requires returns add-requires answer-requires closed-requires returns-2)

@@ -13,7 +13,7 @@ why-not-mask-requires c κs = search needs
 write-masked-requires : tie.Need-write-masked-requires
 write-masked-requires c κs =
     let at-if1 = c .before .before .before in
-    let at-why = at-if1 .before .before .before in
+    let at-why = at-if1 .before .before .before .before in
     let at-turn = at-why .before in
     let args = at-turn .before .before .before .before .args in
     let f = mask-fits (args .self) _ (at-turn .in-turn .ensures) (args .v .now) (args .out .now) _
@@ -24,7 +24,7 @@ masked-array-requires : tie.Need-masked-array-requires
 masked-array-requires c κs =
     let at-write-masked = c .before .before .before in
     let at-if1 = at-write-masked .before .before .before .before in
-    let at-why = at-if1 .before .before .before in
+    let at-why = at-if1 .before .before .before .before in
     let at-turn = at-why .before in
     let args = at-turn .before .before .before .before .args in
     let f = mask-fits (args .self) _ (at-turn .in-turn .ensures) (args .v .now) (args .out .now) _
@@ -35,7 +35,7 @@ own-requires : tie.Need-own-requires
 own-requires c κs =
     let at-write-masked = c .before .before .before .before in
     let at-if1 = at-write-masked .before .before .before .before in
-    let at-why = at-if1 .before .before .before in
+    let at-why = at-if1 .before .before .before .before in
     let at-turn = at-why .before in
     let args = at-turn .before .before .before .before .args in
     let f = mask-fits (args .self) _ (at-turn .in-turn .ensures) (args .v .now) (args .out .now) _
@@ -51,7 +51,7 @@ returns c =
     let at-masked-array = c .before in
     let at-write-masked = at-masked-array .before .before .before .before in
     let at-if1 = at-write-masked .before .before .before .before in
-    let at-why = at-if1 .before .before .before in
+    let at-why = at-if1 .before .before .before .before in
     let at-turn = at-why .before in
     let args = at-turn .before .before .before .before .args in
     let turn = at-turn .in-turn .ensures in
@@ -65,7 +65,7 @@ returns c =
 -- it is refused
 returns-2 : tie.Need-returns-2
 returns-2 c =
-    let at-why = c .before .before .before in
+    let at-why = c .before .before .before .before in
     let at-turn = at-why .before in
     let args = at-turn .before .before .before .before .args in
     let turn = at-turn .in-turn .ensures in
