@@ -1,11 +1,12 @@
 -- What acceptance tells: for each call, over any state and anything handed in, what its tests say where none refuses.
 -- Assumes nothing.
 use mathlib.Core.Path.{_≡_, refl}
-use mathlib.Core.Bool.{Bool, true, not}
+use mathlib.Core.Bool.{Bool, true, false, not, cond, _&&_}
 use mathlib.Core.List.{List}
 use Prim.Native.Nat.{ℕ, _-_, _<_, _≤_}
-use borrow.Author.Tests.{leb-true, ltb-true, eqb-true, eqb-false, not-true}
-use lib.Dec.{eqb, ltb}
+use native.Mathlib.Omega.{arith}
+use borrow.Author.Tests.{leb-true, leb-false, ltb-true, eqb-true, eqb-false, ne-eqb, not-true, not-false}
+use lib.Dec.{eqb, leb, ltb}
 use lib.ListN.{length}
 use Rattle.base_algebra.specs.Bit.{both}
 use Rattle.base_words.specs.List.{same, same-eq}
@@ -15,6 +16,7 @@ use Rattle.base_messages.specs.Laws.{passed, fits-short}
 use Rattle.base_messages.specs.Messages.{unless, expected}
 use Rattle.half_seal.specs.Half.{whyNot, setNumber}
 use Rattle.call_party.specs.declared.Party.{Party}
+use Rattle.call_party.specs.Party.{waits, sound, highWater}
 use Rattle.call_party.specs.Party.{inTurn, whyNotLoad, whyNotMask, whyNotMessage, whyNotTake, whyNotFinish, whyNotDrop}
 use Rattle.call_lock.specs.declared.Lock.{Lock}
 use Rattle.call_lock.specs.Lock.{whyNotLock, whyNotJoin}
@@ -58,19 +60,46 @@ half-above : (key name : List ℕ) (party last : ℕ) (h : List ℕ) → whyNot 
 unfolding whyNot
 half-above key name party last h e = ltb-true _ _ (passed _ (passed _ e .1) .0)
 
+-- what a half's number has to be above is no lower than the last number, and than the open set's
+pub water-last : (phase number last : ℕ) → last ≤ highWater phase number last
+unfolding highWater
+water-last phase number last = go (not (eqb phase 0)) (leb last number) refl
+  where
+    go : (a b : Bool) → leb last number ≡ b → last ≤ cond (a && b) number last
+    go true true e = leb-true _ _ e
+    go true false e = omega arith
+    go false b e = omega arith
+
+pub water-open : (phase number last : ℕ) → (phase ≡ 0 → ⊥) → number ≤ highWater phase number last
+unfolding highWater
+water-open phase number last some = rw (ne-eqb phase 0 some) (go (leb last number) refl)
+  where
+    go : (b : Bool) → leb last number ≡ b → number ≤ cond b number last
+    go true e = omega arith
+    go false e = omega (arith, leb-false last number e)
+
+abbrev pub waterOf : Party → ℕ
+waterOf s = highWater (s .check .phase) (s .check .set .number) (s .last)
+
 pub record LoadTells (s : Party) (h : List ℕ) : Type 0 where
-  pub turn : s .check .phase ≡ 0
-  pub examined : whyNot (s .who .key) (s .who .name) (s .who .party) (s .last) h ≡ 0
+  pub none-waits : s .waiting .terms .n ≡ 0
+  pub sound-is : sound s ≡ true
+  pub examined : whyNot (s .who .key) (s .who .name) (s .who .party) (waterOf s) h ≡ 0
   pub above : s .last < setNumber h
+  pub above-open : (s .check .phase ≡ 0 → ⊥) → s .check .set .number < setNumber h
 
 pub load-tells : (s : Party) (h : List ℕ) → whyNotLoad s h ≡ 0 → LoadTells s h
 unfolding whyNotLoad
 load-tells s h e =
     let t = passed _ e in
+    let turn = both (not (waits s)) _ (t .0) in
+    let above = half-above (s .who .key) (s .who .name) (s .who .party) (waterOf s) h (t .1) in
     record {
-      turn = in-turn 0 s (t .0);
+      none-waits = eqb-true _ _ (not-false _ (not-true _ (turn .0)));
+      sound-is = turn .1;
       examined = t .1;
-      above = half-above (s .who .key) (s .who .name) (s .who .party) (s .last) h (t .1);
+      above = omega (arith, above, water-last (s .check .phase) (s .check .set .number) (s .last));
+      above-open = λ o. omega (arith, above, water-open (s .check .phase) (s .check .set .number) (s .last) o);
     }
 
 pub record MaskTells (s : Party) (v : List ℕ) (room : ℕ) : Type 0 where

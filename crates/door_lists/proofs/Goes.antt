@@ -11,6 +11,7 @@ use lib.ListN.{length}
 use Rattle.base_algebra.specs.Word.{add}
 use Rattle.base_words.specs.List.{same-refl}
 use Rattle.measure_table.specs.Measure.{isCode, lengthFits, allInRange, thresholdFits}
+use Rattle.measure_table.specs.Laws.{length-fits}
 use Rattle.base_messages.specs.declared.Label.{Label}
 use Rattle.base_messages.specs.Messages.{isKey, unless, isName, expected}
 use Rattle.half_seal.specs.Half.{whyNot}
@@ -18,11 +19,15 @@ use Rattle.call_dealer.specs.declared.Dealer.{Dealer}
 use Rattle.half_deal.specs.Dealing.{Deal}
 use Rattle.call_dealer.specs.Dealer.{halfSize, whyNotDeal}
 use Rattle.call_party.specs.declared.Party.{Party}
+use Rattle.base_messages.specs.declared.Identity.{Identity}
+use Rattle.half_content.specs.declared.Set.{Set}
+use Rattle.half_content.specs.Content.{noSet}
+use Rattle.call_party.specs.Party.{idle, noCheck, waitingFits}
 use Rattle.call_party.specs.Party.{stateFits, sound, inTurn, whyNotLoad, whyNotMask, whyNotMessage, whyNotTake}
 use Rattle.call_party.specs.Party.{whyNotFinish, whyNotDrop}
 use Rattle.call_lock.specs.declared.Lock.{Lock}
 use Rattle.call_lock.specs.Lock.{whyNotJoin}
-use Rattle.door_lists.proofs.Accepted.{Heard}
+use Rattle.door_lists.proofs.Accepted.{Heard, waterOf}
 
 -- ---- the dealer
 
@@ -58,16 +63,9 @@ door-long kind sender number door l name h e = rw (h .name-is) (eq-eqb (length d
 
 -- ---- a box: its turn, with no set open and at a later phase
 
-idle-turn : (s : Party) → s .check .phase ≡ 0 → s .who .party ≤ 1
-    → s .check .set .terms .code ≡ 0 → s .check .set .terms .n ≡ 0 → inTurn 0 s ≡ true
-unfolding inTurn sound stateFits
-idle-turn s e p c n =
-    rw (
-      eq-eqb (s .check .phase) 0 e,
-      le-leb (s .who .party) 1 p,
-      eq-eqb (s .check .set .terms .code) 0 c,
-      eq-eqb (s .check .set .terms .n) 0 n,
-    ) refl
+pub idle-sound : (who : Identity) (last : ℕ) → who .party ≤ 1 → sound (idle who last) ≡ true
+unfolding sound stateFits waitingFits idle noCheck noSet
+idle-sound who last p = rw (le-leb (who .party) 1 p) refl
 
 -- what 01's third refusal asks of a state with a set open
 pub record OpenAt (k : ℕ) (s : Party) : Type 0 where
@@ -77,11 +75,37 @@ pub record OpenAt (k : ℕ) (s : Party) : Type 0 where
   pub party-fits : s .who .party ≤ 1
   pub code-fits : isCode (s .check .set .terms .code) ≡ true
   pub length-fits : lengthFits (s .check .set .terms) ≡ true
+  pub waiting-fits : waitingFits k (s .check .set .number) (s .waiting .number) (s .waiting .terms) ≡ true
+
+-- .. and of what waits behind an open set of number n
+abbrev pub Behind : ℕ → Set → Type 0
+Behind n s = (k : ℕ) → 1 ≤ k → waitingFits k n (s .number) (s .terms) ≡ true
+
+pub none-behind : (n : ℕ) → Behind n noSet
+unfolding waitingFits noSet
+none-behind n k some = refl
+
+pub one-behind : (n : ℕ) (s : Set) → n < s .number → isCode (s .terms .code) ≡ true → lengthFits (s .terms) ≡ true
+    → Behind n s
+unfolding waitingFits
+one-behind n s above code long k some =
+    rw (
+      ne-eqb (s .terms .n) 0 (λ e. omega (arith, e, length-fits (s .terms) long .0)),
+      ne-eqb k 0 (λ e. omega (arith, e, some)),
+      lt-ltb n (s .number) above,
+      code,
+      long,
+    )
+    refl
 
 some-open : (k : ℕ) (s : Party) → OpenAt k s → eqb (s .check .phase) 0 ≡ false
 some-open k s o = ne-eqb (s .check .phase) 0 (λ e. omega (arith, o .phase-is, o .some-phase))
 
-open-sound : (k : ℕ) (s : Party) → OpenAt k s → sound s ≡ true
+fits-at : (k : ℕ) (s : Party) → OpenAt k s
+    → waitingFits (s .check .phase) (s .check .set .number) (s .waiting .number) (s .waiting .terms) ≡ true
+fits-at k s o = rw (o .phase-is) (o .waiting-fits)
+
+pub open-sound : (k : ℕ) (s : Party) → OpenAt k s → sound s ≡ true
 unfolding sound stateFits
 open-sound k s o =
     rw (
@@ -90,6 +114,7 @@ open-sound k s o =
       le-leb (s .check .phase) 3 (omega (arith, o .phase-is, o .last-phase)),
       o .code-fits,
       o .length-fits,
+      fits-at k s o,
     )
     refl
 
@@ -99,11 +124,11 @@ open-turn k s o = rw (eq-eqb (s .check .phase) k (o .phase-is), open-sound k s o
 
 -- its calls
 
-pub load-goes : (s : Party) (h : List ℕ) → s .check .phase ≡ 0 → s .who .party ≤ 1 → s .check .set .terms .code ≡ 0
-    → s .check .set .terms .n ≡ 0 → whyNot (s .who .key) (s .who .name) (s .who .party) (s .last) h ≡ 0
+pub load-goes : (s : Party) (h : List ℕ) → s .waiting .terms .n ≡ 0 → sound s ≡ true
+    → whyNot (s .who .key) (s .who .name) (s .who .party) (waterOf s) h ≡ 0
     → whyNotLoad s h ≡ 0
 unfolding whyNotLoad unless
-load-goes s h e p c n f = rw (idle-turn s e p c n) f
+load-goes s h n k f = rw (eq-eqb (s .waiting .terms .n) 0 n, k) f
 
 pub mask-goes : (s : Party) (v : List ℕ) (room : ℕ) → OpenAt 1 s → length v ≡ s .check .set .terms .n
     → s .check .set .terms .n ≤ room → allInRange (s .check .set .terms) v ≡ true → whyNotMask s v room ≡ 0

@@ -1,12 +1,14 @@
 -- The invariant of a door's list of calls: its events are right, each part's state is what they say, and each box's
 -- sets stand in its state. Assumes nothing.
 use mathlib.Core.Path.{_≡_, refl, ap, _∙_, fun-ext}
-use mathlib.Core.List.{List, [], _∷_}
+use mathlib.Core.List.{List, [], _∷_, _++_}
 use Prim.Native.Nat.{ℕ, _*_, _-_, _<_, _≤_}
 use native.Mathlib.Omega.{arith}
+use borrow.Author.Tests.{ne-eqb}
 use lib.ListN.{length, replicate, length-append, length-replicate}
 use Rattle.base_messages.specs.Messages.{padded}
-use Rattle.half_content.specs.Content.{blockCount}
+use Rattle.half_content.specs.declared.Set.{Set}
+use Rattle.half_content.specs.Content.{blockCount, noSet}
 use Rattle.half_seal.specs.Claims.{length-half}
 use Rattle.call_dealer.specs.declared.Dealer.{Dealer}
 use Rattle.half_deal.specs.Dealing.{Deal}
@@ -14,7 +16,7 @@ use Rattle.call_dealer.specs.Dealer.{startDealer, whyNotDeal, halfSize, halfFor
 use Rattle.base_messages.specs.declared.Identity.{Identity}
 use Rattle.call_party.specs.declared.Check.{Check}
 use Rattle.call_party.specs.declared.Party.{Party}
-use Rattle.call_party.specs.Party.{idle, startParty}
+use Rattle.call_party.specs.Party.{noCheck, idle, startParty, opened, loaded, nextCheck, closed}
 use Rattle.call_lock.specs.declared.Lock.{Lock}
 use Rattle.call_lock.specs.Lock.{startLock}
 use Rattle.door_lists.specs.Lists.{Box, camera, office, partyOf, World, Starts, Started, beginning, written}
@@ -22,12 +24,12 @@ use Rattle.door_lists.specs.Lists.{Event}
 use Rattle.door_lists.specs.Demand.{deals, vectors, lastDealt, lastLoaded, lastJoined}
 use Rattle.door_lists.proofs.Accepted.{lock-tells}
 use Rattle.door_lists.proofs.Dealt.{setOf, set-n, set-proper, Sound}
-use Rattle.door_lists.proofs.Once.{Once, once-none, unique}
+use Rattle.door_lists.proofs.Once.{All, Once, once-none, unique}
 use Rattle.door_lists.proofs.History.{door, halfOf, Good, Dealt, Vector, in-deals, in-vectors}
 use Rattle.door_lists.proofs.Slots.{Slot, fresh, masked, worded, setIn, Slots}
 use Rattle.door_lists.proofs.Written.{new, written-is}
 
--- ---- how a box's state shows its sets: none, or one at its phase
+-- ---- how a box's state shows its sets: none, one at its phase, or such a one and a fresh one that waits
 
 abbrev pub phaseOf : Slot → ℕ
 phaseOf (fresh s) = 1
@@ -53,20 +55,71 @@ wordIn (worded s m o w) = w
 abbrev pub checkOf : Slot → Check
 checkOf t = record { phase = phaseOf t; set = setIn t; masked = arrayIn t; own = ownIn t; word = wordIn t }
 
+-- the check of a box with these sets, and the set that waits behind the open one
+abbrev pub checkIn : List Slot → Check
+checkIn [] = noCheck
+checkIn (t ∷ ts) = checkOf t
+
+abbrev pub firstIn : List Slot → Set
+firstIn [] = noSet
+firstIn (t ∷ ts) = setIn t
+
+abbrev pub waitingIn : List Slot → Set
+waitingIn [] = noSet
+waitingIn (t ∷ ts) = firstIn ts
+
+abbrev pub Fresh : Slot → Type 0
+Fresh (fresh s) = Unit {0}
+Fresh (masked s m o) = ⊥
+Fresh (worded s m o w) = ⊥
+
+-- nothing is sent under a set that waits
+abbrev pub FreshBehind : List Slot → Type 0
+FreshBehind [] = Unit {0}
+FreshBehind (t ∷ ts) = All Fresh ts
+
+abbrev pub Long : Slot → Type 0
+Long t = 1 ≤ setIn t .terms .n
+
+next-is : (s : Set) → 1 ≤ s .terms .n → nextCheck s ≡ opened s
+unfolding nextCheck
+next-is s l = rw (ne-eqb (s .terms .n) 0 (λ e. omega (arith, l, e))) refl
+
 module _ (S : Starts) where
   abbrev pub whoAt : Box → Identity
   whoAt b = record { name = door S; party = partyOf b; key = S .key b }
 
   abbrev pub showing : Box → ℕ → List Slot → Party
-  showing b last [] = idle (whoAt b) last
-  showing b last (t ∷ ts) = record { who = whoAt b; last = last; check = checkOf t }
+  showing b last ts = record { who = whoAt b; last = last; check = checkIn ts; waiting = waitingIn ts }
+
+  -- call 4 and drop: the waiting set becomes the open one
+  pub closing : (b : Box) (last : ℕ) (t : Slot) (ts : List Slot) → length (t ∷ ts) ≤ 2 → All Fresh ts → All Long ts
+      → closed (showing b last (t ∷ ts)) ≡ showing b last ts
+  unfolding closed nextCheck noSet opened
+  closing b last t [] few fr k = refl
+  closing b last t (fresh s ∷ []) few fr k =
+      ap (λ (c : Check). record { who = whoAt b; last = last; check = c; waiting = noSet }) (next-is s (k .0))
+  closing b last t (masked s m o ∷ []) few fr k = absurd (fr .0)
+  closing b last t (worded s m o w ∷ []) few fr k = absurd (fr .0)
+  closing b last t (u ∷ r ∷ ts) few fr k = absurd (omega (arith, few))
+
+  -- a load puts its set behind the open one
+  pub loads : (b : Box) (last : ℕ) (s : Set) (ts : List Slot) → length ts ≤ 1
+      → loaded (showing b last ts) s ≡ showing b (s .number) (ts ++ (fresh s ∷ []))
+  unfolding noCheck loaded opened
+  loads b last s [] few = refl
+  loads b last s (fresh t ∷ []) few = refl
+  loads b last s (masked t m o ∷ []) few = refl
+  loads b last s (worded t m o u ∷ []) few = refl
+  loads b last s (t ∷ u ∷ ts) few = absurd (omega (arith, few))
 
   abbrev pub lastAt : Box → List Event → ℕ
   lastAt b h = lastLoaded (S .boxFloor b) b h
 
   pub record BoxIs (h : List Event) (b : Box) (s : Party) : Type 0 where
     pub slots : List Slot
-    pub few : length slots ≤ 1
+    pub few : length slots ≤ 2
+    pub behind : FreshBehind slots
     pub shows : s ≡ showing b (lastAt b h) slots
     pub ok : Slots h b (lastAt b h) slots
 
@@ -97,7 +150,7 @@ module _ (S : Starts) where
       )
 
   pub starts : Started S → Inv [] (beginning S)
-  unfolding startDealer startParty startLock
+  unfolding startDealer startParty startLock idle
   starts f =
       record {
         good = tt;
@@ -106,6 +159,7 @@ module _ (S : Starts) where
         box-is = λ b. record {
           slots = [];
           few = omega arith;
+          behind = tt;
           shows = new _ _ _ (f .box-taken b);
           ok = record {
             holds = tt;

@@ -2,15 +2,16 @@
 -- Assumes nothing.
 use mathlib.Core.Path.{_≡_, refl, sym, subst, ap, ap₂, _∙_}
 use mathlib.Core.Bool.{true}
-use mathlib.Core.List.{List, [], _∷_}
+use mathlib.Core.List.{List, [], _∷_, _++_}
 use Prim.Native.Nat.{ℕ, _*_, _-_, _/_, _<_, _≤_}
 use native.Mathlib.Omega.{arith}
-use lib.ListN.{length}
+use lib.ListN.{length, length-append}
 use Rattle.base_algebra.specs.Word.{add}
 use Rattle.measure_table.specs.Measure.{allInRange}
+use Rattle.measure_table.specs.Laws.{length-fits}
 use Rattle.share_vectors.specs.Share as Share
 use Rattle.half_content.specs.declared.Set.{Set}
-use Rattle.half_content.specs.Content.{blockCount, fill, Proper}
+use Rattle.half_content.specs.Content.{blockCount, fill, noSet, Proper}
 use Rattle.half_seal.specs.Claims.{length-half, half-number, half-opened, Wrote, only-whole}
 use Rattle.half_seal.specs.Half.{blockAt, setNumber, openedSet}
 use Rattle.half_deal.specs.Dealing.{Deal}
@@ -20,13 +21,15 @@ use Rattle.call_party.specs.Party.{idle, whyNotLoad, whyNotMask, whyNotTake, wh
 use Rattle.door_lists.specs.Lists.{Box, camera, office, partyOf, other, World, Starts, Message, take, finish}
 use Rattle.door_lists.specs.Lists.{Event, dealt, loaded, sent, dropped, vector, word, answer, maskedBy, In}
 use Rattle.door_lists.specs.Lists.{Written, Sent, SentVector, SentWord}
-use Rattle.door_lists.proofs.Accepted.{Heard, load-tells, mask-tells, take-tells, finish-tells, drop-tells}
+use Rattle.door_lists.proofs.Accepted.{Heard, waterOf, load-tells, mask-tells, take-tells, finish-tells, drop-tells}
 use Rattle.door_lists.proofs.Dealt.{setOf, set-number, set-terms, set-proper, Sound, maskOf, ownOf, wordBy}
 use Rattle.door_lists.proofs.History.{door, halfOf, EventOk, Dealt, Vector, look}
+use Rattle.door_lists.proofs.Slots.{SlotOk}
 use Rattle.door_lists.proofs.Slots.{Slot, fresh, masked, worded, Word, Slots, slots-away, slots-load, slots-mask}
 use Rattle.door_lists.proofs.Slots.{slots-take, slots-close, slots-drop}
 use Rattle.door_lists.proofs.Written.{new, masked-is}
-use Rattle.door_lists.proofs.Invariant.{showing, lastAt, BoxIs, Inv, one-deal, one-pair}
+use Rattle.door_lists.proofs.Invariant.{Fresh, FreshBehind, Long, closing, loads, showing, lastAt, BoxIs, Inv, one-deal, one-pair}
+use Rattle.door_lists.proofs.Once.{All}
 use Rattle.door_lists.proofs.Boxes.{other-party, party-of}
 use Rattle.door_lists.proofs.Parts.{Away, last-away, Own, own-load, own-sent, own-drop, last-loaded}
 
@@ -68,6 +71,7 @@ module _ (S : Starts) where
       record {
         slots = k .slots;
         few = k .few;
+        behind = k .behind;
         shows = k .shows ∙ ap (λ z. showing S b z (k .slots)) l;
         ok = subst (λ z. Slots (e ∷ h) b z (k .slots)) l (slots-away h e b (lastAt S b h) (k .slots) a (k .ok));
       }
@@ -79,9 +83,10 @@ module _ (S : Starts) where
   module _ (h : List Event) (w : World) (I : Inv S h w) where
     -- a box's state is what its sets show
     pub at-box : (b : Box) (P : Party → Type 0)
-        → ((ts : List Slot) → length ts ≤ 1 → Slots h b (lastAt S b h) ts → P (showing S b (lastAt S b h) ts))
+        → ((ts : List Slot) → length ts ≤ 2 → FreshBehind ts → Slots h b (lastAt S b h) ts
+        → P (showing S b (lastAt S b h) ts))
         → P (w .box b)
-    at-box b P f = let k = I .box-is b in subst P (sym (k .shows)) (f (k .slots) (k .few) (k .ok))
+    at-box b P f = let k = I .box-is b in subst P (sym (k .shows)) (f (k .slots) (k .few) (k .behind) (k .ok))
 
     heard-by : {A : Type 0} (kind : ℕ) (b : Box) (n : ℕ) (m : Message A)
         → Heard kind (1 - partyOf b) n (door S) (m .label) (m .name)
@@ -95,13 +100,13 @@ module _ (S : Starts) where
         whyNotMask z v (length out) ≡ 0
         → Stepped h b (BoxCalls.masked z v) (sent b (z .check .set .number) (vector v (maskedBy z v out)))
 
-    pub masking : (b : Box) (v out : List ℕ) (ts : List Slot) → length ts ≤ 1 → Slots h b (lastAt S b h) ts
+    pub masking : (b : Box) (v out : List ℕ) (ts : List Slot) → length ts ≤ 2 → FreshBehind ts → Slots h b (lastAt S b h) ts
         → Masking b v out (showing S b (lastAt S b h) ts)
     unfolding idle BoxCalls.noCheck BoxCalls.masked
-    masking b v out [] few k e = absurd (omega (arith, mask-tells _ v _ e .turn))
-    masking b v out (masked s m o ∷ ts) few k e = absurd (omega (arith, mask-tells _ v _ e .turn))
-    masking b v out (worded s m o u ∷ ts) few k e = absurd (omega (arith, mask-tells _ v _ e .turn))
-    masking b v out (fresh s ∷ ts) few k e =
+    masking b v out [] few fr k e = absurd (omega (arith, mask-tells _ v _ e .turn))
+    masking b v out (masked s m o ∷ ts) few fr k e = absurd (omega (arith, mask-tells _ v _ e .turn))
+    masking b v out (worded s m o u ∷ ts) few fr k e = absurd (omega (arith, mask-tells _ v _ e .turn))
+    masking b v out (fresh s ∷ ts) few fr k e =
         let z : Party = showing S b (lastAt S b h) (fresh s ∷ ts) in
         let t = k .holds .0 .0 in
         let f = k .holds .0 .1 in
@@ -110,7 +115,7 @@ module _ (S : Starts) where
         subst (λ m. Stepped h b (BoxCalls.masked z v) (sent b (s .number) (vector v m))) (sym (masked-is z v out e)) (
           own-sent _ _,
           (t, r, ap (λ y. maskedVector y (partyOf b) v) f),
-          record { slots = _; few = few; shows = refl; ok = slots-mask h b (lastAt S b h) s ts k v },
+          record { slots = _; few = few; behind = fr; shows = refl; ok = slots-mask h b (lastAt S b h) s ts k v },
         )
 
     -- ---- call 3
@@ -140,13 +145,13 @@ module _ (S : Starts) where
         )
 
     pub taking : (b : Box) (m : Message (List ℕ)) → Sent (door S) 0 (SentVector h) m
-        → (ts : List Slot) → length ts ≤ 1 → Slots h b (lastAt S b h) ts
+        → (ts : List Slot) → length ts ≤ 2 → FreshBehind ts → Slots h b (lastAt S b h) ts
         → Taking b m (showing S b (lastAt S b h) ts)
     unfolding idle BoxCalls.noCheck BoxCalls.worded BoxCalls.takeVector
-    taking b m ad [] few k e = absurd (omega (arith, take-tells _ _ _ _ e .turn))
-    taking b m ad (fresh s ∷ ts) few k e = absurd (omega (arith, take-tells _ _ _ _ e .turn))
-    taking b m ad (worded s a o u ∷ ts) few k e = absurd (omega (arith, take-tells _ _ _ _ e .turn))
-    taking b m ad (masked s a o ∷ ts) few k e =
+    taking b m ad [] few fr k e = absurd (omega (arith, take-tells _ _ _ _ e .turn))
+    taking b m ad (fresh s ∷ ts) few fr k e = absurd (omega (arith, take-tells _ _ _ _ e .turn))
+    taking b m ad (worded s a o u ∷ ts) few fr k e = absurd (omega (arith, take-tells _ _ _ _ e .turn))
+    taking b m ad (masked s a o ∷ ts) few fr k e =
         let z : Party = showing S b (lastAt S b h) (masked s a o ∷ ts) in
         let g = right-word b s a o ts (m .content) k
         (told (SentVector h) 0 (other b) (s .number) m ad (heard-by 0 b (s .number) m (take-tells z _ _ _ e .hears))) in
@@ -154,16 +159,26 @@ module _ (S : Starts) where
         subst (λ y. Stepped h b (BoxCalls.worded z u) (sent b (s .number) (word y))) (sym (new _ _ _ e)) (
           own-sent _ _,
           (record { of = g .0; v = g .2; sents = g .3 }, g .4),
-          record { slots = _; few = few; shows = refl; ok = slots-take h b (lastAt S b h) s a o ts k u g },
+          record { slots = _; few = few; behind = fr; shows = refl; ok = slots-take h b (lastAt S b h) s a o ts k u g },
         )
 
     -- ---- call 4 and drop
 
-    closing : (b : Box) (t : Slot) (ts : List Slot) → length (t ∷ ts) ≤ 1
-        → BoxCalls.closed (showing S b (lastAt S b h) (t ∷ ts)) ≡ showing S b (lastAt S b h) ts
-    unfolding BoxCalls.closed
-    closing b t [] few = refl
-    closing b t (u ∷ ts) few = absurd (omega arith)
+    -- a set that was dealt has elements
+    slot-long : (b : Box) (s : Set) → SlotOk h b (fresh s) → 1 ≤ s .terms .n
+    slot-long b s k =
+        let D = look S h (dealt (k .0 .d) (k .0 .f)) (I .good) (k .0 .was) .0 in
+        rw (k .1, set-terms (k .0 .d) b) (length-fits (k .0 .d .terms) (D .length-fits) .0)
+
+    slots-long : (b : Box) (ts : List Slot) → All Fresh ts → All (SlotOk h b) ts → All Long ts
+    slots-long b [] fr k = tt
+    slots-long b (fresh s ∷ ts) fr k = (slot-long b s (k .0), slots-long b ts (fr .1) (k .1))
+    slots-long b (masked s m o ∷ ts) fr k = absurd (fr .0)
+    slots-long b (worded s m o w ∷ ts) fr k = absurd (fr .0)
+
+    behind-next : (ts : List Slot) → All Fresh ts → FreshBehind ts
+    behind-next [] fr = tt
+    behind-next (t ∷ ts) fr = fr .1
 
     abbrev pub Finishing : Box → Message ℕ → Party → Type 0
     Finishing b m z =
@@ -186,13 +201,13 @@ module _ (S : Starts) where
         )
 
     pub finishing : (b : Box) (m : Message ℕ) → Sent (door S) 1 (SentWord h) m
-        → (ts : List Slot) → length ts ≤ 1 → Slots h b (lastAt S b h) ts
+        → (ts : List Slot) → length ts ≤ 2 → FreshBehind ts → Slots h b (lastAt S b h) ts
         → Finishing b m (showing S b (lastAt S b h) ts)
     unfolding idle BoxCalls.noCheck BoxCalls.finish
-    finishing b m ad [] few k e = absurd (omega (arith, finish-tells _ _ _ e .turn))
-    finishing b m ad (fresh s ∷ ts) few k e = absurd (omega (arith, finish-tells _ _ _ e .turn))
-    finishing b m ad (masked s a o ∷ ts) few k e = absurd (omega (arith, finish-tells _ _ _ e .turn))
-    finishing b m ad (worded s a o u ∷ ts) few k e =
+    finishing b m ad [] few fr k e = absurd (omega (arith, finish-tells _ _ _ e .turn))
+    finishing b m ad (fresh s ∷ ts) few fr k e = absurd (omega (arith, finish-tells _ _ _ e .turn))
+    finishing b m ad (masked s a o ∷ ts) few fr k e = absurd (omega (arith, finish-tells _ _ _ e .turn))
+    finishing b m ad (worded s a o u ∷ ts) few fr k e =
         let z : Party = showing S b (lastAt S b h) (worded s a o u ∷ ts) in
         let y : ℕ = BoxCalls.answerOf s (partyOf b) u (m .content) in
         let g = right-answer b s u (m .content) (k .holds .0)
@@ -202,8 +217,9 @@ module _ (S : Starts) where
           g,
           record {
             slots = ts;
-            few = omega arith;
-            shows = closing b (worded s a o u) ts few;
+            few = omega (arith, few);
+            behind = behind-next ts fr;
+            shows = closing S b (lastAt S b h) (worded s a o u) ts few fr (slots-long b ts fr (k .holds .1));
             ok = slots-close h b (lastAt S b h) (worded s a o u) ts k (s .number) y;
           },
         )
@@ -211,17 +227,18 @@ module _ (S : Starts) where
     abbrev pub Dropping : Box → Party → Type 0
     Dropping b z = whyNotDrop z ≡ 0 → Stepped h b (BoxCalls.closed z) (dropped b)
 
-    pub dropping : (b : Box) (ts : List Slot) → length ts ≤ 1 → Slots h b (lastAt S b h) ts
+    pub dropping : (b : Box) (ts : List Slot) → length ts ≤ 2 → FreshBehind ts → Slots h b (lastAt S b h) ts
         → Dropping b (showing S b (lastAt S b h) ts)
     unfolding idle BoxCalls.noCheck
-    dropping b [] few k e = absurd (drop-tells _ e refl)
-    dropping b (t ∷ ts) few k e = (
+    dropping b [] few fr k e = absurd (drop-tells _ e refl)
+    dropping b (t ∷ ts) few fr k e = (
       own-drop,
       tt,
       record {
         slots = ts;
-        few = omega arith;
-        shows = closing b t ts few;
+        few = omega (arith, few);
+        behind = behind-next ts fr;
+        shows = closing S b (lastAt S b h) t ts few fr (slots-long b ts fr (k .holds .1));
         ok = slots-drop h b (lastAt S b h) t ts k;
       },
     )
@@ -269,15 +286,34 @@ module _ (S : Starts) where
       last-own : (n : ℕ) → lastAt S b (loaded b n ∷ h) ≡ n
       last-own n = last-loaded b h (S .boxFloor b) n
 
+      -- a load puts its set behind the others: it is opened where there are none, and else it waits
+      behind-load : (s : Set) (ts : List Slot) → FreshBehind ts → FreshBehind (ts ++ (fresh s ∷ []))
+      behind-load s [] fr = tt
+      behind-load s (t ∷ ts) fr = all-fresh ts fr
+        where
+          all-fresh : (us : List Slot) → All Fresh us → All Fresh (us ++ (fresh s ∷ []))
+          all-fresh [] f = (tt, tt)
+          all-fresh (u ∷ us) f = (f .0, all-fresh us (f .1))
+
+      -- with a set waiting a load is not taken
+      not-both : (last : ℕ) (ts : List Slot) → FreshBehind ts → All (SlotOk h b) ts → length ts ≤ 2
+          → showing S b last ts .waiting .terms .n ≡ 0 → length ts ≤ 1
+      unfolding idle noSet
+      not-both last [] fr k few e = omega arith
+      not-both last (t ∷ []) fr k few e = omega arith
+      not-both last (t ∷ fresh s ∷ ts) fr k few e = absurd (omega (arith, slot-long b s (k .1 .0), e))
+      not-both last (t ∷ masked s m o ∷ ts) fr k few e = absurd (fr .0)
+      not-both last (t ∷ worded s m o u ∷ ts) fr k few e = absurd (fr .0)
+
       pub loading : (x : List ℕ) → ((i : ℕ) → i < length x / 512 → Written h b (blockAt x i))
-          → (ts : List Slot) → length ts ≤ 1 → Slots h b (lastAt S b h) ts
+          → (ts : List Slot) → length ts ≤ 2 → FreshBehind ts → Slots h b (lastAt S b h) ts
           → Loading b x (showing S b (lastAt S b h) ts)
-      unfolding idle BoxCalls.noCheck BoxCalls.loaded BoxCalls.opened
-      loading x ad [] few k e =
-          let z : Party = showing S b (lastAt S b h) [] in
+      loading x ad ts two fr k e =
+          let z : Party = showing S b (lastAt S b h) ts in
           let tells = load-tells z x e in
+          let few = not-both (lastAt S b h) ts fr (k .holds) two (tells .none-waits) in
           let r = only-whole (S .key b) (door S) (partyOf b) long Mine mine-proper one-mine
-          (lastAt S b h) x (λ i l. mine-block (blockAt x i) (ad i l)) (tells .examined) in
+          (waterOf z) x (λ i l. mine-block (blockAt x i) (ad i l)) (tells .examined) in
           let s : Set = r .0 in
           let good : Proper s = mine-proper s (r .1) in
           let n : setNumber x ≡ s .number =
@@ -285,20 +321,20 @@ module _ (S : Starts) where
           let o : openedSet (S .key b) x ≡ s =
           ap (openedSet (S .key b)) (r .2) ∙ half-opened (S .key b) (door S) (partyOf b) long s good in
           let above : lastAt S b h < s .number = subst (λ i. lastAt S b h < i) n (tells .above) in
-          let ok : Slots (loaded b (s .number) ∷ h) b (s .number) (fresh s ∷ []) =
-          slots-load h b (lastAt S b h) [] k s above (mine-dealt s (s .number) (r .1) refl) (r .1 .3) in
+          let after : List Slot = ts ++ (fresh s ∷ []) in
+          let ok : Slots (loaded b (s .number) ∷ h) b (s .number) after =
+          slots-load h b (lastAt S b h) ts k s above (mine-dealt s (s .number) (r .1) refl) (r .1 .3) in
           let new : Stepped h b (BoxCalls.loaded z s) (loaded b (s .number)) = (
             own-load _,
             tt,
             record {
-              slots = fresh s ∷ [];
-              few = omega arith;
-              shows = ap (λ l. showing S b l (fresh s ∷ [])) (sym (last-own (s .number)));
-              ok = subst (λ l. Slots (loaded b (s .number) ∷ h) b l (fresh s ∷ [])) (sym (last-own (s .number))) ok;
+              slots = after;
+              few = omega (arith, few, length-append ts (fresh s ∷ []));
+              behind = behind-load s ts fr;
+              shows = loads S b (lastAt S b h) s ts few
+                  ∙ ap (λ l. showing S b l after) (sym (last-own (s .number)));
+              ok = subst (λ l. Slots (loaded b (s .number) ∷ h) b l after) (sym (last-own (s .number))) ok;
             },
           ) in
           subst (λ y. Stepped h b (BoxCalls.loaded z y) (loaded b (setNumber x))) (sym o)
           (subst (λ i. Stepped h b (BoxCalls.loaded z s) (loaded b i)) (sym n) new)
-      loading x ad (fresh s ∷ ts) few k e = absurd (omega (arith, load-tells _ x e .turn))
-      loading x ad (masked s a o ∷ ts) few k e = absurd (omega (arith, load-tells _ x e .turn))
-      loading x ad (worded s a o u ∷ ts) few k e = absurd (omega (arith, load-tells _ x e .turn))

@@ -1,7 +1,7 @@
 -- What each call of a run in the right order does, at the state that the run gives its part. Assumes nothing.
 use mathlib.Core.Path.{_≡_, refl, sym, ap, ap₂, _∙_, fun-ext}
 use mathlib.Core.Bool.{Bool, true, false, cond}
-use mathlib.Core.List.{List, [], _∷_}
+use mathlib.Core.List.{List, [], _∷_, _++_}
 use Prim.Native.Nat.{ℕ, zero, suc, _<_, _≤_}
 use native.Mathlib.Omega.{arith}
 use lib.ListN.{length}
@@ -26,14 +26,15 @@ use Rattle.door_lists.specs.Lists.{Box, camera, office, partyOf, other, 
 use Rattle.door_lists.specs.Lists.{take, finish, drop, join, Event, dealt, loaded, sent, dropped, joined, vector}
 use Rattle.door_lists.specs.Lists.{word, answer, written, maskedBy}
 use Rattle.door_lists.specs.Demand.{verdict, Labelled, InRange}
-use Rattle.door_lists.proofs.Accepted.{Heard}
-use Rattle.door_lists.proofs.Goes.{OpenAt, deal-goes, load-goes, mask-goes, take-goes, finish-goes, join-goes}
+use Rattle.door_lists.proofs.Accepted.{Heard, waterOf}
+use Rattle.door_lists.proofs.Goes.{OpenAt, Behind, deal-goes, load-goes, mask-goes, take-goes, finish-goes, join-goes}
 use Rattle.door_lists.proofs.Dealt.{setOf, set-number, set-terms, set-n, set-proper, Sound, maskOf, ownOf}
 use Rattle.door_lists.proofs.Dealt.{mask-long, wordBy, answerBy, answers-join}
 use Rattle.door_lists.proofs.History.{door, halfOf}
-use Rattle.door_lists.proofs.Slots.{Slot, fresh, masked, worded}
+use Rattle.door_lists.proofs.Slots.{Slot, fresh, masked, worded, setIn}
 use Rattle.door_lists.proofs.Written.{new, masked-is}
-use Rattle.door_lists.proofs.Invariant.{showing, dealerWith, lockWith, dealtBy, wrote}
+use Rattle.door_lists.proofs.Invariant.{phaseOf, firstIn, Fresh, Long, showing, closing, loads, dealerWith, lockWith, dealtBy, wrote}
+use Rattle.door_lists.proofs.Once.{All}
 use Rattle.door_lists.proofs.Boxes.{party-fits, other-party}
 
 bit-le : (b : Bool) → cond b 1 0 ≤ 1
@@ -57,8 +58,9 @@ module _ (S : Starts) (d : Deal) (v : Box → List ℕ) where
   slotAt b (suc zero) = masked (setOf d b) (fill (maskOf d b (v b))) (ownOf d b (v b))
   slotAt b (suc (suc k)) = worded (setOf d b) (fill (maskOf d b (v b))) (ownOf d b (v b)) (wordBy d v b)
 
-  abbrev pub shown : Box → ℕ → Party
-  shown b k = showing S b (d .number) (slotAt b k ∷ [])
+  -- the box with it, where `ts` waits behind it
+  abbrev pub shown : Box → ℕ → ℕ → List Slot → Party
+  shown b k last ts = showing S b last (slotAt b k ∷ ts)
 
   module _ (long : length (door S) ≡ 16) (R : InRange d v) where
     sound : Sound d
@@ -71,17 +73,18 @@ module _ (S : Starts) (d : Deal) (v : Box → List ℕ) where
 
     -- ---- each call, at the state that the run gives it
 
-    open-at : (b : Box) (t : Slot) (k : ℕ) → 1 ≤ k → k ≤ 3 → (showing S b (d .number) (t ∷ []) .check .phase ≡ k)
-        → showing S b (d .number) (t ∷ []) .check .set ≡ setOf d b
-        → OpenAt k (showing S b (d .number) (t ∷ []))
-    open-at b t k some last p s =
+    open-at : (b : Box) (t : Slot) (last : ℕ) (ts : List Slot) → Behind (d .number) (firstIn ts)
+        → (k : ℕ) → 1 ≤ k → k ≤ 3 → phaseOf t ≡ k → setIn t ≡ setOf d b
+        → OpenAt k (showing S b last (t ∷ ts))
+    open-at b t last ts W k some most p s =
         record {
           phase-is = p;
           some-phase = some;
-          last-phase = last;
+          last-phase = most;
           party-fits = party-fits b;
           code-fits = rw (s, set-terms d b) (R .code-fits);
           length-fits = rw (s, set-terms d b) (R .length-fits);
+          waiting-fits = rw (s, set-number d b) (W k some);
         }
 
     hears : {A : Type 0} (kind : ℕ) (b c : Box) (n : ℕ) (m : Message A)
@@ -99,71 +102,90 @@ module _ (S : Starts) (d : Deal) (v : Box → List ℕ) where
     abbrev pub Made : PartyAnswer → Event → Party → Event → Type 0
     Made a e s g = (a .why ≡ 0) × (a .party ≡ s) × (e ≡ g)
 
-    pub load-made : (b : Box) (last : ℕ) → last < d .number → (x : List ℕ) → x ≡ halfOf S d b
-        → Made (BoxCalls.load (showing S b last []) x) (loaded b (setNumber x)) (shown b 0) (said (load b x))
-    unfolding BoxCalls.load BoxCalls.loaded BoxCalls.opened idle BoxCalls.noCheck noSet
-    load-made b last l x q =
+    -- behind `ts`, of which none waits and all is sound
+    pub load-made : (b : Box) (last : ℕ) (ts : List Slot) → length ts ≤ 1 → BoxCalls.sound (showing S b last ts) ≡ true
+        → waterOf (showing S b last ts) < d .number → (x : List ℕ) → x ≡ halfOf S d b
+        → Made (BoxCalls.load (showing S b last ts) x) (loaded b (setNumber x))
+        (showing S b (d .number) (ts ++ (slotAt b 0 ∷ []))) (said (load b x))
+    unfolding BoxCalls.load
+    load-made b last ts few fits l x q =
         let s : Set = setOf d b in
         let k = set-proper d b sound in
-        let above : last < s .number = rw (set-number d b) l in
-        let z = load-goes (showing S b last []) x refl (party-fits b) refl refl
-        (rw q (half-taken (S .key b) (door S) (partyOf b) long s k last above)) in
+        let above : waterOf (showing S b last ts) < s .number = rw (set-number d b) l in
+        let z = load-goes (showing S b last ts) x (none-waits last ts few) fits
+        (rw q (half-taken (S .key b) (door S) (partyOf b) long s k (waterOf (showing S b last ts)) above)) in
         let o : openedSet (S .key b) x ≡ s =
         ap (openedSet (S .key b)) q ∙ half-opened (S .key b) (door S) (partyOf b) long s k in
         let n : setNumber x ≡ d .number =
         ap setNumber q ∙ half-number (S .key b) (door S) (partyOf b) long s k ∙ set-number d b in (
           z,
-          new _ _ _ z ∙ ap (BoxCalls.loaded (showing S b last [])) o
-              ∙ ap (λ l. showing S b l (fresh s ∷ [])) (set-number d b),
+          new _ _ _ z ∙ ap (BoxCalls.loaded (showing S b last ts)) o ∙ loads S b last s ts few
+              ∙ ap (λ l. showing S b l (ts ++ (fresh s ∷ []))) (set-number d b),
           ap (loaded b) n,
         )
+      where
+        none-waits : (l : ℕ) (us : List Slot) → length us ≤ 1 → showing S b l us .waiting .terms .n ≡ 0
+        none-waits l [] f = refl
+        none-waits l (t ∷ []) f = refl
+        none-waits l (t ∷ u ∷ us) f = absurd (omega (arith, f))
 
-    pub mask-made : (b : Box) (x out : List ℕ) → x ≡ v b → d .terms .n ≤ length out
-        → (let z : Party = shown b 0 in
-        Made (BoxCalls.mask z x (length out))
-        (sent b (z .check .set .number) (vector x (maskedBy z x out))) (shown b 1) (said (mask b x out)))
-    unfolding BoxCalls.mask BoxCalls.masked
-    mask-made b x out q room =
-        let z : Party = shown b 0 in
-        let o = open-at b (fresh (setOf d b)) 1 (omega arith) (omega arith) refl refl in
-        let k = mask-goes z x (length out) o (rw (q, set-n d b) (R .vector-long b))
-        (rw (set-n d b) room) (rw (q, set-terms d b) (R .elements-fit b)) in (
-          k,
-          new _ _ _ k ∙ ap (BoxCalls.masked z) q,
-          ap₂ (λ n m. sent b n (vector x m)) (set-number d b) (masked-is z x out k)
-              ∙ ap (λ y. sent b (d .number) (vector y (maskOf d b y))) q,
-        )
+    -- with `ts` behind its set
+    module _ (b : Box) (last : ℕ) (ts : List Slot) (W : Behind (d .number) (firstIn ts)) where
+      pub mask-made : (x out : List ℕ) → x ≡ v b → d .terms .n ≤ length out
+          → (let z : Party = shown b 0 last ts in
+          Made (BoxCalls.mask z x (length out))
+          (sent b (z .check .set .number) (vector x (maskedBy z x out))) (shown b 1 last ts) (said (mask b x out)))
+      unfolding BoxCalls.mask BoxCalls.masked
+      mask-made x out q room =
+          let z : Party = shown b 0 last ts in
+          let o = open-at b (slotAt b 0) last ts W 1 (omega arith) (omega arith) refl refl in
+          let k = mask-goes z x (length out) o (rw (q, set-n d b) (R .vector-long b))
+          (rw (set-n d b) room) (rw (q, set-terms d b) (R .elements-fit b)) in (
+            k,
+            new _ _ _ k ∙ ap (BoxCalls.masked z) q,
+            ap₂ (λ n m. sent b n (vector x m)) (set-number d b) (masked-is z x out k)
+                ∙ ap (λ y. sent b (d .number) (vector y (maskOf d b y))) q,
+          )
 
-    pub take-made : (b : Box) (m : Message (List ℕ)) → Labelled (door S) 0 (other b) (d .number) m
-        → m .content ≡ maskOf d (other b) (v (other b))
-        → (let z : Party = shown b 1 in
-        let a : PartyAnswer = BoxCalls.takeVector z (m .label) (m .name) (m .content) in
-        Made a (sent b (z .check .set .number) (word (a .word))) (shown b 2) (said (take b m)))
-    unfolding BoxCalls.takeVector BoxCalls.worded
-    take-made b m a q =
-        let z : Party = shown b 1 in
-        let n : length (m .content) ≡ setOf d b .terms .n = ap length q
-        ∙ mask-long (setOf d (other b)) (partyOf (other b)) (v (other b)) ∙ set-n d (other b) ∙ sym (set-n d b) in
-        let k = take-goes z (m .label) (m .name) (m .content) (open-at b (slotAt b 1) 2 (omega arith)
-        (omega arith) refl refl) long n (hears 0 b (other b) _ m (sym (other-party b)) a) in
-        let u = ap (BoxCalls.wordOf (setOf d b) (partyOf b) (fill (maskOf d b (v b))) (ownOf d b (v b))) q in (
-          k,
-          new _ _ _ k ∙ ap (BoxCalls.worded z) u,
-          ap₂ (λ n w. sent b n (word w)) (set-number d b) (new _ _ _ k ∙ u),
-        )
+      pub take-made : (m : Message (List ℕ)) → Labelled (door S) 0 (other b) (d .number) m
+          → m .content ≡ maskOf d (other b) (v (other b))
+          → (let z : Party = shown b 1 last ts in
+          let a : PartyAnswer = BoxCalls.takeVector z (m .label) (m .name) (m .content) in
+          Made a (sent b (z .check .set .number) (word (a .word))) (shown b 2 last ts) (said (take b m)))
+      unfolding BoxCalls.takeVector BoxCalls.worded
+      take-made m a q =
+          let z : Party = shown b 1 last ts in
+          let n : length (m .content) ≡ setOf d b .terms .n = ap length q
+          ∙ mask-long (setOf d (other b)) (partyOf (other b)) (v (other b)) ∙ set-n d (other b) ∙ sym (set-n d b) in
+          let o = open-at b (slotAt b 1) last ts W 2 (omega arith) (omega arith) refl refl in
+          let k = take-goes z (m .label) (m .name) (m .content) o long n
+          (hears 0 b (other b) _ m (sym (other-party b)) a) in
+          let u = ap (BoxCalls.wordOf (setOf d b) (partyOf b) (fill (maskOf d b (v b))) (ownOf d b (v b))) q in (
+            k,
+            new _ _ _ k ∙ ap (BoxCalls.worded z) u,
+            ap₂ (λ n w. sent b n (word w)) (set-number d b) (new _ _ _ k ∙ u),
+          )
 
-    pub finish-made : (b : Box) (m : Message ℕ)
-        → Labelled (door S) 1 (other b) (d .number) m → m .content ≡ wordBy d v (other b)
-        → (let z : Party = shown b 2 in
-        let a : PartyAnswer = BoxCalls.finish z (m .label) (m .name) (m .content) in
-        Made a (sent b (z .check .set .number) (answer (a .word))) (BoxCalls.closed z) (said (finish b m)))
-    unfolding BoxCalls.finish
-    finish-made b m a q =
-        let z : Party = shown b 2 in
-        let k = finish-goes z (m .label) (m .name) (open-at b (slotAt b 2) 3 (omega arith) (omega arith) refl refl) long
-        (hears 1 b (other b) _ m (sym (other-party b)) a) in
-        let u = ap (BoxCalls.answerOf (setOf d b) (partyOf b) (wordBy d v b)) q in
-        (k, new _ _ _ k, ap₂ (λ n w. sent b n (answer w)) (set-number d b) (new _ _ _ k ∙ u))
+      -- call 4 and drop leave what was behind
+      module _ (few : length ts ≤ 1) (fr : All Fresh ts) (all-long : All Long ts) where
+        closes-to : (k : ℕ) → BoxCalls.closed (shown b k last ts) ≡ showing S b last ts
+        closes-to k = closing S b last (slotAt b k) ts (omega (arith, few)) fr all-long
+
+        pub finish-made : (m : Message ℕ)
+            → Labelled (door S) 1 (other b) (d .number) m → m .content ≡ wordBy d v (other b)
+            → (let z : Party = shown b 2 last ts in
+            let a : PartyAnswer = BoxCalls.finish z (m .label) (m .name) (m .content) in
+            Made a (sent b (z .check .set .number) (answer (a .word))) (showing S b last ts) (said (finish b m)))
+        unfolding BoxCalls.finish
+        finish-made m a q =
+            let z : Party = shown b 2 last ts in
+            let o = open-at b (slotAt b 2) last ts W 3 (omega arith) (omega arith) refl refl in
+            let k = finish-goes z (m .label) (m .name) o long (hears 1 b (other b) _ m (sym (other-party b)) a) in
+            let u = ap (BoxCalls.answerOf (setOf d b) (partyOf b) (wordBy d v b)) q in (
+              k,
+              new _ _ _ k ∙ closes-to 2,
+              ap₂ (λ n w. sent b n (answer w)) (set-number d b) (new _ _ _ k ∙ u),
+            )
 
     -- the same of the dealer and of the lock
     pub deal-made : (s : Dealer) (last : ℕ) → s ≡ dealerWith S last → last < d .number
