@@ -1,20 +1,22 @@
 -- What acceptance tells: for each call, over any state and anything handed in, what its tests say where none refuses.
 -- Assumes nothing.
-use mathlib.Core.Path.{_≡_, refl}
+use mathlib.Core.Path.{_≡_, refl, ap₂}
 use mathlib.Core.Bool.{Bool, true, false, not, cond, _&&_}
 use mathlib.Core.List.{List}
 use Prim.Native.Nat.{ℕ, _-_, _<_, _≤_}
 use native.Mathlib.Omega.{arith}
 use borrow.Author.Tests.{leb-true, leb-false, ltb-true, eqb-true, eqb-false, ne-eqb, not-true, not-false}
 use lib.Dec.{eqb, leb, ltb}
-use lib.ListN.{length}
+use lib.ListN.{length, getD}
 use Rattle.base_algebra.specs.Bit.{both}
 use Rattle.base_words.specs.List.{same, same-eq}
-use Rattle.measure_table.specs.Measure.{allInRange}
+use Rattle.measure_table.specs.Measure.{allInRange, isCode, lengthFits}
+use Rattle.measure_table.specs.Laws.{length-fits}
 use Rattle.base_messages.specs.declared.Label.{Label}
 use Rattle.base_messages.specs.Laws.{passed, fits-short}
 use Rattle.base_messages.specs.Messages.{unless, expected}
-use Rattle.half_seal.specs.Half.{whyNot, setNumber}
+use Rattle.half_content.specs.Content.{nameField, partyField, field, setIn, contentFits}
+use Rattle.half_seal.specs.Half.{whyNot, whyNotOpened, setNumber, openedSet}
 use Rattle.call_party.specs.declared.Party.{Party}
 use Rattle.call_party.specs.Party.{waits, sound, highWater}
 use Rattle.call_party.specs.Party.{inTurn, whyNotLoad, whyNotMask, whyNotMessage, whyNotTake, whyNotFinish, whyNotDrop}
@@ -101,6 +103,30 @@ load-tells s h e =
       above = omega (arith, above, water-last (s .check .phase) (s .check .set .number) (s .last));
       above-open = λ o. omega (arith, above, water-open (s .check .phase) (s .check .set .number) (s .last) o);
     }
+
+-- what a load takes has a code and a length that fit
+content-fits : (name : List ℕ) (party count m : ℕ) (c : List ℕ) → contentFits name party count c ≡ true
+    → isCode (setIn m c .terms .code) && lengthFits (setIn m c .terms) ≡ true
+unfolding contentFits setIn
+content-fits name party count m c e =
+    let named = both (same (field c nameField) name) _ e in
+    let owned = both (eqb (getD (field c partyField) 0 0) party) _ (named .1) in
+    let coded = both (isCode (setIn m c .terms .code)) _ (owned .1) in
+    let long = both (lengthFits (setIn m c .terms)) _ (coded .1) in
+    ap₂ _&&_ (coded .0) (long .0)
+
+pub opened-fits : (key name : List ℕ) (party last : ℕ) (x : List ℕ) → whyNot key name party last x ≡ 0
+    → isCode (openedSet key x .terms .code) && lengthFits (openedSet key x .terms) ≡ true
+unfolding whyNot whyNotOpened openedSet
+opened-fits key name party last x e =
+    let blocks = passed _ (passed _ (passed _ e .1) .1) in
+    content-fits name party _ (setNumber x) _ (passed _ (blocks .1) .0)
+
+-- .. and so it has elements
+pub opened-long : (s : Party) (h : List ℕ) → whyNotLoad s h ≡ 0 → 1 ≤ openedSet (s .who .key) h .terms .n
+opened-long s h e =
+    let fits = opened-fits (s .who .key) (s .who .name) (s .who .party) (waterOf s) h (load-tells s h e .examined) in
+    length-fits _ (both (isCode (openedSet (s .who .key) h .terms .code)) _ fits .1) .0
 
 pub record MaskTells (s : Party) (v : List ℕ) (room : ℕ) : Type 0 where
   pub turn : s .check .phase ≡ 1

@@ -3,7 +3,7 @@
 use mathlib.Core.Path.{_≡_, sym, ap, subst, _∙_}
 use mathlib.Core.Bool.{Bool, true, cond}
 use mathlib.Core.List.{List, [], _∷_}
-use Prim.Native.Nat.{ℕ, _<_}
+use Prim.Native.Nat.{ℕ, suc, _<_}
 use borrow.Author.Tests.{lt-ltb}
 use Rattle.measure_table.specs.declared.Terms.{Terms}
 use Rattle.measure_table.specs.Measure.{isCode}
@@ -39,16 +39,16 @@ no-wrong-report s f cs a n bit i =
       x = t .v camera;
       y = t .v office;
       one-deal = single _ (I .deals-once n .few) (in-deals (history s cs) n (t .of));
-      one-x = single _ (I .box-is camera .ok .vectors-once n .few)
+      one-x = single _ (I .box-is camera .ok .counted .vectors-once n .few)
           (in-vectors (history s cs) camera n (t .v camera) (t .sents camera));
-      one-y = single _ (I .box-is office .ok .vectors-once n .few)
+      one-y = single _ (I .box-is office .ok .counted .vectors-once n .few)
           (in-vectors (history s cs) office n (t .v office) (t .sents office));
       right = r .1;
     }
 
 no-reuse : NoReuse
 unfolding NoReuse
-no-reuse s f cs a b n = let k = always s f cs a .box-is b .ok in (k .vectors-once n .few, k .words-once n .few)
+no-reuse s f cs a b n = let k = always s f cs a .box-is b .ok .counted in (k .vectors-once n .few, k .words-once n .few)
 
 -- a run in the right order after such a list
 begins : (s : Starts) → Started s → (cs : List Call) → Admissible s cs → (d : Deal) (v : Box → List ℕ)
@@ -75,7 +75,7 @@ unfolding CanDrop
 can-drop s f cs a b o =
     let h = history s cs in
     let (e, n) = dropped-then s h (after (beginning s) cs) (always s f cs a) b o in
-    (ap (λ x. x ∷ h) e, ap (λ x. openSets b (x ∷ h)) e ∙ n)
+    (ap (λ x. x ∷ h) e, ap (λ x. suc (openSets b (x ∷ h))) e ∙ n)
 
 coded : (terms : Terms) → terms .code < 3 → isCode (terms .code) ≡ true
 unfolding isCode

@@ -26,7 +26,7 @@ use Rattle.door_lists.proofs.Accepted.{lock-tells}
 use Rattle.door_lists.proofs.Dealt.{setOf, set-n, set-proper, Sound}
 use Rattle.door_lists.proofs.Once.{All, Once, once-none, unique}
 use Rattle.door_lists.proofs.History.{door, halfOf, Good, Dealt, Vector, in-deals, in-vectors}
-use Rattle.door_lists.proofs.Slots.{Slot, fresh, masked, worded, setIn, Slots}
+use Rattle.door_lists.proofs.Slots.{Slot, fresh, masked, worded, setIn, Counted, Slots, all-load}
 use Rattle.door_lists.proofs.Written.{new, written-is}
 
 -- ---- how a box's state shows its sets: none, one at its phase, or such a one and a fresh one that waits
@@ -77,6 +77,14 @@ Fresh (worded s m o w) = ⊥
 abbrev pub FreshBehind : List Slot → Type 0
 FreshBehind [] = Unit {0}
 FreshBehind (t ∷ ts) = All Fresh ts
+
+pub behind-next : (ts : List Slot) → All Fresh ts → FreshBehind ts
+behind-next [] fr = tt
+behind-next (t ∷ ts) fr = fr .1
+
+pub behind-load : (s : Set) (ts : List Slot) → FreshBehind ts → FreshBehind (ts ++ (fresh s ∷ []))
+behind-load s [] fr = tt
+behind-load s (t ∷ ts) fr = all-load Fresh (fresh s) ts fr tt
 
 abbrev pub Long : Slot → Type 0
 Long t = 1 ≤ setIn t .terms .n
@@ -149,6 +157,17 @@ module _ (S : Starts) where
         length-replicate {A = ℕ} (16 - length (S .name)) 0,
       )
 
+  pub none-yet : (b : Box) → Counted [] b (S .boxFloor b) []
+  none-yet b =
+      record {
+        low = S .boxFloor b;
+        rising = omega arith;
+        count = refl;
+        held-is = refl;
+        vectors-once = λ n. once-none;
+        words-once = λ n. once-none;
+      }
+
   pub starts : Started S → Inv [] (beginning S)
   unfolding startDealer startParty startLock idle
   starts f =
@@ -163,11 +182,7 @@ module _ (S : Starts) where
           shows = new _ _ _ (f .box-taken b);
           ok = record {
             holds = tt;
-            low = S .boxFloor b;
-            rising = omega arith;
-            count = refl;
-            vectors-once = λ n. once-none;
-            words-once = λ n. once-none;
+            counted = none-yet b;
           };
         };
         lock-is = new _ _ _ (f .lock-taken);
@@ -202,7 +217,7 @@ module _ (S : Starts) where
 
     pub one-vector : (b : Box) (n : ℕ) (x y : List ℕ) → Vector h b n x → Vector h b n y → x ≡ y
     one-vector b n x y i j =
-        unique (vectors b n h) (I .box-is b .ok .vectors-once n .few) (in-vectors h b n x i) (in-vectors h b n y j)
+        unique (vectors b n h) (I .box-is b .ok .counted .vectors-once n .few) (in-vectors h b n x i) (in-vectors h b n y j)
 
     pub one-pair : (n : ℕ) (v u : Box → List ℕ) → ((b : Box) → Vector h b n (v b)) → ((b : Box) → Vector h b n (u b))
         → v ≡ u

@@ -28,7 +28,7 @@ use Rattle.door_lists.proofs.Slots.{SlotOk}
 use Rattle.door_lists.proofs.Slots.{Slot, fresh, masked, worded, Word, Slots, slots-away, slots-load, slots-mask}
 use Rattle.door_lists.proofs.Slots.{slots-take, slots-close, slots-drop}
 use Rattle.door_lists.proofs.Written.{new, masked-is}
-use Rattle.door_lists.proofs.Invariant.{Fresh, FreshBehind, Long, closing, loads, showing, lastAt, BoxIs, Inv, one-deal, one-pair}
+use Rattle.door_lists.proofs.Invariant.{Fresh, FreshBehind, Long, closing, loads, behind-next, behind-load, showing, lastAt, BoxIs, Inv, one-deal, one-pair}
 use Rattle.door_lists.proofs.Once.{All}
 use Rattle.door_lists.proofs.Boxes.{other-party, party-of}
 use Rattle.door_lists.proofs.Parts.{Away, last-away, Own, own-load, own-sent, own-drop, last-loaded}
@@ -176,10 +176,6 @@ module _ (S : Starts) where
     slots-long b (masked s m o ∷ ts) fr k = absurd (fr .0)
     slots-long b (worded s m o w ∷ ts) fr k = absurd (fr .0)
 
-    behind-next : (ts : List Slot) → All Fresh ts → FreshBehind ts
-    behind-next [] fr = tt
-    behind-next (t ∷ ts) fr = fr .1
-
     abbrev pub Finishing : Box → Message ℕ → Party → Type 0
     Finishing b m z =
         whyNotFinish z (m .label) (m .name) ≡ 0
@@ -285,15 +281,6 @@ module _ (S : Starts) where
 
       last-own : (n : ℕ) → lastAt S b (loaded b n ∷ h) ≡ n
       last-own n = last-loaded b h (S .boxFloor b) n
-
-      -- a load puts its set behind the others: it is opened where there are none, and else it waits
-      behind-load : (s : Set) (ts : List Slot) → FreshBehind ts → FreshBehind (ts ++ (fresh s ∷ []))
-      behind-load s [] fr = tt
-      behind-load s (t ∷ ts) fr = all-fresh ts fr
-        where
-          all-fresh : (us : List Slot) → All Fresh us → All Fresh (us ++ (fresh s ∷ []))
-          all-fresh [] f = (tt, tt)
-          all-fresh (u ∷ us) f = (f .0, all-fresh us (f .1))
 
       -- with a set waiting a load is not taken
       not-both : (last : ℕ) (ts : List Slot) → FreshBehind ts → All (SlotOk h b) ts → length ts ≤ 2

@@ -107,7 +107,7 @@ module _ (S : Starts) (d : Deal) (v : Box → List ℕ) where
         → waterOf (showing S b last ts) < d .number → (x : List ℕ) → x ≡ halfOf S d b
         → Made (BoxCalls.load (showing S b last ts) x) (loaded b (setNumber x))
         (showing S b (d .number) (ts ++ (slotAt b 0 ∷ []))) (said (load b x))
-    unfolding BoxCalls.load
+    unfolding BoxCalls.load noSet
     load-made b last ts few fits l x q =
         let s : Set = setOf d b in
         let k = set-proper d b sound in

@@ -1,231 +1,52 @@
--- Numbers and open sets after any list of calls. A box is known by three numbers alone, its last one, its phase and its
--- set's, which each accepted call moves as its event says, whatever was handed in. Assumes nothing.
-use mathlib.Core.Path.{_≡_, refl, sym, subst, ap₂, _∙_}
-use mathlib.Core.Bool.{Bool, true, false, cond, _&&_}
+-- Numbers and open sets after any list of calls: each box shows sets that loads left, whatever they hold, and each
+-- accepted call moves them as its event says, whatever was handed in. Assumes nothing.
+use mathlib.Core.Path.{_≡_, refl, sym, subst, ap, _∙_}
+use mathlib.Core.Bool.{Bool, true, false, cond, not}
 use mathlib.Core.List.{List, [], _∷_, _++_, map}
-use mathlib.Core.Logic.{_⊎_, inl, inr}
-use Prim.Native.Nat.{ℕ, zero, suc, _<_, _≤_}
+use Prim.Native.Nat.{ℕ, suc, _<_, _≤_}
 use native.Mathlib.Omega.{arith}
-use borrow.Author.Tests.{eqb-true, eq-eqb, ne-eqb, le-leb}
-use lib.Dec.{eqb, leb, eqb→eq}
-use lib.ListN.{length, getD}
+use borrow.Author.Tests.{eqb-true, eq-eqb, ne-eqb}
+use lib.Dec.{eqb}
+use lib.ListN.{length, length-append, length-map}
 use Rattle.base_algebra.specs.Bit.{both}
-use Rattle.base_words.specs.List.{same}
-use Rattle.measure_table.specs.Measure.{isCode, lengthFits}
+use Rattle.measure_table.specs.Measure.{isCode, lengthFits, ownWord}
+use Rattle.measure_table.specs.Laws.{length-fits}
 use Rattle.base_messages.specs.declared.Label.{Label}
 use Rattle.base_messages.specs.Messages.{outOfTurn, unless, ifTaken}
-use Rattle.base_messages.specs.Laws.{passed}
-use Rattle.half_content.specs.Content.{nameField, partyField, field, setIn, contentFits, noSet}
-use Rattle.half_seal.specs.Half.{whyNot, whyNotOpened, setNumber, openedSet}
+use Rattle.half_content.specs.declared.Set.{Set}
+use Rattle.half_content.specs.Content as ContentIs
+use Rattle.half_content.specs.Content.{fill, noSet}
+use Rattle.half_seal.specs.Half.{setNumber, openedSet}
 use Rattle.call_dealer.specs.declared.Dealer.{Dealer}
 use Rattle.call_dealer.specs.Dealer as DealerCalls
 use Rattle.call_dealer.specs.Laws.{deal-tells}
 use Rattle.call_party.specs.declared.Party.{Party}
 use Rattle.call_party.specs.Party as BoxCalls
-use Rattle.call_party.specs.Party.{idle, stateFits, sound, inTurn, takeVector, dropSet}
+use Rattle.call_party.specs.Party.{idle, inTurn, takeVector, dropSet}
 use Rattle.call_party.specs.Party.{whyNotLoad, whyNotMask, whyNotTake, whyNotFinish, whyNotDrop}
 use Rattle.call_lock.specs.declared.Lock.{Lock}
 use Rattle.call_lock.specs.Lock as LockCalls
 use Rattle.door_lists.specs.Lists.{Box, partyOf, other, put, World, Starts, Started, beginning}
 use Rattle.door_lists.specs.Lists.{Call, deal, load, mask, take, finish, drop, join, step, after, history}
 use Rattle.door_lists.specs.Lists.{Event, loaded, sent, dropped, refused, vector, word, answer, eventOf}
-use Rattle.door_lists.specs.Demand.{dealsIn, loadsBy, joinsIn, collect, vectors, sentWords}
-use Rattle.door_lists.specs.Demand.{lastDealt, lastLoaded, lastJoined, openSets}
-use Rattle.door_lists.specs.Numbers.{Rise, NoTurn, NumbersKept}
-use Rattle.door_lists.proofs.Accepted.{load-tells, mask-tells, take-tells, finish-tells, drop-tells, join-tells}
+use Rattle.door_lists.specs.Demand.{dealsIn, loadsBy, joinsIn, collect}
+use Rattle.door_lists.specs.Demand.{lastDealt, lastLoaded, lastJoined, openSets, held}
+use Rattle.door_lists.specs.Numbers.{Rise, NoTurn, numbersIn, NumbersKept}
+use Rattle.door_lists.proofs.Accepted.{waterOf, opened-fits, load-tells, mask-tells, take-tells, finish-tells}
+use Rattle.door_lists.proofs.Accepted.{drop-tells, join-tells}
 use Rattle.door_lists.proofs.Boxes.{own-box, party-fits, put-all}
-use Rattle.door_lists.proofs.Once.{Once, once-none, once-map, once-cond, once-skip}
-use Rattle.door_lists.proofs.Parts.{Away, vectors-away, words-away, last-away, open-away}
-use Rattle.door_lists.proofs.Parts.{Own, own-load, own-sent, own-drop}
+use Rattle.door_lists.proofs.Goes.{Behind, none-behind, one-behind, drop-goes}
+use Rattle.door_lists.proofs.History.{door}
+use Rattle.door_lists.proofs.Invariant.{phaseOf, firstIn, Fresh, FreshBehind, Long, behind-next, behind-load}
+use Rattle.door_lists.proofs.Invariant.{showing, closing, loads, lastAt, none-yet}
+use Rattle.door_lists.proofs.Once.{All}
+use Rattle.door_lists.proofs.Parts.{Away, last-away, Own, own-load, own-sent, own-drop, last-loaded}
 use Rattle.door_lists.proofs.Parts.{other-away, dealt-away, joined-away, refused-away}
-use Rattle.door_lists.proofs.Parts.{vectors-sent, words-sent, last-loaded, open-loaded, open-sent, open-dropped}
 use Rattle.door_lists.proofs.Parts.{Quiet, dealt-quiet, joined-quiet, refused-quiet, own-quiet}
+use Rattle.door_lists.proofs.Slots.{Slot, fresh, masked, worded, setIn, numberOf, Rising, Counted, all-load}
+use Rattle.door_lists.proofs.Slots.{counted-away, counted-load, counted-mask, counted-take, counted-close}
+use Rattle.door_lists.proofs.Slots.{counted-drop}
 use Rattle.door_lists.proofs.Written.{new}
-
--- ---- what may still come under a number
-
--- it is above the last one, or it is the last one and the open set is at no later phase than k
-abbrev Spare : ℕ → ℕ → ℕ → ℕ → Type 0
-Spare k last phase n = (last < n) ⊎ ((1 ≤ phase) × (phase ≤ k) × (n ≡ last))
-
--- what may come after the phase moved on from p, or the set was closed, could come before that
-later : (k last p q n : ℕ) → 1 ≤ p → (p ≤ q) ⊎ (q ≡ 0) → Spare k last q n → Spare k last p n
-later k last p q n some f (inl s) = inl s
-later k last p q n some (inl f) (inr s) = inr (some, omega (arith, f, s .1), s .2)
-later k last p q n some (inr f) (inr s) = absurd (omega (arith, f, s .0))
-
--- and so could what may come after a load of m, which is above the last number
-loading : (k last m n : ℕ) → last < m → Spare k m 1 n → Spare k last 0 n
-loading k last m n l (inl s) = inl (omega (arith, l, s))
-loading k last m n l (inr s) = inl (omega (arith, l, s .2))
-
--- what is sent at phase k under the last number may come there, and not from then on
-sending : {A : Type 0} (k last m n : ℕ) (x : A) (l : List A) → 1 ≤ k → m ≡ last → Once l (Spare k last k n)
-    → Once (cond (eqb m n) (x ∷ []) [] ++ l) (Spare k last (suc k) n)
-sending k last m n x l some e o =
-    once-cond x l (eqb m n) o (λ t. inr (some, omega arith, sym (eqb→eq m n t) ∙ e)) (λ t. never (eqb→eq m n t)) before
-  where
-    never : m ≡ n → Spare k last (suc k) n → ⊥
-    never q (inl s) = omega (arith, q, e, s)
-    never q (inr s) = omega (arith, s .1)
-
-    before : Spare k last (suc k) n → Spare k last k n
-    before (inl s) = inl s
-    before (inr s) = absurd (omega (arith, s .1))
-
--- ---- a box, after the events h: its last number, its phase, and its set's number
-
-module _ (floor : ℕ) (b : Box) where
-  record At (h : List Event) (last phase m : ℕ) : Type 0 where
-    last-is : last ≡ lastLoaded floor b h
-    rise : Rise floor (collect (loadsBy b) h)
-    none : phase ≡ 0 → openSets b h ≡ 0
-    one : 1 ≤ phase → openSets b h ≡ 1
-    number-is : 1 ≤ phase → m ≡ last
-    vectors-once : (n : ℕ) → Once (vectors b n h) (Spare 1 last phase n)
-    words-once : (n : ℕ) → Once (sentWords b n h) (Spare 2 last phase n)
-
-  at-start : At [] floor 0 0
-  at-start =
-      record {
-        last-is = refl;
-        rise = tt;
-        none = λ e. refl;
-        one = λ l. absurd (omega (arith, l));
-        number-is = λ l. absurd (omega (arith, l));
-        vectors-once = λ n. once-none;
-        words-once = λ n. once-none;
-      }
-
-  module _ (h : List Event) (last : ℕ) where
-    at-away : (e : Event) → Away b e → (phase m : ℕ) → At h last phase m → At (e ∷ h) last phase m
-    at-away e a phase m k =
-        record {
-          last-is = k .last-is ∙ sym (last-away a h floor);
-          rise = rw (a .no-load) (k .rise);
-          none = λ z. open-away a h ∙ k .none z;
-          one = λ z. open-away a h ∙ k .one z;
-          number-is = k .number-is;
-          vectors-once = λ n. rw (vectors-away a h n) (k .vectors-once n);
-          words-once = λ n. rw (words-away a h n) (k .words-once n);
-        }
-
-    at-loaded : (m n : ℕ) → At h last 0 m → last < n → At (loaded b n ∷ h) n 1 n
-    at-loaded m n k l =
-        record {
-          last-is = sym (last-loaded b h floor n);
-          rise = rw (own-box b) (k .rise, subst (λ i. i < n) (k .last-is) l);
-          none = λ z. absurd (omega (arith, z));
-          one = λ z. omega (arith, open-loaded b h n, k .none refl);
-          number-is = λ z. refl;
-          vectors-once = λ i. once-map (k .vectors-once i) (loading 1 last n i l);
-          words-once = λ i. once-map (k .words-once i) (loading 2 last n i l);
-        }
-
-    at-masked : (m : ℕ) (x y : List ℕ) → At h last 1 m → At (sent b m (vector x y) ∷ h) last 2 m
-    at-masked m x y k =
-        record {
-          last-is = k .last-is;
-          rise = k .rise;
-          none = λ z. absurd (omega (arith, z));
-          one = λ z. omega (arith, open-sent b h m (vector x y), k .one (omega arith));
-          number-is = λ z. k .number-is (omega arith);
-          vectors-once = λ n. rw (vectors-sent b h m (vector x y) n)
-              (sending 1 last m n x _ (omega arith) (k .number-is (omega arith)) (k .vectors-once n));
-          words-once = λ n. rw (words-sent b h m (vector x y) n)
-              (once-skip _ (eqb m n) (k .words-once n) (later 2 last 1 2 n (omega arith) (inl (omega arith))));
-        }
-
-    at-worded : (m w : ℕ) → At h last 2 m → At (sent b m (word w) ∷ h) last 3 m
-    at-worded m w k =
-        record {
-          last-is = k .last-is;
-          rise = k .rise;
-          none = λ z. absurd (omega (arith, z));
-          one = λ z. omega (arith, open-sent b h m (word w), k .one (omega arith));
-          number-is = λ z. k .number-is (omega arith);
-          vectors-once = λ n. rw (vectors-sent b h m (word w) n)
-              (once-skip _ (eqb m n) (k .vectors-once n) (later 1 last 2 3 n (omega arith) (inl (omega arith))));
-          words-once = λ n. rw (words-sent b h m (word w) n)
-              (sending 2 last m n w _ (omega arith) (k .number-is (omega arith)) (k .words-once n));
-        }
-
-    at-answered : (m a : ℕ) → At h last 3 m → At (sent b m (answer a) ∷ h) last 0 0
-    at-answered m a k =
-        record {
-          last-is = k .last-is;
-          rise = k .rise;
-          none = λ z. omega (arith, open-sent b h m (answer a), k .one (omega arith));
-          one = λ z. absurd (omega (arith, z));
-          number-is = λ z. absurd (omega (arith, z));
-          vectors-once = λ n. rw (vectors-sent b h m (answer a) n)
-              (once-skip _ (eqb m n) (k .vectors-once n) (later 1 last 3 0 n (omega arith) (inr refl)));
-          words-once = λ n. rw (words-sent b h m (answer a) n)
-              (once-skip _ (eqb m n) (k .words-once n) (later 2 last 3 0 n (omega arith) (inr refl)));
-        }
-
-    at-dropped : (phase m : ℕ) → 1 ≤ phase → At h last phase m → At (dropped b ∷ h) last 0 0
-    at-dropped phase m some k =
-        record {
-          last-is = k .last-is;
-          rise = k .rise;
-          none = λ z. omega (arith, open-dropped b h, k .one some);
-          one = λ z. absurd (omega (arith, z));
-          number-is = λ z. absurd (omega (arith, z));
-          vectors-once = λ n. once-map (k .vectors-once n) (later 1 last phase 0 n some (inr refl));
-          words-once = λ n. once-map (k .words-once n) (later 2 last phase 0 n some (inr refl));
-        }
-
--- ---- a state that no call refuses for itself
-
--- what a load takes has a code and a length that fit
-content-fits : (name : List ℕ) (party count m : ℕ) (c : List ℕ) → contentFits name party count c ≡ true
-    → isCode (setIn m c .terms .code) && lengthFits (setIn m c .terms) ≡ true
-unfolding contentFits setIn
-content-fits name party count m c e =
-    let named = both (same (field c nameField) name) _ e in
-    let owned = both (eqb (getD (field c partyField) 0 0) party) _ (named .1) in
-    let coded = both (isCode (setIn m c .terms .code)) _ (owned .1) in
-    let long = both (lengthFits (setIn m c .terms)) _ (coded .1) in
-    ap₂ _&&_ (coded .0) (long .0)
-
-opened-fits : (key name : List ℕ) (party last : ℕ) (x : List ℕ) → whyNot key name party last x ≡ 0
-    → isCode (openedSet key x .terms .code) && lengthFits (openedSet key x .terms) ≡ true
-unfolding whyNot whyNotOpened openedSet
-opened-fits key name party last x e =
-    let blocks = passed _ (passed _ (passed _ e .1) .1) in
-    content-fits name party _ (setNumber x) _ (passed _ (blocks .1) .0)
-
--- at its phase k, which a call in turn has seen
-sound-at : (k : ℕ) (p : Party) → inTurn k p ≡ true → stateFits (p .who .party) k (p .check .set .terms) ≡ true
-unfolding inTurn sound
-sound-at k p e =
-    let t = both (eqb (p .check .phase) k) _ e in
-    subst (λ i. stateFits (p .who .party) i (p .check .set .terms) ≡ true) (eqb-true _ _ (t .0)) (t .1)
-
-party-at : (p : Party) → sound p ≡ true → leb (p .who .party) 1 ≡ true
-unfolding sound stateFits
-party-at p e = both (leb (p .who .party) 1) _ e .0
-
-sound-loaded : (p : Party) (x : List ℕ) → whyNotLoad p x ≡ 0 → sound p ≡ true
-    → sound (BoxCalls.loaded p (openedSet (p .who .key) x)) ≡ true
-unfolding sound stateFits BoxCalls.loaded BoxCalls.opened
-sound-loaded p x e f =
-    ap₂ _&&_ (party-at p f)
-    (opened-fits (p .who .key) (p .who .name) (p .who .party) (p .last) x (load-tells p x e .examined))
-
-sound-masked : (p : Party) (v : List ℕ) (room : ℕ) → whyNotMask p v room ≡ 0 → sound (BoxCalls.masked p v) ≡ true
-unfolding whyNotMask sound stateFits BoxCalls.masked
-sound-masked p v room e = sound-at 1 p (passed _ e .0)
-
-sound-worded : (p : Party) (l : Label) (name v : List ℕ) (w : ℕ) → whyNotTake p l name v ≡ 0
-    → sound (BoxCalls.worded p w) ≡ true
-unfolding whyNotTake BoxCalls.whyNotMessage sound stateFits BoxCalls.worded
-sound-worded p l name v w e = sound-at 2 p (passed _ e .0)
-
-sound-closed : (p : Party) → sound p ≡ true → sound (BoxCalls.closed p) ≡ true
-unfolding sound stateFits BoxCalls.closed idle BoxCalls.noCheck noSet
-sound-closed p f = ap₂ _&&_ (party-at p f) refl
 
 -- ---- an answer: what is new where nothing refuses, and what was there where something does
 
@@ -238,58 +59,250 @@ either P why e now was f r = go (eqb why 0) refl
     go true q = f (eqb-true why 0 q)
     go false q = r
 
-open-phase : (phase : ℕ) → (phase ≡ 0 → ⊥) → 1 ≤ phase
-open-phase zero f = absurd (f refl)
-open-phase (suc k) f = omega arith
+-- ---- a box's state: it shows sets that a load leaves, whatever they hold
 
--- ---- a box's state
+abbrev Fitting : Slot → Type 0
+Fitting t = (isCode (setIn t .terms .code) ≡ true) × (lengthFits (setIn t .terms) ≡ true)
+
+fitting-long : (ts : List Slot) → All Fitting ts → All Long ts
+fitting-long [] f = tt
+fitting-long (t ∷ ts) f = (length-fits (setIn t .terms) (f .0 .1) .0, fitting-long ts (f .1))
+
+phase-some : (t : Slot) → (1 ≤ phaseOf t) × (phaseOf t ≤ 3)
+phase-some (fresh s) = (omega arith, omega arith)
+phase-some (masked s m o) = (omega arith, omega arith)
+phase-some (worded s m o w) = (omega arith, omega arith)
 
 module _ (S : Starts) where
+  record Has (b : Box) (h : List Event) (ts : List Slot) : Type 0 where
+    few : length ts ≤ 2
+    behind : FreshBehind ts
+    fitting : All Fitting ts
+    counted : Counted h b (lastAt S b h) ts
+    rise : Rise (S .boxFloor b) (collect (loadsBy b) h)
+
   abbrev BoxAt : Box → List Event → Party → Type 0
-  BoxAt b h p = At (S .boxFloor b) b h (p .last) (p .check .phase) (p .check .set .number) × (sound p ≡ true)
+  BoxAt b h p = (ts : List Slot) × Has b h ts × (p ≡ showing S b (lastAt S b h) ts)
 
-  module _ (b : Box) (h : List Event) (p : Party) (a : BoxAt b h p) where
-    at-phase : (k : ℕ) → p .check .phase ≡ k → At (S .boxFloor b) b h (p .last) k (p .check .set .number)
-    at-phase k e = subst (λ i. At (S .boxFloor b) b h (p .last) i (p .check .set .number)) e (a .0)
+  box-away : (b : Box) (h : List Event) (p : Party) → BoxAt b h p → (e : Event) → Away b e → BoxAt b (e ∷ h) p
+  box-away b h p (ts, k, shows) e a =
+      let l = sym (last-away a h (S .boxFloor b)) in (
+        ts,
+        record {
+          few = k .few;
+          behind = k .behind;
+          fitting = k .fitting;
+          counted = subst (λ z. Counted (e ∷ h) b z ts) l (counted-away h e b (lastAt S b h) ts a (k .counted));
+          rise = rw (a .no-load) (k .rise);
+        },
+        shows ∙ ap (λ z. showing S b z ts) l,
+      )
 
-    box-away : (e : Event) → Away b e → BoxAt b (e ∷ h) p
-    box-away e f = (at-away (S .boxFloor b) b h (p .last) e f (p .check .phase) (p .check .set .number) (a .0), a .1)
+  -- with a set waiting a load is not taken
+  not-both : (b : Box) (last : ℕ) (ts : List Slot) → All Fitting ts → showing S b last ts .waiting .terms .n ≡ 0
+      → length ts ≤ 1
+  not-both b last [] f e = omega arith
+  not-both b last (t ∷ []) f e = omega arith
+  not-both b last (t ∷ u ∷ ts) f e = absurd (omega (arith, length-fits (setIn u .terms) (f .1 .0 .1) .0, e))
 
-    box-loaded : (x : List ℕ) → whyNotLoad p x ≡ 0
-        → BoxAt b (loaded b (setNumber x) ∷ h) (BoxCalls.loaded p (openedSet (p .who .key) x))
-    unfolding BoxCalls.loaded BoxCalls.opened openedSet setIn
-    box-loaded x e =
-        let tells = load-tells p x e in (
-          at-loaded (S .boxFloor b) b h (p .last) _ (setNumber x) (at-phase 0 (tells .turn)) (tells .above),
-          sound-loaded p x e (a .1),
+  module _ (b : Box) (h : List Event) where
+    abbrev last : ℕ
+    last = lastAt S b h
+
+    -- what a call does at a box is what it does at the state that its sets show
+    at : (p : Party) → BoxAt b h p → (P : Party → Type 0) → ((ts : List Slot) → Has b h ts → P (showing S b last ts)) → P p
+    at p (ts, k, shows) P f = subst P (sym shows) (f ts k)
+
+    shown-loaded : (x : List ℕ) (ts : List Slot) → Has b h ts
+        → (let z : Party = showing S b last ts in whyNotLoad z x ≡ 0
+        → BoxAt b (loaded b (setNumber x) ∷ h) (BoxCalls.loaded z (openedSet (z .who .key) x)))
+    unfolding openedSet ContentIs.setIn
+    shown-loaded x ts k e =
+        let z : Party = showing S b last ts in
+        let tells = load-tells z x e in
+        let s : Set = openedSet (S .key b) x in
+        let few = not-both b last ts (k .fitting) (tells .none-waits) in
+        let fits = opened-fits (S .key b) (door S) (partyOf b) (waterOf z) x (tells .examined) in
+        let own = last-loaded b h (S .boxFloor b) (setNumber x) in
+        let after : List Slot = ts ++ (fresh s ∷ []) in (
+          after,
+          record {
+            few = omega (arith, few, length-append ts (fresh s ∷ []));
+            behind = behind-load s ts (k .behind);
+            fitting = all-load Fitting (fresh s) ts (k .fitting) (both (isCode (s .terms .code)) _ fits);
+            counted = subst (λ l. Counted (loaded b (setNumber x) ∷ h) b l after) (sym own)
+                (counted-load h b last ts (k .counted) s (tells .above));
+            rise = rw (own-box b) (k .rise, tells .above);
+          },
+          loads S b last s ts few ∙ ap (λ l. showing S b l after) (sym own),
         )
 
-    box-masked : (v y : List ℕ) (room : ℕ) → whyNotMask p v room ≡ 0
-        → BoxAt b (sent b (p .check .set .number) (vector v y) ∷ h) (BoxCalls.masked p v)
-    unfolding BoxCalls.masked
-    box-masked v y room e =
-        let at-1 = at-phase 1 (mask-tells p v room e .turn) in
-        (at-masked (S .boxFloor b) b h (p .last) _ v y at-1, sound-masked p v room e)
+    shown-masked : (v y : List ℕ) (room : ℕ) (ts : List Slot) → Has b h ts
+        → (let z : Party = showing S b last ts in whyNotMask z v room ≡ 0
+        → BoxAt b (sent b (z .check .set .number) (vector v y) ∷ h) (BoxCalls.masked z v))
+    unfolding BoxCalls.noCheck BoxCalls.masked
+    shown-masked v y room [] k e = absurd (omega (arith, mask-tells _ v room e .turn))
+    shown-masked v y room (masked s m o ∷ ts) k e = absurd (omega (arith, mask-tells _ v room e .turn))
+    shown-masked v y room (worded s m o u ∷ ts) k e = absurd (omega (arith, mask-tells _ v room e .turn))
+    shown-masked v y room (fresh s ∷ ts) k e = (
+      masked s (fill (BoxCalls.maskedVector s (partyOf b) v)) (ownWord (s .terms) v) ∷ ts,
+      record {
+        few = k .few;
+        behind = k .behind;
+        fitting = k .fitting;
+        counted = counted-mask h b last s ts (k .counted) v y _ _;
+        rise = k .rise;
+      },
+      refl,
+    )
 
-    box-worded : (l : Label) (name v : List ℕ) (w u : ℕ) → whyNotTake p l name v ≡ 0
-        → BoxAt b (sent b (p .check .set .number) (word u) ∷ h) (BoxCalls.worded p w)
-    unfolding BoxCalls.worded
-    box-worded l name v w u e =
-        let at-2 = at-phase 2 (take-tells p l name v e .turn) in
-        (at-worded (S .boxFloor b) b h (p .last) _ u at-2, sound-worded p l name v w e)
+    shown-worded : (l : Label) (name v : List ℕ) (w u : ℕ) (ts : List Slot) → Has b h ts
+        → (let z : Party = showing S b last ts in whyNotTake z l name v ≡ 0
+        → BoxAt b (sent b (z .check .set .number) (word u) ∷ h) (BoxCalls.worded z w))
+    unfolding BoxCalls.noCheck BoxCalls.worded
+    shown-worded l name v w u [] k e = absurd (omega (arith, take-tells _ l name v e .turn))
+    shown-worded l name v w u (fresh s ∷ ts) k e = absurd (omega (arith, take-tells _ l name v e .turn))
+    shown-worded l name v w u (worded s m o x ∷ ts) k e = absurd (omega (arith, take-tells _ l name v e .turn))
+    shown-worded l name v w u (masked s m o ∷ ts) k e = (
+      worded s m o w ∷ ts,
+      record {
+        few = k .few;
+        behind = k .behind;
+        fitting = k .fitting;
+        counted = counted-take h b last s m o ts (k .counted) w u;
+        rise = k .rise;
+      },
+      refl,
+    )
 
-    box-answered : (l : Label) (name : List ℕ) (u : ℕ) → whyNotFinish p l name ≡ 0
-        → BoxAt b (sent b (p .check .set .number) (answer u) ∷ h) (BoxCalls.closed p)
-    unfolding BoxCalls.closed idle BoxCalls.noCheck noSet
-    box-answered l name u e =
-        let at-3 = at-phase 3 (finish-tells p l name e .turn) in
-        (at-answered (S .boxFloor b) b h (p .last) _ u at-3, sound-closed p (a .1))
+    closes-to : (t : Slot) (ts : List Slot) → Has b h (t ∷ ts)
+        → BoxCalls.closed (showing S b last (t ∷ ts)) ≡ showing S b last ts
+    closes-to t ts k = closing S b last t ts (k .few) (k .behind) (fitting-long ts (k .fitting .1))
 
-    box-dropped : whyNotDrop p ≡ 0 → BoxAt b (dropped b ∷ h) (BoxCalls.closed p)
-    unfolding BoxCalls.closed idle BoxCalls.noCheck noSet
-    box-dropped e =
-        let some = open-phase (p .check .phase) (drop-tells p e) in
-        (at-dropped (S .boxFloor b) b h (p .last) (p .check .phase) _ some (a .0), sound-closed p (a .1))
+    shown-answered : (l : Label) (name : List ℕ) (u : ℕ) (ts : List Slot) → Has b h ts
+        → (let z : Party = showing S b last ts in whyNotFinish z l name ≡ 0
+        → BoxAt b (sent b (z .check .set .number) (answer u) ∷ h) (BoxCalls.closed z))
+    unfolding BoxCalls.noCheck
+    shown-answered l name u [] k e = absurd (omega (arith, finish-tells _ l name e .turn))
+    shown-answered l name u (fresh s ∷ ts) k e = absurd (omega (arith, finish-tells _ l name e .turn))
+    shown-answered l name u (masked s m o ∷ ts) k e = absurd (omega (arith, finish-tells _ l name e .turn))
+    shown-answered l name u (worded s m o w ∷ ts) k e = (
+      ts,
+      record {
+        few = omega (arith, k .few);
+        behind = behind-next ts (k .behind);
+        fitting = k .fitting .1;
+        counted = counted-close h b last (worded s m o w) ts (k .counted) (s .number) u;
+        rise = k .rise;
+      },
+      closes-to (worded s m o w) ts k,
+    )
+
+    shown-dropped : (ts : List Slot) → Has b h ts
+        → (let z : Party = showing S b last ts in whyNotDrop z ≡ 0 → BoxAt b (dropped b ∷ h) (BoxCalls.closed z))
+    unfolding BoxCalls.noCheck
+    shown-dropped [] k e = absurd (drop-tells _ e refl)
+    shown-dropped (t ∷ ts) k e = (
+      ts,
+      record {
+        few = omega (arith, k .few);
+        behind = behind-next ts (k .behind);
+        fitting = k .fitting .1;
+        counted = counted-drop h b last t ts (k .counted);
+        rise = k .rise;
+      },
+      closes-to t ts k,
+    )
+
+    -- the same at any state of the box
+    module _ (p : Party) (a : BoxAt b h p) where
+      box-loaded : (x : List ℕ) → whyNotLoad p x ≡ 0
+          → BoxAt b (loaded b (setNumber x) ∷ h) (BoxCalls.loaded p (openedSet (p .who .key) x))
+      box-loaded x =
+          at p a (λ z. whyNotLoad z x ≡ 0
+          → BoxAt b (loaded b (setNumber x) ∷ h) (BoxCalls.loaded z (openedSet (z .who .key) x))) (shown-loaded x)
+
+      box-masked : (v y : List ℕ) (room : ℕ) → whyNotMask p v room ≡ 0
+          → BoxAt b (sent b (p .check .set .number) (vector v y) ∷ h) (BoxCalls.masked p v)
+      box-masked v y room =
+          at p a (λ z. whyNotMask z v room ≡ 0
+          → BoxAt b (sent b (z .check .set .number) (vector v y) ∷ h) (BoxCalls.masked z v)) (shown-masked v y room)
+
+      box-worded : (l : Label) (name v : List ℕ) (w u : ℕ) → whyNotTake p l name v ≡ 0
+          → BoxAt b (sent b (p .check .set .number) (word u) ∷ h) (BoxCalls.worded p w)
+      box-worded l name v w u =
+          at p a (λ z. whyNotTake z l name v ≡ 0
+          → BoxAt b (sent b (z .check .set .number) (word u) ∷ h) (BoxCalls.worded z w))
+          (shown-worded l name v w u)
+
+      box-answered : (l : Label) (name : List ℕ) (u : ℕ) → whyNotFinish p l name ≡ 0
+          → BoxAt b (sent b (p .check .set .number) (answer u) ∷ h) (BoxCalls.closed p)
+      box-answered l name u =
+          at p a (λ z. whyNotFinish z l name ≡ 0
+          → BoxAt b (sent b (z .check .set .number) (answer u) ∷ h) (BoxCalls.closed z)) (shown-answered l name u)
+
+      box-dropped : whyNotDrop p ≡ 0 → BoxAt b (dropped b ∷ h) (BoxCalls.closed p)
+      box-dropped = at p a (λ z. whyNotDrop z ≡ 0 → BoxAt b (dropped b ∷ h) (BoxCalls.closed z)) shown-dropped
+
+      -- ---- what that tells
+
+      idle-none : p .check .phase ≡ 0 → openSets b h ≡ 0
+      idle-none = at p a (λ z. z .check .phase ≡ 0 → openSets b h ≡ 0) go
+        where
+          go : (ts : List Slot) → Has b h ts → showing S b last ts .check .phase ≡ 0 → openSets b h ≡ 0
+          go [] k e = sym (k .counted .count)
+          go (t ∷ ts) k e = absurd (omega (arith, e, phase-some t .0))
+
+      none-idle : openSets b h ≡ 0 → p .check .phase ≡ 0
+      unfolding BoxCalls.noCheck
+      none-idle = at p a (λ z. openSets b h ≡ 0 → z .check .phase ≡ 0) go
+        where
+          go : (ts : List Slot) → Has b h ts → openSets b h ≡ 0 → showing S b last ts .check .phase ≡ 0
+          go [] k e = refl
+          go (t ∷ ts) k e = absurd (omega (arith, e, k .counted .count))
+
+      drops : 1 ≤ openSets b h → whyNotDrop p ≡ 0
+      drops = at p a (λ z. 1 ≤ openSets b h → whyNotDrop z ≡ 0) go
+        where
+          behind : (n : ℕ) (ts : List Slot) → All Fitting ts → Rising n last ts → Behind n (firstIn ts)
+          behind n [] f r = none-behind n
+          behind n (t ∷ ts) f r = one-behind n (setIn t) (r .0) (f .0 .0) (f .0 .1)
+
+          go : (ts : List Slot) → Has b h ts → 1 ≤ openSets b h → whyNotDrop (showing S b last ts) ≡ 0
+          go [] k o = absurd (omega (arith, o, k .counted .count))
+          go (t ∷ ts) k o =
+              drop-goes (phaseOf t) _ (record {
+                phase-is = refl;
+                some-phase = phase-some t .0;
+                last-phase = phase-some t .1;
+                party-fits = party-fits b;
+                code-fits = k .fitting .0 .0;
+                length-fits = k .fitting .0 .1;
+                waiting-fits = behind (setIn t .number) ts (k .fitting .1) (k .counted .rising .1) (phaseOf t)
+                    (phase-some t .0);
+              })
+
+      numbers : numbersIn p ≡ held b h
+      unfolding BoxCalls.noCheck noSet
+      numbers = at p a (λ z. numbersIn z ≡ held b h) (λ ts k. go ts k ∙ k .counted .held-is)
+        where
+          one-more : (s : Set) → 1 ≤ s .terms .n
+              → cond (not (eqb (s .terms .n) 0)) (s .number ∷ []) [] ≡ s .number ∷ []
+          one-more s l = rw (ne-eqb (s .terms .n) 0 (λ e. omega (arith, l, e))) refl
+
+          rest : (ts : List Slot) → length ts ≤ 1 → All Fitting ts
+              → cond (not (eqb (firstIn ts .terms .n) 0)) (firstIn ts .number ∷ []) [] ≡ map numberOf ts
+          rest [] f l = refl
+          rest (t ∷ []) f l = one-more (setIn t) (length-fits (setIn t .terms) (l .0 .1) .0)
+          rest (t ∷ u ∷ ts) f l = absurd (omega (arith, f))
+
+          go : (ts : List Slot) → Has b h ts → numbersIn (showing S b last ts) ≡ map numberOf ts
+          go [] k = refl
+          go (fresh s ∷ ts) k = ap (λ (l : List ℕ). s .number ∷ l) (rest ts (omega (arith, k .few)) (k .fitting .1))
+          go (masked s m o ∷ ts) k =
+              ap (λ (l : List ℕ). s .number ∷ l) (rest ts (omega (arith, k .few)) (k .fitting .1))
+          go (worded s m o w ∷ ts) k =
+              ap (λ (l : List ℕ). s .number ∷ l) (rest ts (omega (arith, k .few)) (k .fitting .1))
 
   -- ---- the four states
 
@@ -306,12 +319,15 @@ module _ (S : Starts) where
     lock-at : LockAt h (w .lock)
 
   all-start : Started S → AllAt [] (beginning S)
-  unfolding DealerCalls.startDealer BoxCalls.startParty LockCalls.startLock idle BoxCalls.noCheck noSet sound stateFits
+  unfolding DealerCalls.startDealer BoxCalls.startParty LockCalls.startLock idle
   all-start f =
       record {
         dealer-at = rw (new _ _ _ (f .dealer-taken)) (refl, tt);
-        box-at = λ b. rw (new _ _ _ (f .box-taken b))
-            (at-start (S .boxFloor b) b, ap₂ _&&_ (le-leb (partyOf b) 1 (party-fits b)) refl);
+        box-at = λ b. (
+          [],
+          record { few = omega arith; behind = tt; fitting = tt; counted = none-yet S b; rise = tt },
+          new _ _ _ (f .box-taken b),
+        );
         lock-at = rw (new _ _ _ (f .lock-taken)) (refl, tt);
       }
 
@@ -376,10 +392,6 @@ module _ (S : Starts) where
 
 -- ---- what that tells
 
-drops : (p : Party) → sound p ≡ true → 1 ≤ p .check .phase → whyNotDrop p ≡ 0
-unfolding whyNotDrop unless
-drops p f some = rw (ne-eqb (p .check .phase) 0 (λ e. omega (arith, some, e)), f) refl
-
 drops-not : (p : Party) → p .check .phase ≡ 0 → whyNotDrop p ≡ 3
 unfolding whyNotDrop unless
 drops-not p e = rw (eq-eqb (p .check .phase) 0 e) refl
@@ -398,19 +410,6 @@ no-turns w b e =
       no-finish = λ m. rw (not-yet 2 (w .box b) _ e) refl;
     }
 
-module _ (floor : ℕ) (b : Box) (h : List Event) (last : ℕ) where
-  some-open : (phase m : ℕ) → At floor b h last phase m → 1 ≤ openSets b h → 1 ≤ phase
-  some-open zero m k l = absurd (omega (arith, l, k .none refl))
-  some-open (suc i) m k l = omega arith
-
-  none-open : (phase m : ℕ) → At floor b h last phase m → openSets b h ≡ 0 → phase ≡ 0
-  none-open zero m k e = refl
-  none-open (suc i) m k e = absurd (omega (arith, e, k .one (omega arith)))
-
-  few-open : (phase m : ℕ) → At floor b h last phase m → openSets b h ≤ 1
-  few-open zero m k = omega (arith, k .none refl)
-  few-open (suc i) m k = omega (arith, k .one (omega arith))
-
 pub numbers-kept : NumbersKept
 unfolding NumbersKept dropSet ifTaken
 numbers-kept s f cs =
@@ -419,17 +418,18 @@ numbers-kept s f cs =
     let I = all-kept s f cs in
     record {
       dealer-last = I .dealer-at .0;
-      box-last = λ b. I .box-at b .0 .last-is;
+      box-last = λ b. ap (λ (p : Party). p .last) (I .box-at b .2);
       lock-last = I .lock-at .0;
       deals-rise = I .dealer-at .1;
-      loads-rise = λ b. I .box-at b .0 .rise;
+      loads-rise = λ b. I .box-at b .1 .rise;
       joins-rise = I .lock-at .1;
-      one-open = λ b. few-open _ b h _ _ _ (I .box-at b .0);
-      none-open = λ b. (I .box-at b .0 .none, none-open _ b h _ _ _ (I .box-at b .0));
-      drop-taken = λ b l. let (k, fits) = I .box-at b in
-          rw (drops (w .box b) fits (some-open _ b h _ _ _ k l)) refl;
-      drop-refused = λ b e. rw (drops-not (w .box b) (none-open _ b h _ _ _ (I .box-at b .0) e)) refl;
-      no-turn = λ b e. no-turns w b (none-open _ b h _ _ _ (I .box-at b .0) e);
-      open-number = λ b l. let k = I .box-at b .0 in k .number-is (some-open _ b h _ _ _ k l) ∙ k .last-is;
-      no-reuse = λ b n. let k = I .box-at b .0 in (k .vectors-once n .few, k .words-once n .few);
+      few-open = λ b. omega (arith, I .box-at b .1 .few, I .box-at b .1 .counted .count);
+      none-open = λ b. (idle-none s b h (w .box b) (I .box-at b), none-idle s b h (w .box b) (I .box-at b));
+      drop-taken = λ b l. rw (drops s b h (w .box b) (I .box-at b) l) refl;
+      drop-refused = λ b e. rw (drops-not (w .box b) (none-idle s b h (w .box b) (I .box-at b) e)) refl;
+      no-turn = λ b e. no-turns w b (none-idle s b h (w .box b) (I .box-at b) e);
+      held-count = λ b. let k = I .box-at b .1 .counted in
+          ap length (sym (k .held-is)) ∙ length-map (I .box-at b .0) numberOf ∙ k .count;
+      held-are = λ b. numbers s b h (w .box b) (I .box-at b);
+      no-reuse = λ b n. let k = I .box-at b .1 .counted in (k .vectors-once n .few, k .words-once n .few);
     }

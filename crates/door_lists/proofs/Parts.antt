@@ -1,16 +1,17 @@
 -- Which events leave which part alone, and what is said of a list's events after one more: laws by which the other
 -- proofs know lastDealt, lastLoaded, lastJoined, openSets, deals, vectors and sentWords. Assumes nothing.
-use mathlib.Core.Path.{_≡_, refl}
+use mathlib.Core.Path.{_≡_, refl, ap}
 use mathlib.Core.Bool.{cond}
-use mathlib.Core.List.{List, [], _∷_, _++_}
-use Prim.Native.Nat.{ℕ, suc, _-_}
+use mathlib.Core.List.{List, [], _∷_, _++_, append-nil}
+use Prim.Native.Nat.{ℕ, suc, _+_, _-_}
 use native.Mathlib.Omega.{arith}
 use lib.Dec.{eqb}
-use lib.ListN.{length, length-append}
+use lib.ListN.{length, length-append, drop as without}
 use Rattle.half_deal.specs.Dealing.{Deal}
 use Rattle.door_lists.specs.Lists.{Box, other, Event, Body, dealt, loaded, sent, dropped, joined, refused}
 use Rattle.door_lists.specs.Demand.{dealsIn, loadsBy, sendsBy, dropsBy, joinsIn, vectorOf, wordOf, answerOf}
 use Rattle.door_lists.specs.Demand.{deals, vectors, sentWords, lastDealt, lastLoaded, lastJoined, openSets}
+use Rattle.door_lists.specs.Demand.{held}
 use Rattle.door_lists.proofs.Boxes.{apart, own-box}
 
 -- ---- an event that is not this box's
@@ -33,6 +34,9 @@ module _ {b : Box} {e : Event} (a : Away b e) (h : List Event) where
 
   pub open-away : openSets b (e ∷ h) ≡ openSets b h
   open-away = rw (a .no-load, a .no-send, a .no-drop) (omega arith)
+
+  pub held-away : held b (e ∷ h) ≡ held b h
+  held-away = rw (a .no-load, a .no-send, a .no-drop) (append-nil (held b h))
 
 -- an event of no box
 pub dealt-away : (d : Deal) (f : Box → List ℕ) (b : Box) → Away b (dealt d f)
@@ -77,6 +81,17 @@ module _ (b : Box) (h : List Event) where
 
   pub open-dropped : openSets b (dropped b ∷ h) ≡ openSets b h - 1
   open-dropped = rw (own-box b) (omega arith)
+
+  pub held-loaded : (n : ℕ) → held b (loaded b n ∷ h) ≡ held b h ++ (n ∷ [])
+  held-loaded n = rw (own-box b) refl
+
+  pub held-sent : (n : ℕ) (x : Body) → held b (sent b n x ∷ h) ≡ without (length (answerOf x)) (held b h)
+  held-sent n x =
+      rw (own-box b, append-nil (answerOf x), append-nil (held b h))
+      (ap (λ (k : ℕ). without k (held b h)) {x = length (answerOf x) + 0} {y = length (answerOf x)} (omega arith))
+
+  pub held-dropped : held b (dropped b ∷ h) ≡ without 1 (held b h)
+  held-dropped = rw (own-box b, append-nil (held b h)) refl
 
 -- ---- an event that is no deal and no join
 

@@ -12,16 +12,20 @@ use Rattle.call_dealer.specs.Dealer.{halfSize}
 use Rattle.call_party.specs.declared.Party.{Party}
 use Rattle.call_party.specs.declared.PartyAnswer.{PartyAnswer}
 use Rattle.call_party.specs.Party as BoxCalls
+use Rattle.call_party.specs.Party.{idle}
 use Rattle.door_lists.specs.Lists.{Box, camera, office, World, Starts, Call, deal, load, mask, take, finish, join}
 use Rattle.door_lists.specs.Lists.{Event, dealt, loaded, sent, dropped, joined, refused, vector, word, answer}
 use Rattle.door_lists.specs.Lists.{put, eventOf, onBox, maskedBy, step, after, events, In, here, there}
 use Rattle.door_lists.specs.Demand.{Progress, nothingMade, madeOne, onward, Ready, Run, start, own, aside, turned}
 use Rattle.door_lists.specs.Demand.{Answered, InRange, Free}
+use Rattle.door_lists.proofs.Accepted.{waterOf}
+use Rattle.door_lists.proofs.Boxes.{party-fits}
+use Rattle.door_lists.proofs.Goes.{idle-sound, none-behind}
 use Rattle.door_lists.proofs.Dealt.{maskOf, wordBy, answerBy}
 use Rattle.door_lists.proofs.History.{door, halfOf}
 use Rattle.door_lists.proofs.Slots.{Slot}
 use Rattle.door_lists.proofs.Written.{new}
-use Rattle.door_lists.proofs.Invariant.{showing, lastAt, dealerWith, lockWith, Inv}
+use Rattle.door_lists.proofs.Invariant.{whoAt, showing, lastAt, dealerWith, lockWith, Inv}
 use Rattle.door_lists.proofs.Refusals.{refused-still}
 use Rattle.door_lists.proofs.Unmoved.{unmoved}
 use Rattle.door_lists.proofs.Made.{said, shown, Made, load-made, mask-made, take-made, finish-made, deal-made}
@@ -39,12 +43,16 @@ module _ (S : Starts) (d : Deal) (v : Box → List ℕ) where
   Exact (joined n bit) = Unit {0}
   Exact (refused why) = Unit {0}
 
+  -- a box with the run's set alone, after its load and k more calls
+  abbrev alone : Box → ℕ → Party
+  alone b k = shown S d v b k (d .number) []
+
   -- a box after k of its calls
   abbrev pub Holds : Box → Party → ℕ → Type 0
   Holds b s zero = (last : ℕ) × (s ≡ showing S b last []) × (last < d .number)
-  Holds b s (suc zero) = s ≡ shown S d v b 0
-  Holds b s (suc (suc zero)) = s ≡ shown S d v b 1
-  Holds b s (suc (suc (suc zero))) = s ≡ shown S d v b 2
+  Holds b s (suc zero) = s ≡ alone b 0
+  Holds b s (suc (suc zero)) = s ≡ alone b 1
+  Holds b s (suc (suc (suc zero))) = s ≡ alone b 2
   Holds b s (suc (suc (suc (suc k)))) = Unit {0}
 
   -- .. and of its world
@@ -53,6 +61,15 @@ module _ (S : Starts) (d : Deal) (v : Box → List ℕ) where
     pub box-at : (b : Box) → Holds b (w .box b) (g .made b)
     pub lock-at : (last : ℕ) × (w .lock ≡ lockWith S last) × (g .ended ≡ false → last < d .number)
     pub exact-at : (e : Event) → In e h → Exact e
+
+  -- an idle box stands as 01's third refusal asks, and what a half's number has to be above is its last number
+  none-sound : (b : Box) (last : ℕ) → BoxCalls.sound (showing S b last []) ≡ true
+  unfolding idle
+  none-sound b last = idle-sound (whoAt S b) last (party-fits b)
+
+  none-water : (b : Box) (last : ℕ) → last < d .number → waterOf (showing S b last []) < d .number
+  unfolding BoxCalls.highWater BoxCalls.noCheck
+  none-water b last l = l
 
   put-at : (f : Box → Party) (g : Box → ℕ) (b : Box) (s : Party) (k : ℕ) → Holds b s k
       → ((c : Box) → Holds c (f c) (g c)) → (c : Box) → Holds c (put f b s c) (put g b k c)
@@ -119,25 +136,26 @@ module _ (S : Starts) (d : Deal) (v : Box → List ℕ) where
           subst (λ y. Goes (deal y out0 out1)) (sym q) (deal-goes-on out0 out1 m r0 r1)
       goes (load b x) (m, f, i, q) =
           let (last, st, l) = holding b 0 m in
-          let made = load-made S d v long R b last l x (q ∙ A .exact-at (dealt d f) i b) in
+          let made = load-made S d v long R b last [] (omega arith) (none-sound b last)
+          (none-water b last l) x (q ∙ A .exact-at (dealt d f) i b) in
           box-goes b (λ y. BoxCalls.load y x) (λ y. loaded b (setNumber x))
-          (showing S b last []) (shown S d v b 0) _ 0 m st made tt refl
+          (showing S b last []) (alone b 0) _ 0 m st made tt refl
       goes (mask b x out) (m, q, r) =
           let call : Party → PartyAnswer = λ y. BoxCalls.mask y x (length out) in
           let leaves : Party → Event = λ y. sent b (y .check .set .number) (vector x (maskedBy y x out)) in
-          box-goes b call leaves (shown S d v b 0) (shown S d v b 1) _ 1 m
-          (holding b 1 m) (mask-made S d v long R b x out q r) refl refl
+          box-goes b call leaves (alone b 0) (alone b 1) _ 1 m
+          (holding b 1 m) (mask-made S d v long R b (d .number) [] (none-behind (d .number)) x out q r) refl refl
       goes (take b m) (e, a, i) =
           let call : Party → PartyAnswer = λ y. BoxCalls.takeVector y (m .label) (m .name) (m .content) in
           let leaves : Party → Event = λ y. sent b (y .check .set .number) (word (call y .word)) in
-          let made = take-made S d v long R b m a (A .exact-at _ (i .1)) in
-          box-goes b call leaves (shown S d v b 1) (shown S d v b 2) _ 2 e (holding b 2 e) made refl refl
+          let made = take-made S d v long R b (d .number) [] (none-behind (d .number)) m a (A .exact-at _ (i .1)) in
+          box-goes b call leaves (alone b 1) (alone b 2) _ 2 e (holding b 2 e) made refl refl
       goes (finish b m) (e, a, i) =
           let call : Party → PartyAnswer = λ y. BoxCalls.finish y (m .label) (m .name) (m .content) in
           let leaves : Party → Event = λ y. sent b (y .check .set .number) (answer (call y .word)) in
-          let made = finish-made S d v long R b m a (A .exact-at _ i) in
-          box-goes b call leaves (shown S d v b 2)
-          (BoxCalls.closed (shown S d v b 2)) _ 3 e (holding b 3 e) made refl tt
+          let made = finish-made S d v long R b (d .number) [] (none-behind (d .number)) (omega arith) tt tt m a
+          (A .exact-at _ i) in
+          box-goes b call leaves (alone b 2) (showing S b (d .number) []) _ 3 e (holding b 3 e) made refl tt
       goes (join m n) (e, a, i, b, j) =
           let k = join-made S d v long R (w .lock) (A .lock-at .0) (A .lock-at .1)
           (A .lock-at .2 e) m n a b (A .exact-at _ i) (A .exact-at _ j) in
@@ -185,7 +203,7 @@ module _ (S : Starts) (d : Deal) (v : Box → List ℕ) where
   ready h w I F =
       record {
         dealer-at = (_, I .dealer-is, λ z. F .above-dealer);
-        box-at = λ b. idle-at b (I .box-is b .slots) (I .box-is b .ok .count ∙ F .none-open b) (I .box-is b .shows);
+        box-at = λ b. idle-at b (I .box-is b .slots) (I .box-is b .ok .counted .count ∙ F .none-open b) (I .box-is b .shows);
         lock-at = (_, I .lock-is, λ z. F .above-lock);
         exact-at = λ e z. elim z [ ];
       }

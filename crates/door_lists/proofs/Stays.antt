@@ -1,14 +1,17 @@
 -- What a set has brought into a box's state stays there until call 4 or drop ends it: what each accepted call brings
 -- comes at a phase at which it was not there. Assumes nothing.
-use mathlib.Core.Path.{_≡_, refl, _∙_}
-use mathlib.Core.Bool.{Bool, true, false, cond}
+use mathlib.Core.Path.{_≡_, refl, ap, _∙_}
+use mathlib.Core.Bool.{Bool, true, false, cond, not}
 use mathlib.Core.List.{List, [], _∷_}
 use Prim.Native.Nat.{ℕ, _≤_}
 use native.Mathlib.Omega.{arith}
-use borrow.Author.Tests.{eqb-true}
+use borrow.Author.Tests.{eqb-true, eqb-false, ne-eqb, not-true}
 use lib.Dec.{eqb}
 use lib.ListN.{length}
 use Rattle.base_messages.specs.Messages.{ifTaken}
+use Rattle.half_content.specs.declared.Set.{Set}
+use Rattle.half_seal.specs.Half.{openedSet}
+use Rattle.call_party.specs.declared.Check.{Check}
 use Rattle.call_party.specs.declared.Party.{Party}
 use Rattle.call_party.specs.Party as BoxCalls
 use Rattle.call_party.specs.Party.{masked, worded}
@@ -28,6 +31,7 @@ still s =
       same-masked = λ h. refl;
       same-own = λ h. refl;
       same-word = λ h. refl;
+      same-waiting = λ h. refl;
     }
 
 and-then : (s t u : Party) → Stays s t → Stays t u → Stays s u
@@ -39,6 +43,8 @@ and-then s t u p q =
       same-masked = λ h. q .same-masked (omega (arith, h, up)) ∙ p .same-masked h;
       same-own = λ h. q .same-own (omega (arith, h, up)) ∙ p .same-own h;
       same-word = λ h. q .same-word (omega (arith, h, up)) ∙ p .same-word h;
+      same-waiting = λ h. q .same-waiting (ap (λ (x : Set). not (eqb (x .terms .n) 0)) (p .same-waiting h) ∙ h)
+          ∙ p .same-waiting h;
     }
 
 -- ---- one call
@@ -64,10 +70,26 @@ on-box w b why new e f =
     let called = either b why new (w .box b) e f in
     put-all (λ c t. Spares c (w .box c) (eventOf why e) t) (w .box) b _ called (λ o h. still (w .box (other b)))
 
+-- a load with a set open leaves its check as it was, and is refused with one waiting
+loaded-stays : (s : Party) (x : List ℕ) → BoxCalls.whyNotLoad s x ≡ 0 → 1 ≤ s .check .phase
+    → Stays s (BoxCalls.loaded s (openedSet (s .who .key) x))
+unfolding BoxCalls.loaded
+loaded-stays s x z o =
+    let same : BoxCalls.loaded s (openedSet (s .who .key) x) .check ≡ s .check =
+    ap (λ (b : Bool). cond (not b) (s .check) _) (ne-eqb (s .check .phase) 0 (λ e. omega (arith, o, e))) in
+    record {
+      not-back = rw same (omega arith);
+      same-set = ap (λ (c : Check). c .set) same;
+      same-masked = λ h. ap (λ (c : Check). c .masked) same;
+      same-own = λ h. ap (λ (c : Check). c .own) same;
+      same-word = λ h. ap (λ (c : Check). c .word) same;
+      same-waiting = λ h. absurd (eqb-false _ _ (not-true _ h) (load-tells s x z .none-waits));
+    }
+
 pub step-stays : (w : World) (c : Call) (b : Box) → Spares b (w .box b) (step w c .event) (step w c .world .box b)
 unfolding BoxCalls.load BoxCalls.mask BoxCalls.takeVector BoxCalls.finish BoxCalls.dropSet masked worded
 step-stays w (deal d out0 out1) = λ b o h. still (w .box b)
-step-stays w (load b x) = on-box w b _ _ _ (λ z o h. absurd (omega (arith, o, load-tells (w .box b) x z .turn)))
+step-stays w (load b x) = on-box w b _ _ _ (λ z o h. loaded-stays (w .box b) x z o)
 step-stays w (mask b v out) =
     on-box w b _ _ _
     (λ z o h. let turn = mask-tells (w .box b) v (length out) z .turn in
@@ -77,6 +99,7 @@ step-stays w (mask b v out) =
       same-masked = λ l. absurd (omega (arith, turn, l));
       same-own = λ l. absurd (omega (arith, turn, l));
       same-word = λ l. absurd (omega (arith, turn, l));
+      same-waiting = λ l. refl;
     })
 step-stays w (take b m) =
     on-box w b _ _ _
@@ -87,6 +110,7 @@ step-stays w (take b m) =
       same-masked = λ l. refl;
       same-own = λ l. refl;
       same-word = λ l. absurd (omega (arith, turn, l));
+      same-waiting = λ l. refl;
     })
 step-stays w (finish b m) = on-box w b _ _ _ (λ z o h. absurd (h (by-call-4 _ _)))
 step-stays w (drop b) = on-box w b _ _ _ (λ z o h. absurd (h by-drop))

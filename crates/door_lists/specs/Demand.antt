@@ -6,7 +6,7 @@ use mathlib.Core.List.{List, [], _∷_, _++_, map}
 use mathlib.Core.Logic.{_⊎_}
 use Prim.Native.Nat.{ℕ, suc, _+_, _-_, _^_, _<_, _≤_}
 use lib.Dec.{eqb}
-use lib.ListN.{length}
+use lib.ListN.{length, drop as without}
 use lib.Signed.{leZ}
 use Rattle.base_algebra.specs.Word.{signed}
 use Rattle.measure_table.specs.declared.Terms.{Terms}
@@ -125,13 +125,18 @@ lastLoaded floor b h = newest floor (collect (loadsBy b) h)
 abbrev pub lastJoined : ℕ → List Event → ℕ
 lastJoined floor h = newest floor (collect joinsIn h)
 
--- how many sets are open at a box: a load opens one, call 4 and drop close one
+-- how many sets a box has, the open one and the one that waits: a load brings one, call 4 and drop end one
 abbrev pub closes : Box → Event → ℕ
 closes b e = length (collect (λ s. answerOf (s .body)) (sendsBy b e)) + length (dropsBy b e)
 
 abbrev pub openSets : Box → List Event → ℕ
 openSets b [] = 0
 openSets b (e ∷ h) = openSets b h + length (loadsBy b e) - closes b e
+
+-- .. and their numbers, the open set's first: a load puts its own behind the others, call 4 and drop end the first
+abbrev pub held : Box → List Event → List ℕ
+held b [] = []
+held b (e ∷ h) = without (closes b e) (held b h ++ loadsBy b e)
 
 -- ---- no wrong report, no reuse
 
@@ -295,11 +300,12 @@ unfoldable pub CanEnd : Type 0
 CanEnd = (s : Starts) → Started s → (cs : List Call) → Admissible s cs → (d : Deal) (v : Box → List ℕ) → InRange d v
     → Free s (history s cs) (d .number) → Ended s cs d v
 
--- "Drop ends the open set": after every admissible list, a box
--- with a set open is not refused its drop, and then has none [SPEC 19.1, 28.12]
+-- "Drop ends the open set", 02, §1: "Drop acts on the open set only": after every admissible list, a box with a set open
+-- is not refused its drop, and then has one less [SPEC 19.1, 28.12]
 unfoldable pub CanDrop : Type 0
 CanDrop = (s : Starts) → Started s → (cs : List Call) → Admissible s cs → (b : Box) → 1 ≤ openSets b (history s cs)
-    → (history s (drop b ∷ cs) ≡ dropped b ∷ history s cs) × (openSets b (history s (drop b ∷ cs)) ≡ 0)
+    → (history s (drop b ∷ cs) ≡ dropped b ∷ history s cs)
+    × (suc (openSets b (history s (drop b ∷ cs))) ≡ openSets b (history s cs))
 
 -- ---- not empty
 
