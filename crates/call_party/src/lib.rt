@@ -14,9 +14,9 @@ ghost use Rattle.base_messages.specs.Messages.{outOfTurn, wrongLength, shortBuf
 ghost use Rattle.base_messages.specs.Messages.{outOfRange, officeParty, unless, expected};
 ghost use Rattle.half_content.specs.Content.{fill, noSet};
 ghost use Rattle.call_party.specs.Party.{noCheck, opened as openedCheck, idle as idleOf, whyNotParty, startParty};
-ghost use Rattle.call_party.specs.Party.{nextCheck, highWater};
-ghost use Rattle.call_party.specs.Party.{stateFits, waitingFits, sound as soundOf, inTurn, load as loadOf, mask as maskOf, maskOut};
-ghost use Rattle.call_party.specs.Party.{takeVector as takeOf, boxShare, finish as finishOf, dropSet as dropOf};
+ghost use Rattle.call_party.specs.Party.{nextCheck, highWater, stateFits, waitingFits, sound as soundOf, inTurn};
+ghost use Rattle.call_party.specs.Party.{load as loadOf, mask as maskOf, maskOut, takeVector as takeOf, boxShare};
+ghost use Rattle.call_party.specs.Party.{finish as finishOf, dropSet as dropOf};
 use base_messages::Identity;
 use base_messages::KEY;
 use base_messages::Label;

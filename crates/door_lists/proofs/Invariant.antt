@@ -217,7 +217,8 @@ module _ (S : Starts) where
 
     pub one-vector : (b : Box) (n : ℕ) (x y : List ℕ) → Vector h b n x → Vector h b n y → x ≡ y
     one-vector b n x y i j =
-        unique (vectors b n h) (I .box-is b .ok .counted .vectors-once n .few) (in-vectors h b n x i) (in-vectors h b n y j)
+        unique (vectors b n h) (I .box-is b .ok .counted .vectors-once n .few)
+        (in-vectors h b n x i) (in-vectors h b n y j)
 
     pub one-pair : (n : ℕ) (v u : Box → List ℕ) → ((b : Box) → Vector h b n (v b)) → ((b : Box) → Vector h b n (u b))
         → v ≡ u

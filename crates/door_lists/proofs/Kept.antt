@@ -21,14 +21,16 @@ use Rattle.call_party.specs.Party.{idle, whyNotLoad, whyNotMask, whyNotTake, wh
 use Rattle.door_lists.specs.Lists.{Box, camera, office, partyOf, other, World, Starts, Message, take, finish}
 use Rattle.door_lists.specs.Lists.{Event, dealt, loaded, sent, dropped, vector, word, answer, maskedBy, In}
 use Rattle.door_lists.specs.Lists.{Written, Sent, SentVector, SentWord}
-use Rattle.door_lists.proofs.Accepted.{Heard, waterOf, load-tells, mask-tells, take-tells, finish-tells, drop-tells}
+use Rattle.door_lists.proofs.Accepted.{Heard, waterOf, load-tells, mask-tells, take-tells, finish-tells}
+use Rattle.door_lists.proofs.Accepted.{drop-tells}
 use Rattle.door_lists.proofs.Dealt.{setOf, set-number, set-terms, set-proper, Sound, maskOf, ownOf, wordBy}
 use Rattle.door_lists.proofs.History.{door, halfOf, EventOk, Dealt, Vector, look}
 use Rattle.door_lists.proofs.Slots.{SlotOk}
 use Rattle.door_lists.proofs.Slots.{Slot, fresh, masked, worded, Word, Slots, slots-away, slots-load, slots-mask}
 use Rattle.door_lists.proofs.Slots.{slots-take, slots-close, slots-drop}
 use Rattle.door_lists.proofs.Written.{new, masked-is}
-use Rattle.door_lists.proofs.Invariant.{Fresh, FreshBehind, Long, closing, loads, behind-next, behind-load, showing, lastAt, BoxIs, Inv, one-deal, one-pair}
+use Rattle.door_lists.proofs.Invariant.{Fresh, FreshBehind, Long, closing, loads, behind-next, behind-load}
+use Rattle.door_lists.proofs.Invariant.{showing, lastAt, BoxIs, Inv, one-deal, one-pair}
 use Rattle.door_lists.proofs.Once.{All}
 use Rattle.door_lists.proofs.Boxes.{other-party, party-of}
 use Rattle.door_lists.proofs.Parts.{Away, last-away, Own, own-load, own-sent, own-drop, last-loaded}
@@ -100,7 +102,8 @@ module _ (S : Starts) where
         whyNotMask z v (length out) ≡ 0
         → Stepped h b (BoxCalls.masked z v) (sent b (z .check .set .number) (vector v (maskedBy z v out)))
 
-    pub masking : (b : Box) (v out : List ℕ) (ts : List Slot) → length ts ≤ 2 → FreshBehind ts → Slots h b (lastAt S b h) ts
+    pub masking : (b : Box) (v out : List ℕ)
+        → (ts : List Slot) → length ts ≤ 2 → FreshBehind ts → Slots h b (lastAt S b h) ts
         → Masking b v out (showing S b (lastAt S b h) ts)
     unfolding idle BoxCalls.noCheck BoxCalls.masked
     masking b v out [] few fr k e = absurd (omega (arith, mask-tells _ v _ e .turn))

@@ -27,13 +27,15 @@ use Rattle.door_lists.specs.Lists.{take, finish, drop, join, Event, deal
 use Rattle.door_lists.specs.Lists.{word, answer, written, maskedBy}
 use Rattle.door_lists.specs.Demand.{verdict, Labelled, InRange}
 use Rattle.door_lists.proofs.Accepted.{Heard, waterOf}
-use Rattle.door_lists.proofs.Goes.{OpenAt, Behind, deal-goes, load-goes, mask-goes, take-goes, finish-goes, join-goes}
+use Rattle.door_lists.proofs.Goes.{OpenAt, Behind, deal-goes, load-goes, mask-goes, take-goes, finish-goes}
+use Rattle.door_lists.proofs.Goes.{join-goes}
 use Rattle.door_lists.proofs.Dealt.{setOf, set-number, set-terms, set-n, set-proper, Sound, maskOf, ownOf}
 use Rattle.door_lists.proofs.Dealt.{mask-long, wordBy, answerBy, answers-join}
 use Rattle.door_lists.proofs.History.{door, halfOf}
 use Rattle.door_lists.proofs.Slots.{Slot, fresh, masked, worded, setIn}
 use Rattle.door_lists.proofs.Written.{new, masked-is}
-use Rattle.door_lists.proofs.Invariant.{phaseOf, firstIn, Fresh, Long, showing, closing, loads, dealerWith, lockWith, dealtBy, wrote}
+use Rattle.door_lists.proofs.Invariant.{phaseOf, firstIn, Fresh, Long, showing, closing, loads, dealerWith}
+use Rattle.door_lists.proofs.Invariant.{lockWith, dealtBy, wrote}
 use Rattle.door_lists.proofs.Once.{All}
 use Rattle.door_lists.proofs.Boxes.{party-fits, other-party}
 

@@ -110,7 +110,8 @@ module _ (S : Starts) where
     last = lastAt S b h
 
     -- what a call does at a box is what it does at the state that its sets show
-    at : (p : Party) → BoxAt b h p → (P : Party → Type 0) → ((ts : List Slot) → Has b h ts → P (showing S b last ts)) → P p
+    at : (p : Party) → BoxAt b h p → (P : Party → Type 0)
+        → ((ts : List Slot) → Has b h ts → P (showing S b last ts)) → P p
     at p (ts, k, shows) P f = subst P (sym shows) (f ts k)
 
     shown-loaded : (x : List ℕ) (ts : List Slot) → Has b h ts

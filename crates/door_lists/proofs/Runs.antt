@@ -203,7 +203,7 @@ module _ (S : Starts) (d : Deal) (v : Box → List ℕ) where
   ready h w I F =
       record {
         dealer-at = (_, I .dealer-is, λ z. F .above-dealer);
-        box-at = λ b. idle-at b (I .box-is b .slots) (I .box-is b .ok .counted .count ∙ F .none-open b) (I .box-is b .shows);
+        box-at = λ b. let k = I .box-is b in idle-at b (k .slots) (k .ok .counted .count ∙ F .none-open b) (k .shows);
         lock-at = (_, I .lock-is, λ z. F .above-lock);
         exact-at = λ e z. elim z [ ];
       }

@@ -76,7 +76,8 @@ loaded-stays : (s : Party) (x : List ℕ) → BoxCalls.whyNotLoad s x ≡ 0 → 
 unfolding BoxCalls.loaded
 loaded-stays s x z o =
     let same : BoxCalls.loaded s (openedSet (s .who .key) x) .check ≡ s .check =
-    ap (λ (b : Bool). cond (not b) (s .check) _) (ne-eqb (s .check .phase) 0 (λ e. omega (arith, o, e))) in
+    ap (λ (b : Bool). cond (not b) (s .check) (BoxCalls.opened (openedSet (s .who .key) x)))
+    (ne-eqb (s .check .phase) 0 (λ e. omega (arith, o, e))) in
     record {
       not-back = rw same (omega arith);
       same-set = ap (λ (c : Check). c .set) same;

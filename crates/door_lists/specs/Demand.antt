@@ -300,8 +300,8 @@ unfoldable pub CanEnd : Type 0
 CanEnd = (s : Starts) → Started s → (cs : List Call) → Admissible s cs → (d : Deal) (v : Box → List ℕ) → InRange d v
     → Free s (history s cs) (d .number) → Ended s cs d v
 
--- "Drop ends the open set", 02, §1: "Drop acts on the open set only": after every admissible list, a box with a set open
--- is not refused its drop, and then has one less [SPEC 19.1, 28.12]
+-- "Drop ends the open set", 02, §1: "Drop acts on the open set only": after every admissible list, a box with a set
+-- open is not refused its drop, and then has one less [SPEC 19.1, 28.12]
 unfoldable pub CanDrop : Type 0
 CanDrop = (s : Starts) → Started s → (cs : List Call) → Admissible s cs → (b : Box) → 1 ≤ openSets b (history s cs)
     → (history s (drop b ∷ cs) ≡ dropped b ∷ history s cs)
