@@ -20,7 +20,10 @@ pub mod halves;
 pub mod lock;
 pub mod measure;
 pub mod message;
+pub mod opened;
 pub mod party;
+#[cfg(test)]
+mod party_ahead;
 pub mod poly1305;
 pub mod refusal;
 pub mod replay;
