@@ -33,6 +33,7 @@ pub mod replay_checks;
 pub mod replay_claim;
 pub mod replay_lists;
 pub mod replay_script;
+pub mod replay_states;
 pub mod rfc8439;
 pub mod sample;
 pub mod script;

@@ -31,7 +31,7 @@ impl Script {
         self.start("A box's door", [7, 6, 5, 4]);
         self.dealt(Measure::Euclid, 18, 100);
         self.loaded(at);
-        self.accepted(format!("drop {}", BOXES[at]));
+        self.dropped(at);
         self.dealt(Measure::Hamming, 18, 10);
         let (before, name) = (self.show(BOXES[at]), BOXES[at]);
         for variant in 0..4 {
@@ -103,9 +103,9 @@ impl Script {
         self.answered("mixed camera 0 1 0", 10);
         // The older half first, then the newer one; not the other way round.
         assert_eq!(self.load(0, &self.load_line(0, 1)), 0);
-        self.accepted("drop camera");
+        self.dropped(0);
         self.loaded(0);
-        self.accepted("drop camera");
+        self.dropped(0);
         for back in [1, 0] {
             assert_eq!(self.load(0, &self.load_line(0, back)), 7);
         }
@@ -208,7 +208,7 @@ impl Script {
             }
             assert_eq!(self.show(BOXES[at]), before);
             self.ends_of_range(at, measure);
-            self.accepted(format!("drop {}", BOXES[at]));
+            self.dropped(at);
         }
         self.show_all();
     }
@@ -221,7 +221,7 @@ impl Script {
             assert_eq!(self.mask(at, &hex_words(&words), 520), refusal);
             if element == low {
                 self.show(BOXES[at]);
-                self.accepted(format!("drop {}", BOXES[at]));
+                self.dropped(at);
                 self.dealt(measure, 3, 0);
                 self.loaded(at);
             }
@@ -351,16 +351,17 @@ impl Script {
         for phase in 0..4 {
             let before = self.show(BOXES[at]);
             let calls = self.calls(at, number);
+            // With a set open a load is one ahead: 3 is not its refusal.
             for (turn, line) in calls.iter().enumerate() {
                 let own = turn == phase || (turn == 4 && phase > 0);
                 if !own {
-                    self.answered(line, 3);
+                    self.answered(line, if turn == 0 { 7 } else { 3 });
                 }
             }
             for variant in 0..3 {
                 for (turn, line) in self.spoilt_calls(at, variant).iter().enumerate() {
                     if turn != phase {
-                        self.answered(line, 3);
+                        self.answered(line, if turn == 0 { 4 } else { 3 });
                     }
                 }
             }

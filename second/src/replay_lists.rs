@@ -73,7 +73,7 @@ impl Script {
             86..89 => self.odd_deal(lengths),
             89..94 => self.odd_join(),
             94..96 => {
-                self.say(format!("drop {}", BOXES[at]));
+                self.drop_set(at);
             }
             _ if hazards == Hazards::Host => self.any_state(at),
             _ => {
@@ -101,7 +101,7 @@ impl Script {
             1 => self.odd_mask(at),
             2 => self.odd_message(at, hazards),
             _ => {
-                self.say(format!("drop {}", BOXES[at]));
+                self.drop_set(at);
             }
         }
     }
@@ -115,7 +115,7 @@ impl Script {
             match self.replay.boxes[at].phase {
                 IDLE => self.right_deal(lengths),
                 _ => {
-                    self.say(format!("drop {}", BOXES[at]));
+                    self.drop_set(at);
                 }
             }
         }
