@@ -12,7 +12,7 @@ use crate::sealed;
 impl Script {
     /// A load of the newest half of length 18, or of the one before, with these things
     /// wrong.
-    fn wrong_load(&self, at: usize, wrong: &[u32], variant: usize) -> String {
+    pub fn wrong_load(&self, at: usize, wrong: &[u32], variant: usize) -> String {
         let has = |refusal: u32| wrong.contains(&refusal);
         let whole = if has(11) { 1536 } else { 2048 };
         let bytes = match has(4) {
@@ -58,7 +58,7 @@ impl Script {
     }
 
     /// Blocks of another place, number or box, at a box that would take the newest half.
-    fn wrong_blocks(&mut self, at: usize) {
+    pub fn wrong_blocks(&mut self, at: usize) {
         let (name, other) = (BOXES[at], BOXES[1 - at]);
         for (line, refusal) in [
             (format!("load {name} {other} 0 2048 {NOWHERE}"), 10),
@@ -143,7 +143,8 @@ impl Script {
         self.answered(format!("load camera office 0 1536 {NOWHERE}"), 11);
     }
 
-    /// Halves that are sealed well, with something wrong in their content.
+    /// Halves that are sealed well, with something wrong in their content: what other boxes
+    /// do not find wrong.
     pub fn wrong_contents(&mut self) {
         self.start("Hut 4", [0; 4]);
         let key = field::parse_array(&self.door.keys[0]).expect("a key");
@@ -153,8 +154,6 @@ impl Script {
         // The first flag byte of L = 1, and the first byte of the fill.
         let (flags, fill) = (20 + 12 + 8 + 32 + 36, content::bytes(1));
         for (place, byte, refusal) in [
-            (5, b' ', 11),
-            (16, 1, 11),
             (17, 3, 11),
             (18, 0, 11),
             (flags, 4, 11),

@@ -153,7 +153,7 @@ impl Script {
             } else {
                 assert_eq!(self.step(check, step), 0, "{}", check.deal);
             }
-            if turn.is_multiple_of(5) {
+            if turn.is_multiple_of(9) {
                 assert_eq!(self.step(check, step), step.again());
             }
             if turn.is_multiple_of(3) {
