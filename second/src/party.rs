@@ -1,21 +1,18 @@
-//! A box and its calls: 01, "One check at a box" and "When a call is turned down".
+//! A box and its calls: 01, "One check at a box" and "When a call is turned down", and 02,
+//! "Load ahead".
 
 use crate::content::Name;
-use crate::dcf::{self, Key, Seed};
-use crate::measure::{Measure, MAX_LENGTH};
+use crate::measure::MAX_LENGTH;
 use crate::message::{padded, secret, Label, MASKED_VECTOR, WORD};
+use crate::opened::{spread, OpenedSet, Words, NO_SET};
 use crate::refusal::Refusal;
-use crate::sealed::{self, Holder, Set};
-use crate::share::Half;
+use crate::sealed::{self, Holder};
 
 /// How many calls of a check a box has answered: with none of them, no set is open.
 pub const IDLE: u32 = 0;
 pub const LOADED: u32 = 1;
 pub const MASKED: u32 = 2;
 pub const SPOKEN: u32 = 3;
-
-/// Words of which the first L are used, the others zero.
-type Words = [u32; MAX_LENGTH];
 
 /// A box's state. It is plain data, as a host hands it in: it may hold what no call
 /// leaves.
@@ -27,45 +24,20 @@ pub struct Party {
     pub key: [u8; 32],
     pub last: u64,
     pub phase: u32,
-    pub set: OpenSet,
+    /// The set that is open.
+    pub set: OpenedSet,
     pub check: Check,
+    /// The set that a load ahead has brought: one waits exactly where its L is not zero.
+    pub waiting: OpenedSet,
 }
 
-/// What a load has brought in.
-#[derive(Clone, Debug, PartialEq, Eq)]
-pub struct OpenSet {
-    pub number: u64,
-    pub code: u32,
-    pub length: u32,
-    pub own_mask: Words,
-    pub x_share: Words,
-    pub y_share: Words,
-    pub c: u32,
-    pub r: u32,
-    pub seed: Seed,
-    pub key: Key,
-}
-
-/// What calls 2 and 3 have added to it.
+/// What calls 2 and 3 have added to the open set.
 #[derive(Clone, Debug, PartialEq, Eq)]
 pub struct Check {
     pub masked: Words,
     pub own: u32,
     pub word: u32,
 }
-
-const NO_SET: OpenSet = OpenSet {
-    number: 0,
-    code: 0,
-    length: 0,
-    own_mask: [0; MAX_LENGTH],
-    x_share: [0; MAX_LENGTH],
-    y_share: [0; MAX_LENGTH],
-    c: 0,
-    r: 0,
-    seed: [0; 8],
-    key: dcf::NO_KEY,
-};
 
 const NO_CHECK: Check = Check {
     masked: [0; MAX_LENGTH],
@@ -84,55 +56,7 @@ impl Default for Party {
             phase: IDLE,
             set: NO_SET,
             check: NO_CHECK,
-        }
-    }
-}
-
-/// Words with zeros behind them.
-fn spread(words: &[u32]) -> Words {
-    let mut spread = [0; MAX_LENGTH];
-    spread[..words.len()].copy_from_slice(words);
-    spread
-}
-
-impl OpenSet {
-    fn new(set: &Set) -> OpenSet {
-        let half = &set.half;
-        OpenSet {
-            number: set.number,
-            code: half.measure.code(),
-            length: half.own_mask.len() as u32,
-            own_mask: spread(&half.own_mask),
-            x_share: spread(&half.x_share),
-            y_share: spread(&half.y_share),
-            c: half.c,
-            r: half.r,
-            seed: half.seed,
-            key: half.key.clone(),
-        }
-    }
-
-    fn length(&self) -> usize {
-        self.length as usize
-    }
-
-    fn measure(&self) -> Measure {
-        Measure::from_code(self.code).expect("the code is tested first")
-    }
-
-    /// The part of a set that this is, cut to its length.
-    fn half(&self, party: u32) -> Half {
-        let cut = |words: &Words| words[..self.length()].to_vec();
-        Half {
-            party: party as usize,
-            measure: self.measure(),
-            own_mask: cut(&self.own_mask),
-            x_share: cut(&self.x_share),
-            y_share: cut(&self.y_share),
-            c: self.c,
-            r: self.r,
-            seed: self.seed,
-            key: self.key.clone(),
+            waiting: NO_SET,
         }
     }
 }
@@ -150,15 +74,30 @@ impl Party {
         })
     }
 
+    fn has_waiting(&self) -> bool {
+        self.waiting.length != 0
+    }
+
     /// Whether the state is one that calls leave, as far as that is tested.
     fn is_sound(&self) -> bool {
-        let (code, length) = (self.set.code, self.set.length());
-        let set = match self.phase {
-            IDLE => code == 0 && length == 0,
-            LOADED | MASKED | SPOKEN => code < 3 && (1..=MAX_LENGTH).contains(&length),
+        let open = match self.phase {
+            IDLE => self.set.is_none(),
+            LOADED | MASKED | SPOKEN => self.set.is_loadable(),
             _ => false,
         };
-        set && self.party < 2
+        open && self.party < 2 && self.waits_soundly()
+    }
+
+    /// The part of it that the waiting set has. With none waiting its number is compared
+    /// with nothing: it is zero, and the open one is not.
+    fn waits_soundly(&self) -> bool {
+        match self.has_waiting() {
+            false => self.waiting.is_none(),
+            true => {
+                let above = self.waiting.number > self.set.number;
+                self.phase != IDLE && above && self.waiting.is_loadable()
+            }
+        }
     }
 
     /// Refusal 3, of a call that has its turn in this phase.
@@ -173,24 +112,47 @@ impl Party {
         Refusal::Number.unless(label.number == self.set.number)
     }
 
-    fn close(&mut self) {
-        self.phase = IDLE;
-        self.set = NO_SET;
-        self.check = NO_CHECK;
+    /// The number that a half's must be above. In states that calls leave, the last number
+    /// is never below the open one; in others it may be.
+    fn floor(&self) -> u64 {
+        match self.phase {
+            IDLE => self.last,
+            _ => self.last.max(self.set.number),
+        }
     }
 
-    /// Call 1.
+    /// A set that has just opened, or none: nothing is left of an earlier check, and nothing
+    /// waits.
+    fn hold(&mut self, phase: u32, set: OpenedSet) {
+        self.phase = phase;
+        self.set = set;
+        self.check = NO_CHECK;
+        self.waiting = NO_SET;
+    }
+
+    /// The open set ends. The waiting one, if there is one, opens in its place; its number
+    /// was spent at its load.
+    fn close(&mut self) {
+        match self.has_waiting() {
+            true => self.hold(LOADED, self.waiting.clone()),
+            false => self.hold(IDLE, NO_SET),
+        }
+    }
+
+    /// Call 1: opens a set, or has it wait for the open one to end.
     pub fn load(&mut self, half: &[u8]) -> Result<(), Refusal> {
-        self.turn(IDLE)?;
+        Refusal::Turn.unless(self.is_sound() && !self.has_waiting())?;
         let holder = Holder {
             name: &self.name,
             party: self.party as usize,
             key: &self.key,
         };
-        let set = sealed::examine(half, &holder, self.last)?;
+        let set = sealed::examine(half, &holder, self.floor())?;
         self.last = set.number;
-        self.phase = LOADED;
-        self.set = OpenSet::new(&set);
+        match self.phase {
+            IDLE => self.hold(LOADED, OpenedSet::new(&set)),
+            _ => self.waiting = OpenedSet::new(&set),
+        }
         Ok(())
     }
 
@@ -243,7 +205,7 @@ impl Party {
         Ok(answer)
     }
 
-    /// Ends the open set.
+    /// Ends the open set, and that one only.
     pub fn drop_set(&mut self) -> Result<(), Refusal> {
         Refusal::Turn.unless(self.phase != IDLE && self.is_sound())?;
         self.close();
@@ -252,10 +214,11 @@ impl Party {
 }
 
 #[cfg(test)]
-mod tests {
+pub mod tests {
     use super::*;
     use crate::dealer::{Dealer, Order};
     use crate::lock::{Answer, Lock};
+    use crate::measure::Measure;
     use crate::message::ANSWER;
     use crate::refusal;
     use crate::sample::Source;
@@ -263,20 +226,20 @@ mod tests {
 
     const KEYS: [[u8; 32]; 2] = [[1; 32], [2; 32]];
     const NAME: Name = *b"Hut 4\0\0\0\0\0\0\0\0\0\0\0";
-    const NUMBER: u64 = 11;
+    pub const NUMBER: u64 = 11;
 
-    fn started(party: usize) -> Party {
+    pub fn started(party: usize) -> Party {
         Party::start(b"Hut 4", party as u64, &KEYS[party], 10).unwrap()
     }
 
-    /// The halves of a set.
-    fn dealt(measure: Measure, length: usize, threshold: i32) -> [Vec<u8>; 2] {
+    /// The halves of a set under this number.
+    pub fn dealt_as(number: u64, measure: Measure, length: usize, threshold: i32) -> [Vec<u8>; 2] {
         let mut dealer = Dealer::start(b"Hut 4", 10, [&KEYS[0], &KEYS[1]]).unwrap();
         let order = Order {
             code: measure.code().into(),
             length: length as u64,
             threshold: threshold as u32,
-            number: NUMBER,
+            number,
             seed: &[length as u8; 32],
         };
         let bytes = 512 * crate::content::blocks(length);
@@ -286,11 +249,15 @@ mod tests {
         halves
     }
 
+    fn dealt(measure: Measure, length: usize, threshold: i32) -> [Vec<u8>; 2] {
+        dealt_as(NUMBER, measure, length, threshold)
+    }
+
     fn words(vector: &[i32]) -> Vec<u32> {
         vector.iter().map(|&element| element as u32).collect()
     }
 
-    fn label(kind: u64, sender: usize) -> Label<'static> {
+    pub fn label(kind: u64, sender: usize) -> Label<'static> {
         Label {
             kind,
             name: &NAME,
@@ -387,7 +354,7 @@ mod tests {
     }
 
     /// A box of party 0 at each phase of a check of length 2, in the order of phases.
-    fn phases() -> [Party; 4] {
+    pub fn phases() -> [Party; 4] {
         let [half, _] = dealt(Measure::Scalar, 2, 0);
         let idle = started(0);
         let mut loaded = idle.clone();
@@ -400,9 +367,9 @@ mod tests {
     }
 
     /// The refusals of load, mask, take, finish and drop, each with what its own phase
-    /// takes.
-    fn all_calls(state: &Party) -> [u32; 5] {
-        let [half, _] = dealt(Measure::Scalar, 2, 0);
+    /// takes. The half is not that of the open set.
+    pub fn all_calls(state: &Party) -> [u32; 5] {
+        let [half, _] = dealt_as(NUMBER + 5, Measure::Euclid, 3, 0);
         let on = |call: &dyn Fn(&mut Party) -> u32| {
             let mut copy = state.clone();
             let number = call(&mut copy);
@@ -422,9 +389,9 @@ mod tests {
     fn each_call_has_its_turn() {
         let [idle, loaded, masked, spoken] = phases();
         assert_eq!(all_calls(&idle), [0, 3, 3, 3, 3]);
-        assert_eq!(all_calls(&loaded), [3, 0, 3, 3, 0]);
-        assert_eq!(all_calls(&masked), [3, 3, 0, 3, 0]);
-        assert_eq!(all_calls(&spoken), [3, 3, 3, 0, 0]);
+        assert_eq!(all_calls(&loaded), [0, 0, 3, 3, 0]);
+        assert_eq!(all_calls(&masked), [0, 3, 0, 3, 0]);
+        assert_eq!(all_calls(&spoken), [0, 3, 3, 0, 0]);
     }
 
     #[test]

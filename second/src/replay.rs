@@ -30,14 +30,17 @@
 //! - `host NAME LAST` and the fields of `join`: what the C host's two functions give.
 //! - `put BOX PHASE PARTY CODE L`: puts these numbers into the box's state, as a host
 //!   may.
+//! - `waiting BOX NUMBER CODE L`: puts these numbers into the box's waiting set, as a host
+//!   may.
 //! - `show PART`: the tag of the state of `dealer`, `camera`, `office` or `lock`.
 //!
 //! Before the first start every state is zero. A refused call is answered by its
 //! number alone, an accepted one by `0` and then, each after a space: a deal, the tags
 //! of its two buffers; call 2, that of its buffer; call 3, the word; call 4, the
-//! answer; the join, 0 or 1. `put` is answered by `put`. A tag is Poly1305's under
-//! the key of bytes 0 to 31. A line that is none of these is answered by `bad line N`,
-//! counted from 1, and changes nothing.
+//! answer; the join, 0 or 1. `put` and `waiting` are answered by `put`. A tag is
+//! Poly1305's under the key of bytes 0 to 31, of a state's bytes as in `replay_states`.
+//! A line that is none of these is answered by `bad line N`, counted from 1, and changes
+//! nothing.
 
 use crate::dealer::{Dealer, Order};
 use crate::field::{self, decimal};
@@ -46,6 +49,7 @@ use crate::lock::{self, Answer, Lock};
 use crate::message::Label;
 use crate::party::Party;
 use crate::refusal::Refusal;
+use crate::replay_states::{bytes_of, dealer_bytes, lock_bytes, party_bytes};
 use crate::sealed::{BLOCKS, BLOCK_BYTES};
 use crate::{checks, content};
 use std::collections::VecDeque;
@@ -154,6 +158,7 @@ impl Replay {
             ("join", fields) => self.join(fields),
             ("host", [name, last, fields @ ..]) => self.host(name, last, fields),
             ("put", [at, numbers @ ..]) => self.put(at, numbers),
+            ("waiting", [at, numbers @ ..]) => self.put_waiting(at, numbers),
             ("show", [part]) => self.show(part),
             _ => None,
         }
@@ -342,6 +347,17 @@ impl Replay {
         Some("put".to_string())
     }
 
+    fn put_waiting(&mut self, at: &str, numbers: &[&str]) -> Option<String> {
+        let [number, code, length] = numbers else {
+            return None;
+        };
+        let (at, number) = (place(at)?, decimal(number)?);
+        let (code, length) = (decimal(code)?, decimal(length)?);
+        let waiting = &mut self.boxes[at].waiting;
+        (waiting.number, waiting.code, waiting.length) = (number, code, length);
+        Some("put".to_string())
+    }
+
     fn show(&self, part: &str) -> Option<String> {
         let state = match part {
             "dealer" => dealer_bytes(&self.dealer),
@@ -385,49 +401,8 @@ fn bytes(field: &str) -> Option<Vec<u8>> {
     }
 }
 
-fn bytes_of(words: &[u32]) -> Vec<u8> {
-    words.iter().flat_map(|word| word.to_le_bytes()).collect()
-}
-
-fn dealer_bytes(dealer: &Dealer) -> Vec<u8> {
-    let [key0, key1] = &dealer.keys;
-    [&dealer.name[..], key0, key1, &dealer.last.to_le_bytes()].concat()
-}
-
-fn lock_bytes(lock: &Lock) -> Vec<u8> {
-    [&lock.name[..], &lock.last.to_le_bytes()].concat()
-}
-
-/// A box's fields in their order. A correction's flags are one word: bit 0 left, bit 1
-/// right.
-fn party_bytes(state: &Party) -> Vec<u8> {
-    let (set, check) = (&state.set, &state.check);
-    let mut bytes = state.name.to_vec();
-    bytes.extend(state.party.to_le_bytes());
-    bytes.extend(state.key);
-    bytes.extend(state.last.to_le_bytes());
-    bytes.extend(state.phase.to_le_bytes());
-    bytes.extend(set.number.to_le_bytes());
-    bytes.extend(set.code.to_le_bytes());
-    bytes.extend(u64::from(set.length).to_le_bytes());
-    for words in [&set.own_mask, &set.x_share, &set.y_share] {
-        bytes.extend(bytes_of(words));
-    }
-    bytes.extend(bytes_of(&[set.c, set.r]));
-    bytes.extend(bytes_of(&set.seed));
-    for correction in &set.key.corrections {
-        let flags = u32::from(correction.left) | u32::from(correction.right) << 1;
-        bytes.extend(bytes_of(&correction.seed));
-        bytes.extend(bytes_of(&[correction.word, flags]));
-    }
-    bytes.extend(set.key.final_word.to_le_bytes());
-    bytes.extend(bytes_of(&check.masked));
-    bytes.extend(bytes_of(&[check.own, check.word]));
-    bytes
-}
-
 #[cfg(test)]
-mod tests {
+pub mod tests {
     use super::*;
     use crate::message::ANSWER;
 
@@ -435,7 +410,7 @@ mod tests {
     const NAME: &str = "4875742034";
     const PADDED: &str = "48757420340000000000000000000000";
 
-    fn started() -> Replay {
+    pub fn started() -> Replay {
         let mut replay = Replay::default();
         let starts = format!(
             "dealer {NAME} @32:1 @32:2 0\nparty camera {NAME} 0 @32:1 0\n\
@@ -446,7 +421,7 @@ mod tests {
     }
 
     /// A check under number 1, the squared Euclid line of 01, up to its join.
-    fn checked(replay: &mut Replay, threshold: u32) -> String {
+    pub fn checked(replay: &mut Replay, threshold: u32) -> String {
         let deal = format!("deal 1 @32:3 1 2 {threshold} 1536 2048");
         assert!(replay.answer(&deal).starts_with("0 "));
         for (at, vector) in [
@@ -479,29 +454,6 @@ mod tests {
     fn a_check_is_answered() {
         assert_eq!(checked(&mut started(), 82), "0 1");
         assert_eq!(checked(&mut started(), 83), "0 0");
-    }
-
-    /// Each field of a box's state has its place: 01's arrays, seeds and corrections.
-    #[test]
-    fn a_state_has_all_its_bytes() {
-        let state = Party::default();
-        let head = 16 + 4 + 32 + 8 + 4;
-        let set = 8 + 4 + 8 + 3 * 2048 + 4 + 4 + 32 + 32 * 40 + 4;
-        assert_eq!(party_bytes(&state), vec![0; head + set + 2048 + 8]);
-        let mut replay = started();
-        checked(&mut replay, 82);
-        assert_eq!(replay.answer("deal 9 @32:5 2 512 0 8192 8192").len(), 67);
-        replay.answer("load office office 0 8192 9999");
-        let loaded = party_bytes(&replay.boxes[1]);
-        assert_eq!(loaded[16], 1);
-        assert_eq!(loaded[52..54], [9, 0]);
-        assert_eq!(loaded[60..86], {
-            let mut numbers = [0; 26];
-            (numbers[0], numbers[4], numbers[12], numbers[17]) = (1, 9, 2, 2);
-            let mask = replay.boxes[1].set.own_mask[0].to_le_bytes();
-            numbers[24..].copy_from_slice(&mask[..2]);
-            numbers
-        });
     }
 
     /// What is no line of a script is answered so, and changes nothing.
@@ -538,6 +490,12 @@ mod tests {
             "take camera 0 - 1 1 lock",
             "finish camera 0 - 1 4294967296",
             "put camera 0 0 0",
+            "waiting camera 1 0",
+            "waiting camera 1 0 1 0",
+            "waiting lock 1 0 1",
+            "waiting camera 18446744073709551616 0 1",
+            "waiting camera 1 4294967296 1",
+            "waiting camera 1 0 4294967296",
             "show door",
         ]
         .into_iter()

@@ -12,7 +12,7 @@ use crate::sealed;
 impl Script {
     /// A load of the newest half of length 18, or of the one before, with these things
     /// wrong.
-    fn wrong_load(&self, at: usize, wrong: &[u32], variant: usize) -> String {
+    pub fn wrong_load(&self, at: usize, wrong: &[u32], variant: usize) -> String {
         let has = |refusal: u32| wrong.contains(&refusal);
         let whole = if has(11) { 1536 } else { 2048 };
         let bytes = match has(4) {
@@ -31,7 +31,7 @@ impl Script {
         self.start("A box's door", [7, 6, 5, 4]);
         self.dealt(Measure::Euclid, 18, 100);
         self.loaded(at);
-        self.accepted(format!("drop {}", BOXES[at]));
+        self.dropped(at);
         self.dealt(Measure::Hamming, 18, 10);
         let (before, name) = (self.show(BOXES[at]), BOXES[at]);
         for variant in 0..4 {
@@ -58,7 +58,7 @@ impl Script {
     }
 
     /// Blocks of another place, number or box, at a box that would take the newest half.
-    fn wrong_blocks(&mut self, at: usize) {
+    pub fn wrong_blocks(&mut self, at: usize) {
         let (name, other) = (BOXES[at], BOXES[1 - at]);
         for (line, refusal) in [
             (format!("load {name} {other} 0 2048 {NOWHERE}"), 10),
@@ -103,9 +103,9 @@ impl Script {
         self.answered("mixed camera 0 1 0", 10);
         // The older half first, then the newer one; not the other way round.
         assert_eq!(self.load(0, &self.load_line(0, 1)), 0);
-        self.accepted("drop camera");
+        self.dropped(0);
         self.loaded(0);
-        self.accepted("drop camera");
+        self.dropped(0);
         for back in [1, 0] {
             assert_eq!(self.load(0, &self.load_line(0, back)), 7);
         }
@@ -143,7 +143,8 @@ impl Script {
         self.answered(format!("load camera office 0 1536 {NOWHERE}"), 11);
     }
 
-    /// Halves that are sealed well, with something wrong in their content.
+    /// Halves that are sealed well, with something wrong in their content: what other boxes
+    /// do not find wrong.
     pub fn wrong_contents(&mut self) {
         self.start("Hut 4", [0; 4]);
         let key = field::parse_array(&self.door.keys[0]).expect("a key");
@@ -153,8 +154,6 @@ impl Script {
         // The first flag byte of L = 1, and the first byte of the fill.
         let (flags, fill) = (20 + 12 + 8 + 32 + 36, content::bytes(1));
         for (place, byte, refusal) in [
-            (5, b' ', 11),
-            (16, 1, 11),
             (17, 3, 11),
             (18, 0, 11),
             (flags, 4, 11),
@@ -208,7 +207,7 @@ impl Script {
             }
             assert_eq!(self.show(BOXES[at]), before);
             self.ends_of_range(at, measure);
-            self.accepted(format!("drop {}", BOXES[at]));
+            self.dropped(at);
         }
         self.show_all();
     }
@@ -221,7 +220,7 @@ impl Script {
             assert_eq!(self.mask(at, &hex_words(&words), 520), refusal);
             if element == low {
                 self.show(BOXES[at]);
-                self.accepted(format!("drop {}", BOXES[at]));
+                self.dropped(at);
                 self.dealt(measure, 3, 0);
                 self.loaded(at);
             }
@@ -351,16 +350,17 @@ impl Script {
         for phase in 0..4 {
             let before = self.show(BOXES[at]);
             let calls = self.calls(at, number);
+            // With a set open a load is one ahead: 3 is not its refusal.
             for (turn, line) in calls.iter().enumerate() {
                 let own = turn == phase || (turn == 4 && phase > 0);
                 if !own {
-                    self.answered(line, 3);
+                    self.answered(line, if turn == 0 { 7 } else { 3 });
                 }
             }
             for variant in 0..3 {
                 for (turn, line) in self.spoilt_calls(at, variant).iter().enumerate() {
                     if turn != phase {
-                        self.answered(line, 3);
+                        self.answered(line, if turn == 0 { 4 } else { 3 });
                     }
                 }
             }

@@ -1,8 +1,9 @@
 //! The script of the program `test_replay`: whole checks (`replay_checks`), every refusal of
 //! every call with every other one that may apply beside it (here, and `replay_boxes`),
-//! states that no call leaves, and lists of calls as a bad network and a careless host
-//! make them (`replay_lists`). What is refused, and by which number, stands here and is
-//! not asked of this implementation; so does every joined bit.
+//! states that no call leaves, sets loaded ahead (`replay_ahead`, `replay_pairs`), and
+//! lists of calls as a bad network and a careless host make them (`replay_lists`). What
+//! is refused, and by which number, stands here and is not asked of this implementation;
+//! so does every joined bit.
 
 use crate::field;
 use crate::measure::{Measure, MAX_LENGTH};
@@ -318,6 +319,13 @@ impl Script {
             "finish camera 1 - 1 1 4294967296",
             "join 2 - 0 1 camera 2 - 1 1",
             "put camera 0 0 0",
+            "waiting camera 1 0",
+            "waiting camera 1 0 1 0",
+            "waiting lock 1 0 1",
+            "waiting office 18446744073709551616 0 1",
+            "waiting office 1 4294967296 1",
+            "waiting office 1 0 4294967296",
+            "waiting office 1 0 -",
             "show door",
             "show",
         ] {
@@ -352,6 +360,9 @@ pub fn cases() -> Vec<Case> {
     script.turns(0);
     script.turns(1);
     script.drops();
+    script.edges_of_load_ahead();
+    script.pairs();
+    script.pairs_with_drops();
     script.bad_lines();
     script.lists();
     script.list
@@ -365,7 +376,7 @@ mod tests {
     use std::collections::BTreeMap;
 
     /// The most bytes of the script and of its answers.
-    const MAX_STDIN: usize = 200_000;
+    const MAX_STDIN: usize = 260_000;
     const MAX_STDOUT: usize = 120_000;
 
     #[test]

@@ -26,27 +26,28 @@ const THRESHOLDS: [Threshold; 4] = [
 ];
 
 /// A check in range, and what its join must say.
-struct Check {
-    deal: Deal,
-    vectors: [String; 2],
-    reached: bool,
+pub struct Check {
+    pub deal: Deal,
+    pub vectors: [String; 2],
+    pub reached: bool,
 }
 
 /// The calls of a check; a number is a box's place.
 #[derive(Clone, Copy, PartialEq)]
-enum Step {
+pub enum Step {
     Deal,
     Load(usize),
     Mask(usize),
     Take(usize),
     Finish(usize),
+    Drop(usize),
     Join,
 }
 
 use Step::{Finish, Load, Mask, Take};
 
-/// The camera box as far ahead as may be.
-const STEPS: [Step; 10] = [
+/// The camera box as far ahead as may be. Drops are no part of a whole check.
+pub const STEPS: [Step; 10] = [
     Step::Deal,
     Load(0),
     Mask(0),
@@ -61,10 +62,12 @@ const STEPS: [Step; 10] = [
 
 impl Step {
     /// Whether all is written and sent that this step hands on.
-    fn is_ready(self, done: &[Step]) -> bool {
+    pub fn is_ready(self, done: &[Step]) -> bool {
         let needs: &[Step] = match self {
             Step::Deal => &[],
             Load(_) => &[Step::Deal],
+            Step::Drop(0) => &[Load(0)],
+            Step::Drop(_) => &[Load(1)],
             Mask(0) => &[Load(0)],
             Mask(_) => &[Load(1)],
             Take(_) => &[Mask(0), Mask(1)],
@@ -78,22 +81,31 @@ impl Step {
     fn part(self) -> &'static str {
         match self {
             Step::Deal => "dealer",
-            Load(at) | Mask(at) | Take(at) | Finish(at) => BOXES[at],
             Step::Join => "lock",
+            _ => BOXES[self.at().expect("a call on a box")],
         }
     }
 
-    /// The refusal of the same call once more.
+    /// The box that it is a call on, if it is one.
+    pub fn at(self) -> Option<usize> {
+        match self {
+            Step::Deal | Step::Join => None,
+            Load(at) | Mask(at) | Take(at) | Finish(at) | Step::Drop(at) => Some(at),
+        }
+    }
+
+    /// The refusal of the same call once more. A load would be one ahead, under a number
+    /// that is not above the open one.
     fn again(self) -> u32 {
         match self {
-            Step::Deal | Step::Join => 7,
+            Step::Deal | Step::Join | Load(_) => 7,
             _ => 3,
         }
     }
 }
 
 impl Script {
-    fn check(&mut self, measure: Measure, vectors: [String; 2], threshold: i32) -> Check {
+    pub fn check(&mut self, measure: Measure, vectors: [String; 2], threshold: i32) -> Check {
         let [x, y] = [0, 1].map(|at: usize| vector(&vectors[at]).expect("a vector"));
         let number = self.next_number() + self.below(3) as u64;
         Check {
@@ -104,18 +116,22 @@ impl Script {
     }
 
     /// One call of a check: its refusal.
-    fn step(&mut self, check: &Check, step: Step) -> u32 {
+    pub fn step(&mut self, check: &Check, step: Step) -> u32 {
         let (number, length) = (check.deal.number, check.deal.length as usize);
         match step {
             Step::Deal => self.deal(&check.deal),
-            Load(at) => {
-                let line = self.load_line(at, 0);
-                self.load(at, &line)
-            }
+            Load(at) => self.load(at, &self.half_line(at, number)),
             Mask(at) => self.mask(at, &check.vectors[at], length + at),
-            Take(at) => self.take(at, &self.vector_for(at, number), BOXES[1 - at]),
-            Finish(at) => self.finish(at, &self.word_for(at, number), BOXES[1 - at]),
-            Step::Join => self.join(&self.join_of(number)),
+            Take(at) => {
+                let vector = self.vector_of(1 - at, number);
+                self.take(at, &self.vector_for(at, number), &vector)
+            }
+            Finish(at) => {
+                let word = self.word_of(1 - at, number);
+                self.finish(at, &self.word_for(at, number), &word)
+            }
+            Step::Drop(at) => self.drop_set(at),
+            Step::Join => self.join(&self.join_under(number)),
         }
     }
 
@@ -137,7 +153,7 @@ impl Script {
             } else {
                 assert_eq!(self.step(check, step), 0, "{}", check.deal);
             }
-            if turn.is_multiple_of(5) {
+            if turn.is_multiple_of(9) {
                 assert_eq!(self.step(check, step), step.again());
             }
             if turn.is_multiple_of(3) {
@@ -236,7 +252,7 @@ impl Script {
         self.answered("bytes office @1536:9", 7);
         self.answered("bytes office @1537:9", 4);
         self.loaded(0);
-        self.accepted("drop camera");
+        self.dropped(0);
         self.answered(self.load_line(0, 0), 7);
         for number in [u64::MAX, 0, 1] {
             assert_eq!(self.host_and_join(&self.join_of(number)), 7);
@@ -263,10 +279,10 @@ impl Script {
                 for step in &steps[..1 + 2 * phase] {
                     assert_eq!(self.step(&check, *step), 0);
                 }
-                self.accepted(format!("drop {}", BOXES[at]));
+                self.dropped(at);
                 self.show(BOXES[at]);
                 self.after_a_drop(at, &check);
-                self.accepted(format!("drop {}", BOXES[1 - at]));
+                self.dropped(1 - at);
                 let check = self.check(Measure::Euclid, vectors(), 1);
                 self.whole_check(&check, 2);
             }
@@ -299,7 +315,7 @@ impl Script {
         for step in [Take(0), Take(1), Finish(0)] {
             assert_eq!(self.step(&check, step), 0);
         }
-        self.accepted("drop office");
+        self.dropped(1);
         let earlier = *self.claim.joined.keys().last().expect("a join");
         let mut join = self.join_of(check.deal.number);
         join.messages[1].number = earlier;

@@ -1,9 +1,10 @@
 //! What 01, "A door's list of calls", claims of every list: no part accepts a set number
 //! twice, and an accepted join says whether the measure of the two vectors, taken over
-//! whole numbers, reaches the threshold.
+//! whole numbers, reaches the threshold. And what 02, "Load ahead", adds: a box holds two
+//! sets at most, their numbers rise, and it sends under the first of them alone.
 
 use crate::measure::Measure;
-use std::collections::{BTreeMap, BTreeSet};
+use std::collections::{BTreeMap, BTreeSet, VecDeque};
 use std::fmt::Debug;
 
 /// What has been accepted in a door's list of calls, by set number.
@@ -23,6 +24,9 @@ pub struct Claim {
 #[derive(Default)]
 pub struct AtBox {
     pub loads: BTreeMap<u64, ()>,
+    /// The sets that were loaded and have not ended, the open one first. It is read off
+    /// the accepted calls, and not off the box's state.
+    pub held: VecDeque<u64>,
     pub vectors: BTreeMap<u64, Vec<i32>>,
     pub masked: BTreeMap<u64, Vec<u32>>,
     pub words: BTreeMap<u64, u32>,
@@ -35,15 +39,33 @@ impl Claim {
     }
 
     pub fn load(&mut self, at: usize, number: u64) {
-        once(self.off, &mut self.boxes[at].loads, number, ());
+        let AtBox { loads, held, .. } = &mut self.boxes[at];
+        let rises = loads.keys().all(|earlier| *earlier < number);
+        assert!(self.off || (rises && held.len() < 2), "load of {number}");
+        once(self.off, loads, number, ());
+        held.push_back(number);
+    }
+
+    /// The open set ends by call 4 or a drop.
+    pub fn close(&mut self, at: usize) {
+        let ended = self.boxes[at].held.pop_front();
+        assert!(self.off || ended.is_some(), "no set is open");
+    }
+
+    /// A box sends under the number of its open set.
+    fn sends(&self, at: usize, number: u64) {
+        let open = self.boxes[at].held.front();
+        assert!(self.off || open == Some(&number), "{number}, not {open:?}");
     }
 
     pub fn mask(&mut self, at: usize, number: u64, vector: Vec<i32>, masked: Vec<u32>) {
+        self.sends(at, number);
         once(self.off, &mut self.boxes[at].vectors, number, vector);
         once(self.off, &mut self.boxes[at].masked, number, masked);
     }
 
     pub fn take(&mut self, at: usize, number: u64, vector: &[u32], word: u32) {
+        self.sends(at, number);
         let sent = self.boxes[1 - at].masked.get(&number);
         if sent.is_none_or(|sent| sent != vector) {
             self.forged.insert(number);
@@ -52,10 +74,12 @@ impl Claim {
     }
 
     pub fn finish(&mut self, at: usize, number: u64, word: u32, answer: u32) {
+        self.sends(at, number);
         if self.boxes[1 - at].words.get(&number) != Some(&word) {
             self.forged.insert(number);
         }
         once(self.off, &mut self.boxes[at].answers, number, answer);
+        self.close(at);
     }
 
     pub fn join(&mut self, number: u64, answers: [u32; 2], bit: u32) {
@@ -116,6 +140,9 @@ mod tests {
         claim.join(5, [100, 102], 0);
         assert!(claim.forged.contains(&5));
         let mut claim = answered(-14);
+        for at in [0, 1] {
+            claim.load(at, 6);
+        }
         claim.mask(0, 6, vec![1], vec![1]);
         claim.take(1, 6, &[2], 3);
         assert!(claim.forged.contains(&6) && !claim.forged.contains(&5));
@@ -124,6 +151,42 @@ mod tests {
     #[test]
     #[should_panic(expected = "5 again")]
     fn no_number_is_used_twice() {
+        answered(0).deal(5, Measure::Scalar, 0);
+    }
+
+    #[test]
+    #[should_panic(expected = "load of 5")]
+    fn no_number_is_loaded_twice() {
         answered(0).load(1, 5);
+    }
+
+    /// A box with one set open and another one waiting.
+    fn ahead() -> Claim {
+        let mut claim = answered(0);
+        claim.load(0, 6);
+        claim.load(0, 8);
+        claim
+    }
+
+    #[test]
+    fn the_waiting_set_opens_when_the_open_one_ends() {
+        let mut claim = ahead();
+        claim.mask(0, 6, vec![1], vec![1]);
+        claim.close(0);
+        claim.mask(0, 8, vec![1], vec![1]);
+        claim.close(0);
+        assert!(claim.boxes[0].held.is_empty());
+    }
+
+    #[test]
+    #[should_panic(expected = "8, not Some(6)")]
+    fn nothing_is_sent_for_the_waiting_set() {
+        ahead().mask(0, 8, vec![1], vec![1]);
+    }
+
+    #[test]
+    #[should_panic(expected = "load of 9")]
+    fn no_third_set_is_held() {
+        ahead().load(0, 9);
     }
 }

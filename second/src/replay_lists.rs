@@ -34,11 +34,11 @@ impl Script {
         let (short, long): (&[usize], &[usize]) = (&[1, 2], &[1, 2, 17, 18, MAX_LENGTH]);
         for (name, lengths, calls, hazards) in [
             ("Front", &short[..1], 140, Hazards::Network),
-            ("Back", short, 180, Hazards::Network),
+            ("Back", short, 160, Hazards::Network),
             ("Hut 4", long, 180, Hazards::Network),
             ("Hut 4, east door", long, 180, Hazards::Network),
             ("Gate", short, 130, Hazards::Forgers),
-            ("Shed", short, 110, Hazards::Host),
+            ("Shed", short, 150, Hazards::Host),
         ] {
             let floors = [0, 1, 2, 3].map(|_| self.below(6) as u64);
             self.start(name, floors);
@@ -73,7 +73,7 @@ impl Script {
             86..89 => self.odd_deal(lengths),
             89..94 => self.odd_join(),
             94..96 => {
-                self.say(format!("drop {}", BOXES[at]));
+                self.drop_set(at);
             }
             _ if hazards == Hazards::Host => self.any_state(at),
             _ => {
@@ -85,10 +85,13 @@ impl Script {
         }
     }
 
-    /// A call on a box that has its turn, with something that may be wrong.
+    /// A call on a box that has its turn, with something that may be wrong. A load has its
+    /// turn in every phase, unless a set waits.
     fn odd_call(&mut self, at: usize, hazards: Hazards) {
+        let ahead = self.below(5) == 0;
         match self.replay.boxes[at].phase {
             IDLE => self.odd_load(at),
+            _ if ahead => self.odd_load(at),
             LOADED => self.odd_mask(at),
             _ => self.odd_message(at, hazards),
         }
@@ -101,7 +104,7 @@ impl Script {
             1 => self.odd_mask(at),
             2 => self.odd_message(at, hazards),
             _ => {
-                self.say(format!("drop {}", BOXES[at]));
+                self.drop_set(at);
             }
         }
     }
@@ -111,14 +114,48 @@ impl Script {
         if self.below(2) == 0 && self.right_join() {
             return;
         }
+        if self.below(3) == 0 && self.load_ahead(at, lengths) {
+            return;
+        }
         if !self.box_call(at) && !self.box_call(1 - at) {
             match self.replay.boxes[at].phase {
                 IDLE => self.right_deal(lengths),
                 _ => {
-                    self.say(format!("drop {}", BOXES[at]));
+                    self.drop_set(self.behind(at));
                 }
             }
         }
+    }
+
+    /// The box whose open set the other one has left behind, or else this one.
+    fn behind(&self, at: usize) -> usize {
+        let (own, other) = (self.open(at), self.open(1 - at));
+        match self.replay.boxes[1 - at].phase {
+            MASKED | SPOKEN if other < own => 1 - at,
+            _ => at,
+        }
+    }
+
+    /// The next half that a box has not seen, whatever its phase, or else a deal: whether
+    /// there is room for it.
+    fn load_ahead(&mut self, at: usize, lengths: &[usize]) -> bool {
+        let waits = self.replay.boxes[at].waiting.length != 0;
+        match (waits, self.unseen(at)) {
+            (true, _) => {}
+            (false, Some(line)) => {
+                self.load(at, &line);
+            }
+            (false, None) => self.right_deal(lengths),
+        }
+        !waits
+    }
+
+    /// The line that loads the oldest half at hand that a box has not seen.
+    fn unseen(&self, at: usize) -> Option<String> {
+        let kept = self.claim.deals.len().min(self.replay.dealt.len());
+        let numbers = self.claim.deals.keys().rev().take(kept).rev();
+        let mut unseen = numbers.filter(|number| **number > self.replay.boxes[at].last);
+        unseen.next().map(|number| self.half_line(at, *number))
     }
 
     fn right_deal(&mut self, lengths: &[usize]) {
@@ -138,14 +175,14 @@ impl Script {
 
     /// Whether a box has something to do in turn, which is then done.
     fn box_call(&mut self, at: usize) -> bool {
-        let number = self.open(at);
-        let (phase, last) = (self.replay.boxes[at].phase, self.replay.boxes[at].last);
-        let newest = self.claim.deals.keys().last().copied();
+        let (number, phase) = (self.open(at), self.replay.boxes[at].phase);
         match phase {
-            IDLE if newest.is_some_and(|number| number > last) => {
-                let line = self.load_line(at, 0);
-                self.load(at, &line);
-            }
+            IDLE => match self.unseen(at) {
+                Some(line) => {
+                    self.load(at, &line);
+                }
+                None => return false,
+            },
             LOADED => self.right_mask(at),
             MASKED | SPOKEN => {
                 let kind = if phase == MASKED { MASKED_VECTOR } else { WORD };
@@ -366,10 +403,49 @@ impl Script {
         self.join(&join);
     }
 
-    /// Some numbers put into a box's state, a few calls on it, and at times its own
-    /// numbers again. What calls 1 and 2 make of a word or vector that is in the state
-    /// before its turn, 01 does not say: no such state is made.
+    /// Some numbers put into a box's state or its waiting set, and a few calls on it.
     fn any_state(&mut self, at: usize) {
+        match self.below(2) {
+            0 => self.any_open_set(at),
+            _ => self.any_waiting_set(at),
+        }
+    }
+
+    /// Calls on a state that a host has written to.
+    fn calls_on_any_state(&mut self, at: usize) {
+        self.show(BOXES[at]);
+        for _ in 0..3 {
+            self.any_box_call(at, Hazards::Forgers);
+        }
+        self.odd_call(at, Hazards::Forgers);
+    }
+
+    /// Numbers in the waiting set, and at times its own again.
+    fn any_waiting_set(&mut self, at: usize) {
+        let numbers = |script: &Script| {
+            let waiting = &script.replay.boxes[at].waiting;
+            (waiting.number, waiting.code, waiting.length)
+        };
+        let (own, open) = (numbers(self), self.open(at));
+        let near = [0, open.saturating_sub(1), open, open + 1, open + 2, own.0];
+        let mut put = own;
+        match self.below(4) {
+            0 => put.0 = self.pick(&near),
+            1 => put.1 = self.pick(&[0, 1, 2, 3]),
+            2 => put.2 = self.pick(&[0, 1, 2, 512, 513]),
+            _ => put = (open + 1, self.pick(&[0, 1, 2]), self.pick(&[1, 2])),
+        }
+        self.put_waiting(at, put);
+        self.calls_on_any_state(at);
+        if numbers(self) == put {
+            self.put_waiting(at, own);
+        }
+    }
+
+    /// Numbers in the open set, and at times its own again. What calls 1 and 2 make of a
+    /// word or vector that is in the state before its turn, 01 does not say: no such state
+    /// is made.
+    fn any_open_set(&mut self, at: usize) {
         let state = &self.replay.boxes[at];
         let own = [state.phase, at as u32, state.set.code, state.set.length];
         let mut put = own;
@@ -382,11 +458,7 @@ impl Script {
             _ => put[3] = self.pick(&[0, 1, 2, 512, 513]),
         }
         self.put(at, put);
-        self.show(BOXES[at]);
-        for _ in 0..3 {
-            self.any_box_call(at, Hazards::Forgers);
-        }
-        self.odd_call(at, Hazards::Forgers);
+        self.calls_on_any_state(at);
         let state = &self.replay.boxes[at];
         let left = [state.phase, state.party, state.set.code, state.set.length];
         if left == put {

@@ -255,6 +255,13 @@ impl Script {
         format!("load {name} {name} {back} {bytes} {NOWHERE}")
     }
 
+    /// The line that loads the half of this number, one of the last deals.
+    pub fn half_line(&self, at: usize, number: u64) -> String {
+        let of = |halves: &[Vec<u8>; 2]| halves[at].starts_with(&number.to_le_bytes());
+        let back = self.replay.dealt.iter().position(of);
+        self.load_line(at, back.expect("a deal that is at hand"))
+    }
+
     /// The set that a box has open.
     pub fn open(&self, at: usize) -> u64 {
         self.replay.boxes[at].set.number
@@ -272,7 +279,6 @@ impl Script {
     }
 
     pub fn take(&mut self, at: usize, message: &Message, vector: &str) -> u32 {
-        let number = self.open(at);
         let words = match BOXES.iter().position(|name| *name == vector) {
             Some(from) => self.replay.sent[from].vector.clone(),
             None => checks::words(vector).expect("a vector field"),
@@ -280,13 +286,12 @@ impl Script {
         let refusal = refusal(&self.say(format!("take {} {message} {vector}", BOXES[at])));
         if refusal == 0 {
             let word = self.replay.sent[at].word;
-            self.claim.take(at, number, &words, word);
+            self.claim.take(at, message.number, &words, word);
         }
         refusal
     }
 
     pub fn finish(&mut self, at: usize, message: &Message, word: &str) -> u32 {
-        let number = self.open(at);
         let content = match BOXES.iter().position(|name| *name == word) {
             Some(from) => self.replay.sent[from].word,
             None => decimal(word).expect("a word"),
@@ -294,7 +299,15 @@ impl Script {
         let refusal = refusal(&self.say(format!("finish {} {message} {word}", BOXES[at])));
         if refusal == 0 {
             let answer = self.replay.sent[at].answer;
-            self.claim.finish(at, number, content, answer);
+            self.claim.finish(at, message.number, content, answer);
+        }
+        refusal
+    }
+
+    pub fn drop_set(&mut self, at: usize) -> u32 {
+        let refusal = refusal(&self.say(format!("drop {}", BOXES[at])));
+        if refusal == 0 {
+            self.claim.close(at);
         }
         refusal
     }
@@ -350,6 +363,39 @@ impl Script {
         self.message(WORD, 1 - at, number)
     }
 
+    /// The field for the masked vector that a box sent under a number: the box's name where
+    /// it is the last one.
+    pub fn vector_of(&self, from: usize, number: u64) -> String {
+        match self.claim.boxes[from].masked.get(&number) {
+            Some(vector) if *vector != self.replay.sent[from].vector => hex_words(vector),
+            _ => BOXES[from].to_string(),
+        }
+    }
+
+    /// The same for a word.
+    pub fn word_of(&self, from: usize, number: u64) -> String {
+        match self.claim.boxes[from].words.get(&number) {
+            Some(word) if *word != self.replay.sent[from].word => word.to_string(),
+            _ => BOXES[from].to_string(),
+        }
+    }
+
+    /// The same for an answer.
+    fn answer_of(&self, from: usize, number: u64) -> String {
+        match self.claim.boxes[from].answers.get(&number) {
+            Some(answer) if *answer != self.replay.sent[from].answer => answer.to_string(),
+            _ => BOXES[from].to_string(),
+        }
+    }
+
+    /// The join of what the boxes answered under a number.
+    pub fn join_under(&self, number: u64) -> Join {
+        Join {
+            answers: [0, 1].map(|from| self.answer_of(from, number)),
+            ..self.join_of(number)
+        }
+    }
+
     /// The join of what the boxes answered last.
     pub fn join_of(&self, number: u64) -> Join {
         Join {
@@ -374,6 +420,16 @@ impl Script {
     pub fn loaded(&mut self, at: usize) {
         let line = self.load_line(at, 0);
         assert_eq!(self.load(at, &line), 0, "{line}");
+    }
+
+    /// The open set dropped.
+    pub fn dropped(&mut self, at: usize) {
+        assert_eq!(self.drop_set(at), 0, "drop {}", BOXES[at]);
+    }
+
+    pub fn put_waiting(&mut self, at: usize, (number, code, length): (u64, u32, u32)) {
+        let line = format!("waiting {} {number} {code} {length}", BOXES[at]);
+        self.answered(line, "put");
     }
 
     pub fn put(&mut self, at: usize, [phase, party, code, length]: [u32; 4]) {
