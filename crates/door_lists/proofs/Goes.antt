@@ -25,9 +25,10 @@ use Rattle.half_content.specs.Content.{noSet}
 use Rattle.call_party.specs.Party.{idle, noCheck, waitingFits}
 use Rattle.call_party.specs.Party.{stateFits, sound, inTurn, whyNotLoad, whyNotMask, whyNotMessage, whyNotTake}
 use Rattle.call_party.specs.Party.{whyNotFinish, whyNotDrop}
+use Rattle.call_party.specs.Laws.{waterOf}
 use Rattle.call_lock.specs.declared.Lock.{Lock}
 use Rattle.call_lock.specs.Lock.{whyNotJoin}
-use Rattle.door_lists.proofs.Accepted.{Heard, waterOf}
+use Rattle.door_lists.proofs.Accepted.{Heard}
 
 -- ---- the dealer
 

@@ -18,10 +18,11 @@ use Rattle.half_deal.specs.Dealing.{Deal}
 use Rattle.call_party.specs.declared.Party.{Party}
 use Rattle.call_party.specs.Party as BoxCalls
 use Rattle.call_party.specs.Party.{idle, whyNotLoad, whyNotMask, whyNotTake, whyNotFinish, whyNotDrop, maskedVector}
+use Rattle.call_party.specs.Laws.{waterOf, load-tells}
 use Rattle.door_lists.specs.Lists.{Box, camera, office, partyOf, other, World, Starts, Message, take, finish}
 use Rattle.door_lists.specs.Lists.{Event, dealt, loaded, sent, dropped, vector, word, answer, maskedBy, In}
 use Rattle.door_lists.specs.Lists.{Written, Sent, SentVector, SentWord}
-use Rattle.door_lists.proofs.Accepted.{Heard, waterOf, load-tells, mask-tells, take-tells, finish-tells}
+use Rattle.door_lists.proofs.Accepted.{Heard, mask-tells, take-tells, finish-tells}
 use Rattle.door_lists.proofs.Accepted.{drop-tells}
 use Rattle.door_lists.proofs.Dealt.{setOf, set-number, set-terms, set-proper, Sound, maskOf, ownOf, wordBy}
 use Rattle.door_lists.proofs.History.{door, halfOf, EventOk, Dealt, Vector, look}

@@ -20,13 +20,14 @@ use Rattle.call_party.specs.declared.Party.{Party}
 use Rattle.call_party.specs.declared.PartyAnswer.{PartyAnswer}
 use Rattle.call_party.specs.Party as BoxCalls
 use Rattle.call_party.specs.Party.{idle}
+use Rattle.call_party.specs.Laws.{waterOf}
 use Rattle.call_lock.specs.declared.Lock.{Lock}
 use Rattle.call_lock.specs.Lock as LockCalls
 use Rattle.door_lists.specs.Lists.{Box, camera, office, partyOf, other, Starts, Message, Call, deal, load, mask}
 use Rattle.door_lists.specs.Lists.{take, finish, drop, join, Event, dealt, loaded, sent, dropped, joined, vector}
 use Rattle.door_lists.specs.Lists.{word, answer, written, maskedBy}
 use Rattle.door_lists.specs.Demand.{verdict, Labelled, InRange}
-use Rattle.door_lists.proofs.Accepted.{Heard, waterOf}
+use Rattle.door_lists.proofs.Accepted.{Heard}
 use Rattle.door_lists.proofs.Goes.{OpenAt, Behind, deal-goes, load-goes, mask-goes, take-goes, finish-goes}
 use Rattle.door_lists.proofs.Goes.{join-goes}
 use Rattle.door_lists.proofs.Dealt.{setOf, set-number, set-terms, set-n, set-proper, Sound, maskOf, ownOf}

@@ -24,6 +24,7 @@ use Rattle.call_party.specs.declared.Party.{Party}
 use Rattle.call_party.specs.Party as BoxCalls
 use Rattle.call_party.specs.Party.{idle, inTurn, takeVector, dropSet}
 use Rattle.call_party.specs.Party.{whyNotLoad, whyNotMask, whyNotTake, whyNotFinish, whyNotDrop}
+use Rattle.call_party.specs.Laws.{waterOf, opened-fits, load-tells}
 use Rattle.call_lock.specs.declared.Lock.{Lock}
 use Rattle.call_lock.specs.Lock as LockCalls
 use Rattle.door_lists.specs.Lists.{Box, partyOf, other, put, World, Starts, Started, beginning}
@@ -32,7 +33,7 @@ use Rattle.door_lists.specs.Lists.{Event, loaded, sent, dropped, refused
 use Rattle.door_lists.specs.Demand.{dealsIn, loadsBy, joinsIn, collect}
 use Rattle.door_lists.specs.Demand.{lastDealt, lastLoaded, lastJoined, openSets, held}
 use Rattle.door_lists.specs.Numbers.{Rise, NoTurn, numbersIn, NumbersKept}
-use Rattle.door_lists.proofs.Accepted.{waterOf, opened-fits, load-tells, mask-tells, take-tells, finish-tells}
+use Rattle.door_lists.proofs.Accepted.{mask-tells, take-tells, finish-tells}
 use Rattle.door_lists.proofs.Accepted.{drop-tells, join-tells}
 use Rattle.door_lists.proofs.Boxes.{own-box, party-fits, put-all}
 use Rattle.door_lists.proofs.Goes.{Behind, none-behind, one-behind, drop-goes}

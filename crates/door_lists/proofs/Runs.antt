@@ -13,12 +13,12 @@ use Rattle.call_party.specs.declared.Party.{Party}
 use Rattle.call_party.specs.declared.PartyAnswer.{PartyAnswer}
 use Rattle.call_party.specs.Party as BoxCalls
 use Rattle.call_party.specs.Party.{idle}
+use Rattle.call_party.specs.Laws.{waterOf}
 use Rattle.door_lists.specs.Lists.{Box, camera, office, World, Starts, Call, deal, load, mask, take, finish, join}
 use Rattle.door_lists.specs.Lists.{Event, dealt, loaded, sent, dropped, joined, refused, vector, word, answer}
 use Rattle.door_lists.specs.Lists.{put, eventOf, onBox, maskedBy, step, after, events, In, here, there}
 use Rattle.door_lists.specs.Demand.{Progress, nothingMade, madeOne, onward, Ready, Run, start, own, aside, turned}
 use Rattle.door_lists.specs.Demand.{Answered, InRange, Free}
-use Rattle.door_lists.proofs.Accepted.{waterOf}
 use Rattle.door_lists.proofs.Boxes.{party-fits}
 use Rattle.door_lists.proofs.Goes.{idle-sound, none-behind}
 use Rattle.door_lists.proofs.Dealt.{maskOf, wordBy, answerBy}

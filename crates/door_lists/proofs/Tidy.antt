@@ -21,10 +21,10 @@ use Rattle.call_party.specs.declared.Party.{Party}
 use Rattle.call_party.specs.Party as BoxCalls
 use Rattle.call_party.specs.Party.{noCheck, idle, noParty, startParty, opened, loaded, masked, maskedVector, worded}
 use Rattle.call_party.specs.Party.{closed, nextCheck, whyNotLoad}
+use Rattle.call_party.specs.Laws.{opened-fits, opened-long}
 use Rattle.door_lists.specs.Lists.{Box, camera, office, put, World, Starts, beginning, Call, deal, load, mask}
 use Rattle.door_lists.specs.Lists.{take, finish, drop, join, step, after}
 use Rattle.door_lists.specs.States.{PastLength, Tidy, AlwaysTidy}
-use Rattle.door_lists.proofs.Accepted.{opened-fits, opened-long}
 
 -- ---- arrays
 

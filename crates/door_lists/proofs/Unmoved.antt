@@ -14,11 +14,12 @@ use Rattle.call_dealer.specs.Laws.{deal-tells}
 use Rattle.call_party.specs.declared.Party.{Party}
 use Rattle.call_party.specs.declared.PartyAnswer.{PartyAnswer}
 use Rattle.call_party.specs.Party as BoxCalls
+use Rattle.call_party.specs.Laws.{load-tells}
 use Rattle.call_lock.specs.declared.Lock.{Lock}
 use Rattle.call_lock.specs.Lock as LockCalls
 use Rattle.door_lists.specs.Lists.{Box, World, Call, deal, load, mask, take, finish, drop, join, Event, refused}
 use Rattle.door_lists.specs.Lists.{eventOf, onBox, step}
-use Rattle.door_lists.proofs.Accepted.{load-tells, mask-tells, take-tells, finish-tells, drop-tells, join-tells}
+use Rattle.door_lists.proofs.Accepted.{mask-tells, take-tells, finish-tells, drop-tells, join-tells}
 use Rattle.door_lists.proofs.Boxes.{put-own}
 use Rattle.door_lists.proofs.Written.{new}
 

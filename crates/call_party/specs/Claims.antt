@@ -1,0 +1,114 @@
+-- What a box may rely on when it loads ahead (02, §1): a set that was loaded ahead is, when the open one ends, just as
+-- if it had been loaded then; and a message for a set that waits is refused. Assumes nothing.
+use mathlib.Core.Path.{_≡_, refl, sym, ap, _∙_}
+use mathlib.Core.Bool.{Bool, true, false, not}
+use mathlib.Core.List.{List}
+use Prim.Native.Nat.{ℕ, suc, _-_, _<_, _≤_}
+use native.Mathlib.Omega.{arith}
+use borrow.Author.Tests.{leb-true, lt-ltb, ne-eqb, not-true, eqb-false}
+use lib.Dec.{eqb, leb}
+use Rattle.base_algebra.specs.Bit.{both}
+use Rattle.base_messages.specs.declared.Label.{Label}
+use Rattle.base_messages.specs.Messages.{outOfTurn, wrongLength, wrongMessage, wrongNumber, officeParty, unless, expected}
+use Rattle.base_messages.specs.Laws.{passed, taken}
+use Rattle.half_content.specs.declared.Set.{Set}
+use Rattle.half_content.specs.Content.{noSet}
+use Rattle.half_seal.specs.Half.{wholeBlocks, whyNot, whyNotOpened, setNumber, openedSet}
+use Rattle.call_party.specs.declared.Check.{Check}
+use Rattle.call_party.specs.declared.Party.{Party}
+use Rattle.call_party.specs.Party.{idlePhase, noCheck, idle, isOpen, waits, stateFits, waitingFits, sound, inTurn}
+use Rattle.call_party.specs.Party.{highWater, whyNotLoad, opened, loaded, load, nextCheck, closed, whyNotMessage}
+use Rattle.call_party.specs.Laws.{waterOf, load-tells, opened-long}
+
+-- ---- a set that was loaded ahead
+
+-- the same box with no set open and none waiting, which is what ending the open set would have left
+abbrev pub ended : Party → Party
+ended s = idle (s .who) (s .last)
+
+-- a half that is taken ahead would be taken there
+tests : (key name : List ℕ) (party last : ℕ) (h : List ℕ) → whyNot key name party last h ≡ 0
+    → (wholeBlocks h ≡ true) × (whyNotOpened key name party h ≡ 0)
+unfolding whyNot
+tests key name party last h e = let t = passed _ e in (t .0, passed _ (t .1) .1)
+
+less : (key name : List ℕ) (party low high : ℕ) (h : List ℕ) → low < setNumber h → whyNot key name party high h ≡ 0
+    → whyNot key name party low h ≡ 0
+unfolding whyNot unless
+less key name party low high h l e =
+    let (whole, opens) = tests key name party high h e in
+    rw (whole, lt-ltb low (setNumber h) l) opens
+
+party-fits : (s : Party) → sound s ≡ true → leb (s .who .party) officeParty ≡ true
+unfolding sound stateFits
+party-fits s e =
+    both (leb (s .who .party) officeParty) _
+    (both (stateFits (s .who .party) (s .check .phase) (s .check .set .terms)) _ e .0) .0
+
+pub ahead-would-be-taken : (s : Party) (h : List ℕ) → whyNotLoad s h ≡ 0 → whyNotLoad (ended s) h ≡ 0
+unfolding whyNotLoad sound stateFits waitingFits highWater idle noCheck noSet unless
+ahead-would-be-taken s h e =
+    let tells = load-tells s h e in
+    rw (party-fits s (tells .sound-is))
+    (less (s .who .key) (s .who .name) (s .who .party) (s .last) (waterOf s) h (tells .above) (tells .examined))
+
+next-is : (set : Set) → 1 ≤ set .terms .n → nextCheck set ≡ opened set
+unfolding nextCheck
+next-is set l = rw (ne-eqb (set .terms .n) 0 (λ e. omega (arith, l, e))) refl
+
+closed-loaded : (s : Party) (set : Set) → isOpen s ≡ true → 1 ≤ set .terms .n
+    → closed (loaded s set) ≡ loaded (ended s) set
+unfolding closed loaded idle noCheck
+closed-loaded s set o l =
+    rw o
+    (ap (λ (c : Check). record { who = s .who; last = set .number; check = c; waiting = noSet }) (next-is set l))
+
+-- "The waiting set becomes the open one": to load ahead and then to end the open set leaves the state that a load of
+-- the same half leaves at that box with no set open
+pub ahead-then-ended : (s : Party) (h : List ℕ) → isOpen s ≡ true → whyNotLoad s h ≡ 0
+    → closed (load s h .party) ≡ load (ended s) h .party
+unfolding load idle
+ahead-then-ended s h o e =
+    let set : Set = openedSet (s .who .key) h in
+    ap closed (sym (taken (loaded s set) s refl e))
+    ∙ closed-loaded s set o (opened-long s h e)
+    ∙ taken (loaded (ended s) set) (ended s) refl (ahead-would-be-taken s h e)
+
+-- ---- a message for the set that waits
+
+above-open : (s : Party) → waits s ≡ true → sound s ≡ true → s .check .set .number < s .waiting .number
+unfolding sound waitingFits
+above-open s w e =
+    let fits = both (stateFits (s .who .party) (s .check .phase) (s .check .set .terms)) _ e .1 in
+    let some = eqb-false (s .waiting .terms .n) 0 (not-true _ w) in
+    let later = both (not (eqb (s .check .phase) idlePhase)) _ (rw (ne-eqb (s .waiting .terms .n) 0 some) at fits) .1 in
+    leb-true _ _ (both (leb (suc (s .check .set .number)) (s .waiting .number)) _ later .0)
+
+module _ (phase kind : ℕ) (s : Party) (l : Label) (name : List ℕ) (lengths : Bool)
+    (w : waits s ≡ true) (n : l .number ≡ s .waiting .number)
+  where
+    -- the tests of 4 and 6, with `last` behind them
+    abbrev pub earlier : ℕ → ℕ
+    earlier last =
+        unless lengths wrongLength
+        (unless (expected kind (s .who .name) (officeParty - s .who .party) l name) wrongMessage last)
+
+    not-open : inTurn phase s ≡ true → unless (eqb (l .number) (s .check .set .number)) wrongNumber 0 ≡ wrongNumber
+    unfolding inTurn unless
+    not-open e =
+        let above = above-open s w (both (eqb (s .check .phase) phase) _ e .1) in
+        rw (ne-eqb (l .number) (s .check .set .number) (λ q. omega (arith, above, n, q))) refl
+
+    seven : (t : Bool) → inTurn phase s ≡ t
+        → unless t outOfTurn (earlier (unless (eqb (l .number) (s .check .set .number)) wrongNumber 0))
+        ≡ unless t outOfTurn (earlier wrongNumber)
+    unfolding unless
+    seven true e = ap earlier (not-open e)
+    seven false e = refl
+
+    -- "a message for the waiting set is still refused, by 7 if 01's earlier tests pass": at calls 3 and 4 its answer is
+    -- that of the earlier tests, and 7 behind them
+    pub waiting-message : whyNotMessage phase kind s l name lengths
+        ≡ unless (inTurn phase s) outOfTurn (earlier wrongNumber)
+    unfolding whyNotMessage
+    waiting-message = seven (inTurn phase s) refl
