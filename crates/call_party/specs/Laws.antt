@@ -39,6 +39,14 @@ water-open phase number last some = rw (ne-eqb phase 0 some) (go (leb last numbe
     go true e = omega arith
     go false e = omega (arith, leb-false last number e)
 
+pub water-below : (phase number last n : ℕ) → last < n → number < n → highWater phase number last < n
+unfolding highWater
+water-below phase number last n l m = go (not (eqb phase 0) && leb last number)
+  where
+    go : (b : Bool) → cond b number last < n
+    go true = m
+    go false = l
+
 abbrev pub waterOf : Party → ℕ
 waterOf s = highWater (s .check .phase) (s .check .set .number) (s .last)
 

@@ -23,11 +23,11 @@ use Rattle.door_lists.proofs.Stuck.{room, maskFrom, wordFrom, answerFro
 
 -- ---- a list that follows a list
 
-after-both : (w : World) (rs cs : List Call) → after w (rs ++ cs) ≡ after (after w cs) rs
+pub after-both : (w : World) (rs cs : List Call) → after w (rs ++ cs) ≡ after (after w cs) rs
 after-both w [] cs = refl
 after-both w (c ∷ rs) cs = ap (λ y. step y c .world) (after-both w rs cs)
 
-events-both : (w : World) (rs cs : List Call) → events w (rs ++ cs) ≡ events (after w cs) rs ++ events w cs
+pub events-both : (w : World) (rs cs : List Call) → events w (rs ++ cs) ≡ events (after w cs) rs ++ events w cs
 events-both w [] cs = refl
 events-both w (c ∷ rs) cs = ap₂ (λ y h. step y c .event ∷ h) (after-both w rs cs) (events-both w rs cs)
 
@@ -39,7 +39,7 @@ module _ (name : List ℕ) (d : Deal) (v : Box → List ℕ) where
   as-sent P kind b m a p =
       λ k n. (b, ap (λ l. l .sender) (a .0), subst (λ i. P b i (m .content)) (sym (ap (λ l. l .number) (a .0))) p)
 
-  admitted : (c : Call) (g : Progress) (h k : List Event) → ((e : Event) → In e h → In e k) → Ready name d v g h c
+  pub admitted : (c : Call) (g : Progress) (h k : List Event) → ((e : Event) → In e h → In e k) → Ready name d v g h c
       → Admits name k c
   admitted (deal e out0 out1) g h k f r = tt
   admitted (load b x) g h k f (m, y, i, q) =
@@ -50,7 +50,7 @@ module _ (name : List ℕ) (d : Deal) (v : Box → List ℕ) where
   admitted (join m n) g h k f (e, a, i, b, j) =
       (as-sent (SentAnswer k) 2 camera m a (f _ i), as-sent (SentAnswer k) 2 office n b (f _ j))
 
-  fitting : d .number < 2 ^ 64 → (c : Call) (g : Progress) (h : List Event) → Ready name d v g h c → Fits c
+  pub fitting : d .number < 2 ^ 64 → (c : Call) (g : Progress) (h : List Event) → Ready name d v g h c → Fits c
   fitting k (deal e out0 out1) g h (m, q, r0, r1) = subst (λ z. z .number < 2 ^ 64) (sym q) k
   fitting k (load b x) g h r = tt
   fitting k (mask b x out) g h r = tt
@@ -60,7 +60,7 @@ module _ (name : List ℕ) (d : Deal) (v : Box → List ℕ) where
 
 -- ---- a whole run, box by box
 
-third : {e f g : Event} {h : List Event} → In e (f ∷ g ∷ e ∷ h)
+pub third : {e f g : Event} {h : List Event} → In e (f ∷ g ∷ e ∷ h)
 third = there (there (here refl))
 
 module _ (s : Starts) (start-ok : Started s) (cs : List Call) (list-ok : Admissible s cs) (d : Deal) (v : Box → List ℕ)

@@ -13,6 +13,7 @@ pub mod Made
 pub mod NotEmpty
 pub mod Numbers
 pub mod Once
+pub mod Overlaps
 pub mod Parts
 pub mod Refusals
 pub mod Runs

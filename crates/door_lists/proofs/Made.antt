@@ -29,7 +29,7 @@ use Rattle.door_lists.specs.Lists.{word, answer, written, maskedBy}
 use Rattle.door_lists.specs.Demand.{verdict, Labelled, InRange}
 use Rattle.door_lists.proofs.Accepted.{Heard}
 use Rattle.door_lists.proofs.Goes.{OpenAt, Behind, deal-goes, load-goes, mask-goes, take-goes, finish-goes}
-use Rattle.door_lists.proofs.Goes.{join-goes}
+use Rattle.door_lists.proofs.Goes.{drop-goes, join-goes}
 use Rattle.door_lists.proofs.Dealt.{setOf, set-number, set-terms, set-n, set-proper, Sound, maskOf, ownOf}
 use Rattle.door_lists.proofs.Dealt.{mask-long, wordBy, answerBy, answers-join}
 use Rattle.door_lists.proofs.History.{door, halfOf}
@@ -61,6 +61,14 @@ module _ (S : Starts) (d : Deal) (v : Box → List ℕ) where
   slotAt b (suc zero) = masked (setOf d b) (fill (maskOf d b (v b))) (ownOf d b (v b))
   slotAt b (suc (suc k)) = worded (setOf d b) (fill (maskOf d b (v b))) (ownOf d b (v b)) (wordBy d v b)
 
+  -- the run's sets at a box after k of its calls: none before its load and after its last call
+  abbrev pub slotsAt : Box → ℕ → List Slot
+  slotsAt b zero = []
+  slotsAt b (suc zero) = slotAt b 0 ∷ []
+  slotsAt b (suc (suc zero)) = slotAt b 1 ∷ []
+  slotsAt b (suc (suc (suc zero))) = slotAt b 2 ∷ []
+  slotsAt b (suc (suc (suc (suc k)))) = []
+
   -- the box with it, where `ts` waits behind it
   abbrev pub shown : Box → ℕ → ℕ → List Slot → Party
   shown b k last ts = showing S b last (slotAt b k ∷ ts)
@@ -76,7 +84,7 @@ module _ (S : Starts) (d : Deal) (v : Box → List ℕ) where
 
     -- ---- each call, at the state that the run gives it
 
-    open-at : (b : Box) (t : Slot) (last : ℕ) (ts : List Slot) → Behind (d .number) (firstIn ts)
+    pub open-at : (b : Box) (t : Slot) (last : ℕ) (ts : List Slot) → Behind (d .number) (firstIn ts)
         → (k : ℕ) → 1 ≤ k → k ≤ 3 → phaseOf t ≡ k → setIn t ≡ setOf d b
         → OpenAt k (showing S b last (t ∷ ts))
     open-at b t last ts W k some most p s =
@@ -189,6 +197,18 @@ module _ (S : Starts) (d : Deal) (v : Box → List ℕ) where
               new _ _ _ k ∙ closes-to 2,
               ap₂ (λ n w. sent b n (answer w)) (set-number d b) (new _ _ _ k ∙ u),
             )
+
+        pub drop-made : (k : ℕ) → k ≤ 2
+            → Made (BoxCalls.dropSet (shown b k last ts)) (dropped b) (showing S b last ts) (dropped b)
+        unfolding BoxCalls.dropSet
+        drop-made k most =
+            let z = drop-goes _ _ (opened k most) in (z, new _ _ _ z ∙ closes-to k, refl)
+          where
+            opened : (j : ℕ) → j ≤ 2 → OpenAt (suc j) (shown b j last ts)
+            opened zero m = open-at b (slotAt b 0) last ts W 1 (omega arith) (omega arith) refl refl
+            opened (suc zero) m = open-at b (slotAt b 1) last ts W 2 (omega arith) (omega arith) refl refl
+            opened (suc (suc zero)) m = open-at b (slotAt b 2) last ts W 3 (omega arith) (omega arith) refl refl
+            opened (suc (suc (suc j))) m = absurd (omega (arith, m))
 
     -- the same of the dealer and of the lock
     pub deal-made : (s : Dealer) (last : ℕ) → s ≡ dealerWith S last → last < d .number

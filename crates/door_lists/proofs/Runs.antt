@@ -63,11 +63,11 @@ module _ (S : Starts) (d : Deal) (v : Box → List ℕ) where
     pub exact-at : (e : Event) → In e h → Exact e
 
   -- an idle box stands as 01's third refusal asks, and what a half's number has to be above is its last number
-  none-sound : (b : Box) (last : ℕ) → BoxCalls.sound (showing S b last []) ≡ true
+  pub none-sound : (b : Box) (last : ℕ) → BoxCalls.sound (showing S b last []) ≡ true
   unfolding idle
   none-sound b last = idle-sound (whoAt S b) last (party-fits b)
 
-  none-water : (b : Box) (last : ℕ) → last < d .number → waterOf (showing S b last []) < d .number
+  pub none-water : (b : Box) (last : ℕ) → last < d .number → waterOf (showing S b last []) < d .number
   unfolding BoxCalls.highWater BoxCalls.noCheck
   none-water b last l = l
 
@@ -83,7 +83,7 @@ module _ (S : Starts) (d : Deal) (v : Box → List ℕ) where
   more e h x f g (here p) = subst Exact (sym p) x
   more e h x f g (there i) = f g i
 
-  event-is : (why : ℕ) (e g : Event) → why ≡ 0 → e ≡ g → eventOf why e ≡ g
+  pub event-is : (why : ℕ) (e g : Event) → why ≡ 0 → e ≡ g → eventOf why e ≡ g
   event-is why e g z q = new why e (refused why) z ∙ q
 
   module _ (long : length (door S) ≡ 16) (R : InRange d v) where

@@ -43,19 +43,19 @@ module _ (S : Starts) (d : Deal) (v : Box → List ℕ) where
   -- ---- what a run's calls left is there
 
   -- what a box's own call left, where k were made before it
-  abbrev left : Box → ℕ → Event
+  abbrev pub left : Box → ℕ → Event
   left b zero = loaded b (d .number)
   left b (suc zero) = sent b (d .number) (vector (v b) (maskOf d b (v b)))
   left b (suc (suc zero)) = sent b (d .number) (word (wordBy d v b))
   left b (suc (suc (suc k))) = sent b (d .number) (answer (answerBy d v b))
 
   -- the deal is there where it was made, and what each of a box's calls left
-  record Has (g : Progress) (h : List Event) : Type 0 where
-    few : (b : Box) → g .made b ≤ 4
-    has-deal : g .begun ≡ true → In (dealt d (halfOf S d)) h
-    has-left : (b : Box) (k : ℕ) → k < g .made b → In (left b k) h
+  pub record Has (g : Progress) (h : List Event) : Type 0 where
+    pub few : (b : Box) → g .made b ≤ 4
+    pub has-deal : g .begun ≡ true → In (dealt d (halfOf S d)) h
+    pub has-left : (b : Box) (k : ℕ) → k < g .made b → In (left b k) h
 
-  has-later : (g : Progress) (h : List Event) (e : Event) → Has g h → Has g (e ∷ h)
+  pub has-later : (g : Progress) (h : List Event) (e : Event) → Has g h → Has g (e ∷ h)
   has-later g h e H =
       record { few = H .few; has-deal = λ t. there (H .has-deal t); has-left = λ b k l. there (H .has-left b k l) }
 
@@ -76,7 +76,7 @@ module _ (S : Starts) (d : Deal) (v : Box → List ℕ) where
             | no p ↦ there (H .has-left b j (lt-of-not-le p))
           ]
 
-  has-next : (g : Progress) (h : List Event) → Has g h → (c : Call) → Ready (door S) d v g h c → (e : Event)
+  pub has-next : (g : Progress) (h : List Event) → Has g h → (c : Call) → Ready (door S) d v g h c → (e : Event)
       → e ≡ said S d v c → Has (onward g c) (e ∷ h)
   has-next g h H (deal x out0 out1) r e q =
       record { few = H .few; has-deal = λ t. here (sym q); has-left = λ b k l. there (H .has-left b k l) }
@@ -89,7 +89,7 @@ module _ (S : Starts) (d : Deal) (v : Box → List ℕ) where
 
   -- ---- its next call
 
-  abbrev Next : Progress → List Event → Type 0
+  abbrev pub Next : Progress → List Event → Type 0
   Next g h = (c : Call) × Ready (door S) d v g h c
 
   module _ (g : Progress) (h : List Event) (H : Has g h) where
@@ -117,7 +117,7 @@ module _ (S : Starts) (d : Deal) (v : Box → List ℕ) where
           | no p ↦ inr (box-next t b (g .made b) refl (lt-of-not-le p) o)
         ]
 
-    goes-on : (x : Bool) → g .begun ≡ x → Whole g ⊎ Next g h
+    pub goes-on : (x : Bool) → g .begun ≡ x → Whole g ⊎ Next g h
     goes-on false e =
         let out : List ℕ = replicate (halfSize (d .terms .n)) 0 in
         inr (deal d out out, (e, refl, room (halfSize (d .terms .n)), room (halfSize (d .terms .n))))
