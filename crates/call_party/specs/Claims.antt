@@ -9,7 +9,8 @@ use borrow.Author.Tests.{leb-true, lt-ltb, ne-eqb, not-true, eqb-false}
 use lib.Dec.{eqb, leb}
 use Rattle.base_algebra.specs.Bit.{both}
 use Rattle.base_messages.specs.declared.Label.{Label}
-use Rattle.base_messages.specs.Messages.{outOfTurn, wrongLength, wrongMessage, wrongNumber, officeParty, unless, expected}
+use Rattle.base_messages.specs.Messages.{outOfTurn, wrongLength, wrongMessage, wrongNumber, officeParty, unless}
+use Rattle.base_messages.specs.Messages.{expected}
 use Rattle.base_messages.specs.Laws.{passed, taken}
 use Rattle.half_content.specs.declared.Set.{Set}
 use Rattle.half_content.specs.Content.{noSet}

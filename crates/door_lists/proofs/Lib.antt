@@ -14,6 +14,8 @@ pub mod NotEmpty
 pub mod Numbers
 pub mod Once
 pub mod Overlaps
+pub mod OverlapsEnd
+pub mod OverlapsStuck
 pub mod Parts
 pub mod Refusals
 pub mod Runs
