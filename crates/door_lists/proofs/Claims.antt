@@ -23,7 +23,8 @@ use Rattle.door_lists.proofs.Ends.{ended}
 use Rattle.door_lists.proofs.Drops.{dropped-then}
 use Rattle.door_lists.proofs.NotEmpty.{examples, some-starts}
 
-pub always : (s : Starts) → Started s → (cs : List Call) → Admissible s cs → Inv s (history s cs) (after (beginning s) cs)
+pub always : (s : Starts) → Started s → (cs : List Call) → Admissible s cs
+    → Inv s (history s cs) (after (beginning s) cs)
 always s f [] a = starts s f
 always s f (c ∷ cs) a =
     keeps s (history s cs) (after (beginning s) cs) (always s f cs (a .0)) (door-long s f) c (a .1) (a .2)

@@ -19,6 +19,7 @@ use Rattle.door_lists.specs.Lists.{join, Body, vector, word, answer, Eve
 use Rattle.door_lists.specs.Lists.{refused, put, onBox, maskedBy, step, after, events, In, here, there}
 use Rattle.call_dealer.specs.Dealer.{halfSize}
 use Rattle.door_lists.specs.Demand.{lastDealt, lastJoined, madeOne, onward, InRange, Free}
+use Rattle.door_lists.specs.Overlap.{madeTo}
 use Rattle.door_lists.specs.Overlap.{Both, nothingYet, endedAt, UnderWay, FirstInOrder, SecondInOrder, FirstReady}
 use Rattle.door_lists.specs.Overlap.{SecondReady, Overlap, begin, of-first, of-second, first-dropped, still}
 use Rattle.door_lists.specs.Overlap.{turned-down}
@@ -182,7 +183,7 @@ module _ (S : Starts) (d e : Deal) (v u : Box → List ℕ) (above : d .number <
         → w .box b ≡ z → Made S d v long R (call z) (leaves z) s f → Exact f
         → Holds b s k (g .second .made b)
         → Called b call leaves (record {
-          first = record { begun = g .first .begun; made = put (g .first .made) b k; ended = g .first .ended };
+          first = madeTo (g .first) b k;
           second = g .second;
         }) f
     first-called b call leaves z s f k st made x hold =
@@ -207,7 +208,7 @@ module _ (S : Starts) (d e : Deal) (v u : Box → List ℕ) (above : d .number <
         → Holds b s (g .first .made b) l
         → Called b call leaves (record {
           first = g .first;
-          second = record { begun = g .second .begun; made = put (g .second .made) b l; ended = g .second .ended };
+          second = madeTo (g .second) b l;
         }) f
     second-called b call leaves z s f l st made x hold =
         let (r, p, ex) = called b call leaves z s f st made x in (
@@ -239,7 +240,8 @@ module _ (S : Starts) (d e : Deal) (v u : Box → List ℕ) (above : d .number <
     first-deal : (out0 out1 : List ℕ) → g .first .begun ≡ false → halfSize (d .terms .n) ≤ length out0
         → halfSize (d .terms .n) ≤ length out1 → FirstGoes (deal d out0 out1)
     first-deal out0 out1 m r0 r1 =
-        let k = deal-made S d v long R (w .dealer) (A .dealer-last) (A .dealer-is) (A .dealer-first m) out0 out1 r0 r1 in
+        let k = deal-made S d v long R (w .dealer) (A .dealer-last) (A .dealer-is) (A .dealer-first m)
+        out0 out1 r0 r1 in
         let r = event-is S d v _ _ _ (k .0) (k .2) in (
           r,
           record {
@@ -272,7 +274,7 @@ module _ (S : Starts) (d e : Deal) (v u : Box → List ℕ) (above : d .number <
           → Made S d v long R (call z) (leaves z) s f → Exact f
           → s ≡ showing S b (H .last) (slotsAt S d v b j ++ behind) → k < j
           → Called b call leaves (record {
-            first = record { begun = g .first .begun; made = put (g .first .made) b j; ended = g .first .ended };
+            first = madeTo (g .first) b j;
             second = g .second;
           }) f
       first-next call leaves z s f j some at made x is later =
@@ -287,13 +289,13 @@ module _ (S : Starts) (d e : Deal) (v u : Box → List ℕ) (above : d .number <
 
     one-on : (b : Box) (k : ℕ) (call : Party → PartyAnswer) (leaves : Party → Event) (f : Event) → g .first .made b ≡ k
         → Called b call leaves (record {
-          first = record { begun = g .first .begun; made = put (g .first .made) b (suc k); ended = g .first .ended };
+          first = madeTo (g .first) b (suc k);
           second = g .second;
         }) f
         → Called b call leaves (record { first = madeOne (g .first) b; second = g .second }) f
     one-on b k call leaves f m r =
         subst (λ i. Called b call leaves (record {
-          first = record { begun = g .first .begun; made = put (g .first .made) b (suc i); ended = g .first .ended };
+          first = madeTo (g .first) b (suc i);
           second = g .second;
         }) f) (sym m) r
 
@@ -323,7 +325,8 @@ module _ (S : Starts) (d e : Deal) (v u : Box → List ℕ) (above : d .number <
         let ts = behind b 1 m (omega arith) in
         let made = mask-made S d v long R b last ts (waiting b 1 m (omega arith)) x out q r in
         one-on b 1 call leaves _ m (first-next b 1 m (omega arith) call leaves (shown S d v b 0 last ts)
-        (shown S d v b 1 last ts) _ 2 (omega arith) refl made (exact-first b (vector (v b) (maskOf d b (v b))) refl) refl (omega arith))
+        (shown S d v b 1 last ts) _ 2 (omega arith) refl made
+        (exact-first b (vector (v b) (maskOf d b (v b))) refl) refl (omega arith))
     goes-first (take b m) ((k, a, i), o) =
         let call : Party → PartyAnswer = λ y. BoxCalls.takeVector y (m .label) (m .name) (m .content) in
         let leaves : Party → Event = λ y. sent b (y .check .set .number) (word (call y .word)) in
@@ -331,7 +334,8 @@ module _ (S : Starts) (d e : Deal) (v u : Box → List ℕ) (above : d .number <
         let ts = behind b 2 k (omega arith) in
         let made = take-made S d v long R b last ts (waiting b 2 k (omega arith)) m a (A .exact-at _ (i .1) .0 refl) in
         one-on b 2 call leaves _ k (first-next b 2 k (omega arith) call leaves (shown S d v b 1 last ts)
-        (shown S d v b 2 last ts) _ 3 (omega arith) refl made (exact-first b (word (wordBy d v b)) refl) refl (omega arith))
+        (shown S d v b 2 last ts) _ 3 (omega arith) refl made
+        (exact-first b (word (wordBy d v b)) refl) refl (omega arith))
     goes-first (finish b m) ((k, a, i), o) =
         let call : Party → PartyAnswer = λ y. BoxCalls.finish y (m .label) (m .name) (m .content) in
         let leaves : Party → Event = λ y. sent b (y .check .set .number) (answer (call y .word)) in
@@ -342,7 +346,8 @@ module _ (S : Starts) (d e : Deal) (v u : Box → List ℕ) (above : d .number <
         let made = finish-made S d v long R b last ts (waiting b 3 k (omega arith)) (slots-few S e u b l)
         (slots-fresh S e u b l fresh-l) (slots-long S e u long Q b l fresh-l) m a (A .exact-at _ i .0 refl) in
         one-on b 3 call leaves _ k (first-next b 3 k (omega arith) call leaves (shown S d v b 2 last ts)
-        (showing S b last ts) _ 4 (omega arith) refl made (exact-first b (answer (answerBy d v b)) refl) refl (omega arith))
+        (showing S b last ts) _ 4 (omega arith) refl made
+        (exact-first b (answer (answerBy d v b)) refl) refl (omega arith))
     goes-first (join m n) ((k, a, i, b, j), o) =
         let y = join-made S d v long R (w .lock) (A .lock-last) (A .lock-is)
         (A .lock-first k o) m n a b (A .exact-at _ i .0 refl) (A .exact-at _ j .0 refl) in
@@ -402,7 +407,8 @@ module _ (S : Starts) (d e : Deal) (v u : Box → List ℕ) (above : d .number <
     second-deal : (out0 out1 : List ℕ) → g .second .begun ≡ false → g .first .begun ≡ true
         → halfSize (e .terms .n) ≤ length out0 → halfSize (e .terms .n) ≤ length out1 → SecondGoes (deal e out0 out1)
     second-deal out0 out1 m o r0 r1 =
-        let k = deal-made S e u long Q (w .dealer) (A .dealer-last) (A .dealer-is) (A .dealer-second m) out0 out1 r0 r1 in
+        let k = deal-made S e u long Q (w .dealer) (A .dealer-last) (A .dealer-is) (A .dealer-second m)
+        out0 out1 r0 r1 in
         let r = event-is S e u _ _ _ (k .0) (k .2) in (
           r,
           record {
@@ -423,13 +429,13 @@ module _ (S : Starts) (d e : Deal) (v u : Box → List ℕ) (above : d .number <
         → g .second .made b ≡ l
         → Called b call leaves (record {
           first = g .first;
-          second = record { begun = g .second .begun; made = put (g .second .made) b (suc l); ended = g .second .ended };
+          second = madeTo (g .second) b (suc l);
         }) f
         → Called b call leaves (record { first = g .first; second = madeOne (g .second) b }) f
     one-on-second b l call leaves f m r =
         subst (λ i. Called b call leaves (record {
           first = g .first;
-          second = record { begun = g .second .begun; made = put (g .second .made) b (suc i); ended = g .second .ended };
+          second = madeTo (g .second) b (suc i);
         }) f) (sym m) r
 
     -- its load, behind what the first has there
@@ -462,7 +468,8 @@ module _ (S : Starts) (d e : Deal) (v u : Box → List ℕ) (above : d .number <
       alone-at : (j : ℕ) → showing S b (K .last) (slotsAt S d v b (g .first .made b) ++ slotsAt S e u b j)
           ≡ showing S b (K .last) (slotsAt S e u b j)
       alone-at j =
-          ap (λ (ts : List Slot). showing S b (K .last) (ts ++ slotsAt S e u b j)) (done S d v b (g .first .made b) over)
+          ap (λ (ts : List Slot). showing S b (K .last) (ts ++ slotsAt S e u b j))
+          (done S d v b (g .first .made b) over)
 
       second-next : (call : Party → PartyAnswer) (leaves : Party → Event) (z s : Party) (f : Event)
           → showing S b (K .last) (slotsAt S e u b l) ≡ z

@@ -21,8 +21,11 @@ pub record Both : Type 0 where
 abbrev pub nothingYet : Both
 nothingYet = record { first = nothingMade; second = nothingMade }
 
+abbrev pub madeTo : Progress → Box → ℕ → Progress
+madeTo g b k = record { begun = g .begun; made = put (g .made) b k; ended = g .ended }
+
 abbrev pub endedAt : Progress → Box → Progress
-endedAt g b = record { begun = g .begun; made = put (g .made) b 4; ended = g .ended }
+endedAt g b = madeTo g b 4
 
 -- its set is open at the box
 abbrev pub UnderWay : Progress → Box → Type 0
@@ -39,8 +42,8 @@ FirstInOrder g (finish b m) = Unit {0}
 FirstInOrder g (drop b) = Unit {0}
 FirstInOrder g (join m n) = g .second .ended ≡ false
 
--- "A box may load one further set while another is still open. The waiting set becomes the open one when the open one is
--- answered or dropped." Where h are the events so far.
+-- "A box may load one further set while another is still open. The waiting set becomes the open one when the open one
+-- is answered or dropped." Where h are the events so far.
 abbrev pub SecondInOrder : Both → List Event → Call → Type 0
 SecondInOrder g h (deal x out0 out1) = g .first .begun ≡ true
 SecondInOrder g h (load b x) = 1 ≤ g .first .made b
@@ -89,7 +92,8 @@ unfoldable pub BothAnswered : Type 0
 BothAnswered = (s : Starts) (cs : List Call) (d e : Deal) (v u : Box → List ℕ) → Two s cs d e v u
     → (let w : World = after (beginning s) cs in
     (rs : List Call) (g : Both) → Overlap (padded (s .name)) d e v u w rs g
-    → ((c : Call) → FirstReady (padded (s .name)) d e v u g (events w rs) c → Answered d v c (step (after w rs) c .event))
+    → ((c : Call) → FirstReady (padded (s .name)) d e v u g (events w rs) c
+    → Answered d v c (step (after w rs) c .event))
     × ((c : Call) → SecondReady (padded (s .name)) d e v u g (events w rs) c
     → Answered e u c (step (after w rs) c .event))
     × ((b : Box) → UnderWay (g .first) b → step (after w rs) (drop b) .event ≡ dropped b))
