@@ -457,9 +457,10 @@ impl Party {
         let seed = self.check.set.seed;
         let z = base_words::add(self.check.word, word);
         let answer = share_answers::answer(ORDINARY_WIDTH, party, key, seed, z);
+        let next = closed(self.who, self.last, self.waiting);
         PartyAnswer {
             why,
-            party: closed(self.who, self.last, self.waiting),
+            party: next,
             word: answer,
         }
     }

@@ -7,9 +7,9 @@ use Prim.Native.Nat.{ℕ, zero, suc, _<_, _≤_}
 use native.Mathlib.Omega.{arith}
 use lib.ListN.{length}
 use Rattle.half_deal.specs.Dealing.{Deal}
-use Rattle.door_lists.specs.Lists.{Box, camera, office, other, World, Starts, Call, deal, load, mask, take, finish}
-use Rattle.door_lists.specs.Lists.{drop, join, Event, dealt, loaded, sent, dropped, joined, refused, events, In}
-use Rattle.door_lists.specs.Lists.{here, there, step, after}
+use Rattle.door_lists.specs.Lists.{Box, camera, office, other, World, Starts, Call, deal, load, mask, take}
+use Rattle.door_lists.specs.Lists.{finish, drop, join, Event, dealt, loaded, sent, dropped, joined, refused}
+use Rattle.door_lists.specs.Lists.{events, In, here, there, step, after}
 use Rattle.door_lists.specs.Demand.{Progress, nothingMade, madeOne, onward, Ready, Whole, InRange}
 use Rattle.door_lists.specs.Overlap.{Both, nothingYet, endedAt, UnderWay, FirstInOrder, SecondInOrder, FirstReady}
 use Rattle.door_lists.specs.Overlap.{SecondReady, Overlap, begin, of-first, of-second, first-dropped, still}
@@ -376,7 +376,8 @@ module _ (S : Starts) (d e : Deal) (v u : Box → List ℕ) (above : d .number <
         track-second g (events w cs) (tracked r) c q _ (second-goes S d e v u above long R Q w A cs g r c q)
     tracked (first-dropped {cs} {g} r b k) =
         track-dropped g (events w cs) (tracked r) b k _
-        (drop-goes-on S d e v u above long R Q w A (after w cs) g (events w cs) (running S d e v u above long R Q w A r) b k .0)
+        (drop-goes-on S d e v u above long R Q w A (after w cs) g (events w cs)
+        (running S d e v u above long R Q w A r) b k .0)
     tracked (still {cs} {g} r c q) = refused-track g (events w cs) (tracked r) _ (unmoved (after w cs) c q)
     tracked (turned-down {cs} {g} r c why q) = refused-track g (events w cs) (tracked r) _ (why, q)
 
