@@ -81,10 +81,12 @@ void carry_late(void)
     late_to = PARTS;
 }
 
-void carry_late_announcement(void)
+bool carry_late_announcement(void)
 {
-    if (late.kind == HOST_AHEAD)
+    bool is_one = late_to != PARTS && late.kind == HOST_AHEAD;
+    if (is_one)
         carry_late();
+    return is_one;
 }
 
 static void follow(const struct message *m)

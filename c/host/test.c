@@ -23,10 +23,10 @@
 
 #define KILLS 350              /* at the least, in the middle of a check */
 #define KILLS_AT_STAGE 20      /* at the least, at each stage of a check */
-#define KILLS_AHEAD 40         /* at the least, of a box with a set waiting, and of a dealer with
+#define KILLS_AHEAD 30         /* at the least, of a box with a set waiting, and of a dealer with
                                   one dealt ahead */
 #define KILLS_MOST 1500        /* if these do not bring it about, the test fails */
-#define TURNS 41               /* checks of which the median time is taken */
+#define TURNS 21               /* checks of which the median time is taken */
 
 _Noreturn void fail_at(const char *file, int line, const char *format, ...)
 {
@@ -165,7 +165,7 @@ static struct plan draw_plan(void)
 {
     struct plan p = {.due = true, .at_ns = INT64_MAX, .at_message = UINT32_MAX};
     p.victim = chance(8) == 0 ? PARTS : (enum part)chance(4);
-    if (chance(2) == 0)
+    if (check.pace == STUCK || chance(2) == 0)
         p.at_ns = now_ns() + (int64_t)chance((uint64_t)(usual_ns + usual_ns / 8));
     else
         p.at_message = 1 + (unsigned)chance(9);
@@ -319,8 +319,8 @@ static void disturbed_check(void)
     begin_when_due();
     settle();
     disorder = false;
-    carry_late_announcement();
-    settle();
+    if (carry_late_announcement())
+        settle();
 }
 
 static void expect_answer(void)

@@ -87,7 +87,7 @@ extern struct message answers[2]; /* the last of each box, to be sent to the loc
 int64_t now_ns(void);
 void open_network(void);
 void carry_late(void);              /* hands on the message that was delayed, if there is one */
-void carry_late_announcement(void); /* if it is one of the dealer's */
+bool carry_late_announcement(void); /* if it is the dealer's: whether it was */
 
 /* Handles one message, if one comes before that time. */
 bool pump_until(int64_t time);
