@@ -148,7 +148,7 @@ static void load_announced(struct box *box)
         && load(box, number, half, size, &why);
     explicit_bzero(half, sizeof half);
     say("set %" PRIu64 ": %s", number,
-        !loaded ? "could not be loaded ahead; the check that comes to it tries again"
+        !loaded ? "could not be loaded ahead; its check tries again, or takes another set"
             : is_waiting(box) ? "loaded ahead; it waits for the open set to end"
                               : "loaded ahead; it is open");
 }
