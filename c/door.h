@@ -4,7 +4,7 @@
  * x86-64-v3 and x86-64-v4, and takes the best that the machine has when the program is loaded; the
  * environment variable DOOR_LEVEL, set to one of these names, holds it to a lower one. It needs
  * memcpy, memset and getenv and nothing else; it allocates nothing and keeps nothing between calls,
- * so calls on different states may run at the same time. A call was seen to take up to 60 KB of
+ * so calls on different states may run at the same time. A call was seen to take up to 70 KB of
  * stack, the states by value with it: have DOOR_STACK bytes left.
  *
  * States. A dealer, a box and a lock are plain values. A call takes the state by value and its answer
@@ -15,9 +15,16 @@
  *
  * Hand in each state once. A box of which an older copy is handed in again would put a second
  * vector under the same mask, and would take a spent set number. A host that is switched off must
- * keep at least `last`, to hand it in as the floor of the next start. States hold keys and masks:
- * they are as secret as these. Compare states field by field, since padding between fields may
- * have any bytes.
+ * keep at least `last`, to hand it in as the floor of the next start. Keep it before anything of
+ * that set leaves the part: of a set that was loaded ahead too, since its number is spent at its
+ * load. States hold keys and masks: they are as secret as these. Compare states field by field,
+ * since padding between fields may have any bytes.
+ *
+ * Load ahead. A box may load one further set while another is open, so that the next check need
+ * not wait for its half. That set waits: it can be neither masked, nor answered, nor dropped. When
+ * door_finish or door_drop ends the open set, the waiting one becomes the open one, as if it had
+ * just been loaded. Messages go out under the open set's number, check.set.number, and are compared
+ * with it. While a set waits, `last` is the waiting set's number: do not send under `last`.
  *
  * Refusals. `why` is 0 for an accepted call, else the number of the first test that failed, lowest
  * first (enum door_refusal). A refused call changes nothing: the answer holds the state that was
@@ -56,7 +63,7 @@ extern "C" {
 #define DOOR_LENGTH_MOST 512 /* elements of a vector: L is from 1 to this */
 #define DOOR_BLOCK 512       /* bytes of a block of a half */
 #define DOOR_HALF_MOST 8192  /* bytes of a half of 16 blocks: room for every L */
-#define DOOR_STACK 65536     /* bytes of stack that suffice for a call */
+#define DOOR_STACK 98304     /* bytes of stack that suffice for a call */
 
 /* Bytes of a half of vectors of length n, from 1 to DOOR_LENGTH_MOST. */
 #define DOOR_HALF(n) (DOOR_BLOCK * ((1248 + 12 * (size_t)(n) + 483) / 484))
@@ -68,8 +75,10 @@ enum door_refusal {
     DOOR_BAD_NAME = 1,
     /* A box is started with a party that is not 0 or 1, or a deal's code is not 0 to 2. */
     DOOR_BAD_PARTY_OR_CODE = 2,
-    /* A box call is out of its turn, or the state handed in has a who.party or a check.phase, or at
-       its phase check.set.terms, that no call leaves. Nothing else of a state is tested. */
+    /* A box call is out of its turn (a load with a set waiting is, whatever is handed in), or the
+       state handed in is none that a call leaves: in who.party, in check.phase, at its phase in
+       check.set.terms, or in the waiting set, that is one with none open, with a number not above
+       the open one, or with waiting.terms that no load leaves. Nothing else of it is tested. */
     DOOR_OUT_OF_TURN = 3,
     /* Key or seed is not 32 bytes, a message's name not 16, L not 1 to 512, a vector not the set's
        L, or a half not 3 to 16 whole blocks. */
@@ -78,8 +87,9 @@ enum door_refusal {
     DOOR_SHORT_BUFFER = 5,
     /* A message of another kind or door, or of another sender than the one expected. */
     DOOR_WRONG_MESSAGE = 6,
-    /* A set number is not the open one (box messages), not above the last one (deal, load, join),
-       or differs between two joined answers. */
+    /* A set number is not the open one (box messages; so one for the waiting set is refused), not
+       above the last one (deal, load, join) or the open one (load), or differs between two joined
+       answers. */
     DOOR_WRONG_NUMBER = 7,
     /* An element or a threshold is outside its measure's range. */
     DOOR_OUT_OF_RANGE = 8,
@@ -101,10 +111,11 @@ enum door_code {
     DOOR_HAMMING = 2 /* Hamming: 0 or 1, T from 0 to 513 */
 };
 
-/* How far a box's check is. In every phase but the first, door_drop is in turn as well. */
+/* How far a box's check is. In every phase but the first, door_drop is in turn as well, and in
+   every phase door_load is, as long as no set waits. */
 enum door_phase {
-    DOOR_IDLE = 0,   /* no set is open; door_load is in turn */
-    DOOR_LOADED = 1, /* after door_load; door_mask is in turn */
+    DOOR_IDLE = 0,   /* no set is open, and none waits; door_load alone is in turn */
+    DOOR_LOADED = 1, /* after door_load, or when a waiting set was opened; door_mask is in turn */
     DOOR_MASKED = 2, /* after door_mask; door_take is in turn */
     DOOR_TAKEN = 3   /* after door_take; door_finish is in turn */
 };
@@ -143,7 +154,7 @@ struct door_key {
     uint32_t last;
 };
 
-/* An opened set; all zero with none. Places of the arrays past terms.n are zero. */
+/* An opened or a waiting set; all zero with none. Places of the arrays past terms.n are zero. */
 struct door_set {
     uint64_t number;
     struct door_terms terms;
@@ -180,8 +191,9 @@ struct door_check {
 /* A box. */
 struct door_party {
     struct door_identity who;
-    uint64_t last; /* the last set number, first the floor */
+    uint64_t last; /* the last set number, first the floor; while a set waits it is that one's */
     struct door_check check;
+    struct door_set waiting; /* one waits if waiting.terms.n is not 0; with none it is all zero */
 };
 
 struct door_party_answer {
@@ -233,8 +245,11 @@ struct door_party_answer door_start_party(
     uint64_t floor);
 
 /*
- * Call 1: opens the box's half of a set, whose number is then spent. `half` is just the half:
- * whole blocks, none more. Refusals: 3, 4, 7, 10, 11.
+ * Call 1: loads the box's half of a set, whose number is then spent and is `last`. `half` is just
+ * the half: whole blocks, none more. With no set open this one is opened. With one open, in any
+ * phase, it waits for that one to end, and nothing of the open check changes: that is loading
+ * ahead, for a next check that begins at once. One set can wait, and a further load is refused
+ * by 3. The half's number must be above `last` and above the open set's. Refusals: 3, 4, 7, 10, 11.
  */
 struct door_party_answer door_load(
     struct door_party party,
@@ -252,7 +267,9 @@ struct door_party_answer door_mask(
 /*
  * Call 3: takes the other box's masked vector. The word in the answer is sent to the other box as
  * DOOR_WORD. The name is the padded one, here and below; kind, sender and number are those that
- * came with the message. Refusals: 3, 4, 6, 7.
+ * came with the message. The number must be the open set's. A message for the waiting set is
+ * refused (by 7, or by 4 where the sets' L differ): keep it until that set has been masked.
+ * Refusals: 3, 4, 6, 7.
  */
 struct door_party_answer door_take(
     struct door_party party,
@@ -264,7 +281,9 @@ struct door_party_answer door_take(
 
 /*
  * Call 4: takes the other box's word, and closes the set. The word in the answer is sent to the
- * lock as DOOR_ANSWER. Refusals: 3, 4, 6, 7.
+ * lock as DOOR_ANSWER, under the number of the set that it closes: note check.set.number before the
+ * call. If a set waits, it is the open one in the answer's state, at DOOR_LOADED; else the box is
+ * idle. `last` stays. Refusals: 3, 4, 6, 7.
  */
 struct door_party_answer door_finish(
     struct door_party party,
@@ -274,7 +293,11 @@ struct door_party_answer door_finish(
     uint64_t number,
     uint32_t word);
 
-/* Ends the open set; its number stays spent. Refusal: 3. */
+/*
+ * Ends the open set, and that alone; its number stays spent. If a set waits, it becomes the open
+ * one, at DOOR_LOADED; else the box is idle. So two drops clear a box in which a set waits, and the
+ * waiting set cannot be dropped before the open one. Refusal: 3.
+ */
 struct door_party_answer door_drop(struct door_party party);
 
 /* The lock. Refusal: 1. */
@@ -378,12 +401,13 @@ DOOR_AT(door_check, set, 8);
 DOOR_AT(door_check, masked, 7504);
 DOOR_AT(door_check, own, 9552);
 DOOR_AT(door_check, word, 9556);
-DOOR_SIZE(door_party, 9624);
+DOOR_SIZE(door_party, 17120);
 DOOR_AT(door_party, last, 56);
 DOOR_AT(door_party, check, 64);
-DOOR_SIZE(door_party_answer, 9640);
+DOOR_AT(door_party, waiting, 9624);
+DOOR_SIZE(door_party_answer, 17136);
 DOOR_AT(door_party_answer, party, 8);
-DOOR_AT(door_party_answer, word, 9632);
+DOOR_AT(door_party_answer, word, 17128);
 static_assert(sizeof(size_t) == 8, "size_t is the crates' usize");
 #undef DOOR_AT
 #undef DOOR_SIZE

@@ -90,8 +90,10 @@ static bool same_check(const struct door_check *a, const struct door_check *b)
 static bool same_party(const struct door_party *a, const struct door_party *b)
 {
     return same_identity(&a->who, &b->who) && a->last == b->last
-        && same_check(&a->check, &b->check);
+        && same_check(&a->check, &b->check) && same_set(&a->waiting, &b->waiting);
 }
+
+static const struct door_set NO_SET;
 
 /* A door: name and keys, what its parts keep, and what its host has. */
 
@@ -240,6 +242,7 @@ static void loads(struct door *d, uint64_t number, const struct check *k, const 
         EXPECT(all_zero(new->set.mask + n, rest));
         EXPECT(all_zero(new->set.x + n, rest) && all_zero(new->set.y + n, rest));
         EXPECT(all_zero(new->masked, sizeof new->masked) && new->own == 0 && new->word == 0);
+        EXPECT(same_set(&a.party.waiting, &old.waiting));
         d->box[party] = a.party;
     }
 }
@@ -499,10 +502,9 @@ static void starts(void)
     EXPECT(memcmp(dealer.key0, keys[0], DOOR_KEY) == 0);
     EXPECT(memcmp(dealer.key1, keys[1], DOOR_KEY) == 0);
     struct door_party box = idle(1, 6);
-    const struct door_set *set = &box.check.set;
     EXPECT(memcmp(box.who.name, PADDED, DOOR_NAME) == 0 && box.who.party == 1 && box.last == 6);
     EXPECT(memcmp(box.who.key, keys[1], DOOR_KEY) == 0 && box.check.phase == DOOR_IDLE);
-    EXPECT(set->number == 0 && set->terms.code == 0 && set->terms.n == 0);
+    EXPECT(same_set(&box.check.set, &NO_SET) && same_set(&box.waiting, &NO_SET));
 }
 
 /* What is handed to a deal. */
@@ -683,12 +685,15 @@ static void set_stage(uint32_t code, size_t n)
     stage.word = m;
 }
 
-/* Every call with good input at a state: those in turn are accepted, the others refused. */
+/* Every call with good input at a state: those in turn are accepted, the others refused. A load is
+   in turn with a set open too, and then refused since that set is this half's. */
 static void turns(const struct door_party *box, bool fits)
 {
     uint32_t why[DOOR_TAKEN + 1];
     for (uint32_t phase = DOOR_IDLE; phase <= DOOR_TAKEN; phase++)
         why[phase] = fits && box->check.phase == phase ? DOOR_ACCEPTED : DOOR_OUT_OF_TURN;
+    if (fits && box->check.phase != DOOR_IDLE)
+        why[DOOR_IDLE] = DOOR_WRONG_NUMBER;
     load_refused(box, stage.halves.half[1], stage.size, why[DOOR_IDLE]);
     mask_refused(box, stage.v, stage.n, stage.n, why[DOOR_LOADED]);
     take_refused(box, stage.vector, stage.v, why[DOOR_MASKED]);
@@ -721,19 +726,21 @@ static void states(void)
     EXPECT(same_party(&a.party, &closed));
 }
 
-static void load_in_turn(void)
+/* With no set open, and with one in each phase. */
+static void load_in_turn(uint32_t phase)
 {
     static struct halves other; /* another door's, under the same keys */
     struct check k = drawn_check(DOOR_EUCLID, stage.n);
     struct door_dealer_answer dealt = deal(dealer_of(OTHER, 4, 41), 42, &k, &other);
     EXPECT(dealt.why == DOOR_ACCEPTED);
     uint8_t *half = other.half[1];
-    struct door_party box = stage.at[DOOR_IDLE];
+    struct door_party box = stage.at[phase];
+    uint32_t code = box.check.set.terms.code;
     box.last = 42;
-    box.check.set.terms.code = 1;
+    box.check.set.terms.code = phase == DOOR_IDLE ? 1 : 3;
     half[stage.size - 1] ^= 128;
     load_refused(&box, half, stage.size - 1, DOOR_OUT_OF_TURN);
-    box.check.set.terms.code = 0;
+    box.check.set.terms.code = code;
     load_refused(&box, half, stage.size - 1, DOOR_WRONG_LENGTH);
     load_refused(&box, half, stage.size, DOOR_WRONG_NUMBER);
     box.last = 41;
@@ -741,6 +748,7 @@ static void load_in_turn(void)
     half[stage.size - 1] ^= 128;
     load_refused(&box, half, stage.size, DOOR_BAD_CONTENT);
     box.last = 40;
+    box.check.set.number = 40;
     load_refused(&box, stage.halves.half[1], stage.size, DOOR_ACCEPTED);
 }
 
@@ -976,6 +984,462 @@ static void empty_slices(uint8_t *none, uint32_t *no_words)
     empty_at_lock(none);
 }
 
+/* Load ahead. Every buffer that is lent has drawn bytes on both sides, which must stay. */
+
+#define FENCE 64 /* bytes on each side */
+#define FENCED_MOST DOOR_HALF_MOST
+#define AHEAD 50   /* the number of the set that waits while set 41 is open */
+#define FURTHER 51 /* of one that cannot wait as well */
+
+struct fenced {
+    _Alignas(8) uint8_t at[FENCE + FENCED_MOST + FENCE];
+    uint8_t expected[FENCE + FENCED_MOST + FENCE];
+};
+
+static void *fence(struct fenced *f, const void *bytes, size_t size)
+{
+    draw_bytes(f->at, sizeof f->at);
+    memcpy(f->at + FENCE, bytes, size);
+    memcpy(f->expected, f->at, sizeof f->at);
+    return f->at + FENCE;
+}
+
+static void unhurt(const struct fenced *f)
+{
+    EXPECT(memcmp(f->at, f->expected, sizeof f->at) == 0);
+}
+
+static struct door_party_answer load_fenced(
+    const struct door_party *box, const uint8_t *half, size_t size)
+{
+    static struct fenced f;
+    const uint8_t *lent = fence(&f, half, size);
+    struct door_party_answer a = door_load(*box, lent, size);
+    unhurt(&f);
+    return a;
+}
+
+static struct door_party_answer mask_fenced(
+    const struct door_party *box, const uint32_t *v, size_t n)
+{
+    static struct fenced in, out;
+    const size_t size = sizeof *v * n;
+    const uint32_t *lent = fence(&in, v, size);
+    uint32_t *written = fence(&out, v, size);
+    struct door_party_answer a = door_mask(*box, lent, n, written, n);
+    if (a.why == DOOR_ACCEPTED)
+        memcpy(out.expected + FENCE, a.party.check.masked, size);
+    unhurt(&in);
+    unhurt(&out);
+    return a;
+}
+
+static struct door_party_answer take_fenced(
+    const struct door_party *box, struct message m, const uint32_t *v)
+{
+    static struct fenced name, vector;
+    const uint8_t *lent_name = fence(&name, m.name, m.name_size);
+    const uint32_t *lent = fence(&vector, v, sizeof *v * m.n);
+    struct door_party_answer a =
+        door_take(*box, m.kind, lent_name, m.name_size, m.sender, m.number, lent, m.n);
+    unhurt(&name);
+    unhurt(&vector);
+    return a;
+}
+
+static struct door_party_answer finish_fenced(
+    const struct door_party *box, struct message m, uint32_t word_taken)
+{
+    static struct fenced name;
+    const uint8_t *lent_name = fence(&name, m.name, m.name_size);
+    struct door_party_answer a =
+        door_finish(*box, m.kind, lent_name, m.name_size, m.sender, m.number, word_taken);
+    unhurt(&name);
+    return a;
+}
+
+static void fenced_refused(struct door_party_answer a, const struct door_party *box, uint32_t why)
+{
+    box_refused(&a, box, why);
+}
+
+/* The stage's box with a further set that waits. */
+struct ahead {
+    struct halves halves, further; /* of sets AHEAD and FURTHER */
+    size_t size;                   /* of a half */
+    size_t n;
+    struct door_party opened;             /* what a load of set AHEAD leaves at an idle box */
+    struct door_party at[DOOR_TAKEN + 1]; /* the stage's states, and it waits; none at DOOR_IDLE */
+};
+
+static struct ahead ahead;
+
+/* Whatever phase the open check is in, only the last number and what waits change. */
+static struct door_party load_ahead(const struct door_party *box)
+{
+    struct door_party_answer a = load_fenced(box, ahead.halves.half[1], ahead.size);
+    struct door_party next = *box;
+    next.last = AHEAD;
+    next.waiting = ahead.opened.check.set;
+    EXPECT(a.why == DOOR_ACCEPTED && a.word == 0);
+    EXPECT(same_party(&a.party, &next));
+    return a.party;
+}
+
+static void set_ahead(uint32_t code, size_t n)
+{
+    struct door d = open_door(41);
+    struct check k = drawn_check(code, n);
+    struct door_party unloaded = idle(1, 41);
+    deals(&d, AHEAD, &k, &ahead.halves);
+    deals(&d, FURTHER, &k, &ahead.further);
+    ahead.size = half_size(n);
+    ahead.n = n;
+    struct door_party_answer a = load_fenced(&unloaded, ahead.halves.half[1], ahead.size);
+    EXPECT(a.why == DOOR_ACCEPTED && a.party.last == AHEAD);
+    EXPECT(same_set(&a.party.waiting, &NO_SET));
+    ahead.opened = a.party;
+    for (uint32_t phase = DOOR_LOADED; phase <= DOOR_TAKEN; phase++)
+        ahead.at[phase] = load_ahead(&stage.at[phase]);
+}
+
+/* The open check goes on as if nothing waited, and what waits stays as it is. */
+static void goes_on_ahead(void)
+{
+    struct door_party_answer masked = mask_fenced(&ahead.at[DOOR_LOADED], stage.v, stage.n);
+    EXPECT(masked.why == DOOR_ACCEPTED && masked.word == 0);
+    EXPECT(same_party(&masked.party, &ahead.at[DOOR_MASKED]));
+    struct door_party_answer alone = take_fenced(&stage.at[DOOR_MASKED], stage.vector, stage.v);
+    struct door_party_answer taken = take_fenced(&ahead.at[DOOR_MASKED], stage.vector, stage.v);
+    struct door_party next = alone.party;
+    next.last = AHEAD;
+    next.waiting = ahead.opened.check.set;
+    EXPECT(taken.why == DOOR_ACCEPTED && taken.word == alone.word);
+    EXPECT(same_party(&taken.party, &next));
+}
+
+/* When the open set ends, the state is the one that a load leaves at an idle box. */
+static void opens_what_waits(void)
+{
+    const struct door_party empty = idle(1, AHEAD);
+    struct door_party_answer alone = finish_fenced(&stage.at[DOOR_TAKEN], stage.word, 12345);
+    struct door_party_answer a = finish_fenced(&ahead.at[DOOR_TAKEN], stage.word, 12345);
+    EXPECT(a.why == DOOR_ACCEPTED && a.word == alone.word);
+    EXPECT(same_party(&a.party, &ahead.opened));
+    for (uint32_t phase = DOOR_LOADED; phase <= DOOR_TAKEN; phase++) {
+        a = door_drop(ahead.at[phase]);
+        EXPECT(a.why == DOOR_ACCEPTED && a.word == 0);
+        EXPECT(same_party(&a.party, &ahead.opened));
+        a = door_drop(a.party); /* a box with a set waiting is cleared by two */
+        EXPECT(a.why == DOOR_ACCEPTED && same_party(&a.party, &empty));
+        drop_refused(&a.party, DOOR_OUT_OF_TURN);
+    }
+}
+
+/* A further load is out of turn before the half is looked at. */
+static void waits_alone(void)
+{
+    for (uint32_t phase = DOOR_LOADED; phase <= DOOR_TAKEN; phase++) {
+        const struct door_party *box = &ahead.at[phase];
+        uint8_t *half = ahead.further.half[1];
+        fenced_refused(load_fenced(box, half, ahead.size), box, DOOR_OUT_OF_TURN);
+        fenced_refused(load_fenced(box, ahead.halves.half[1], ahead.size), box, DOOR_OUT_OF_TURN);
+        fenced_refused(load_fenced(box, half, 0), box, DOOR_OUT_OF_TURN);
+        fenced_refused(load_fenced(box, half, ahead.size - 1), box, DOOR_OUT_OF_TURN);
+        fenced_refused(door_load(*box, NULL, 0), box, DOOR_OUT_OF_TURN);
+        half[ahead.size - 1] ^= 1;
+        fenced_refused(load_fenced(box, half, ahead.size), box, DOOR_OUT_OF_TURN);
+        half[ahead.size - 1] ^= 1;
+    }
+}
+
+/* Load's 7 with this last and this open number. */
+static void number_refused(uint32_t phase, uint64_t last, uint64_t open, uint32_t why)
+{
+    struct door_party box = stage.at[phase];
+    box.last = last;
+    box.check.set.number = open;
+    fenced_refused(load_fenced(&box, ahead.halves.half[1], ahead.size), &box, why);
+}
+
+static void numbers_ahead(uint32_t phase)
+{
+    const struct door_party *box = &stage.at[phase];
+    fenced_refused(
+        load_fenced(box, stage.halves.half[1], stage.size), box, DOOR_WRONG_NUMBER);
+    number_refused(phase, AHEAD, 41, DOOR_WRONG_NUMBER);
+    number_refused(phase, UINT64_MAX, 41, DOOR_WRONG_NUMBER);
+    number_refused(phase, 41, AHEAD, DOOR_WRONG_NUMBER);
+    number_refused(phase, 0, AHEAD, DOOR_WRONG_NUMBER);
+    number_refused(phase, 0, UINT64_MAX, DOOR_WRONG_NUMBER);
+    number_refused(phase, AHEAD - 1, AHEAD - 1, DOOR_ACCEPTED);
+    number_refused(phase, 0, AHEAD - 1, DOOR_ACCEPTED);
+    number_refused(phase, AHEAD - 1, 0, DOOR_ACCEPTED);
+}
+
+/* Every call at a state that no call leaves, with input that is good but for that. */
+static void all_refused(const struct door_party *box)
+{
+    const uint32_t why = DOOR_OUT_OF_TURN;
+    fenced_refused(load_fenced(box, ahead.further.half[1], ahead.size), box, why);
+    fenced_refused(mask_fenced(box, stage.v, stage.n), box, why);
+    fenced_refused(take_fenced(box, stage.vector, stage.v), box, why);
+    fenced_refused(finish_fenced(box, stage.word, 12345), box, why);
+    fenced_refused(door_drop(*box), box, why);
+}
+
+static void bad_waiting_numbers(const struct door_party *good)
+{
+    static const uint64_t numbers[] = {0, 1, 40, 41}; /* 41 is the open one */
+    struct door_party box = *good;
+    for (size_t i = 0; i < sizeof numbers / sizeof *numbers; i++) {
+        box.waiting.number = numbers[i];
+        all_refused(&box);
+    }
+}
+
+static void bad_waiting_terms(const struct door_party *good)
+{
+    static const struct door_terms terms[] = {
+        {3, 1}, {256, 20}, {UINT32_MAX, 512},                        /* a code that is none */
+        {0, 513}, {1, 65537}, {2, ((size_t)1 << 32) + 1}, {0, SIZE_MAX}, /* an L that is none */
+        {1, 0}, {2, 0}, {3, 0}, {UINT32_MAX, 0}};                    /* none waits, with a code */
+    struct door_party box = *good;
+    for (size_t i = 0; i < sizeof terms / sizeof *terms; i++) {
+        box.waiting.terms = terms[i];
+        all_refused(&box);
+    }
+}
+
+/* With none waiting the rest of what waits is not looked at: its number is not compared. */
+static void none_waits(uint32_t phase)
+{
+    struct door_party box = stage.at[phase];
+    box.waiting.number = 1;
+    turns(&box, true);
+    fenced_refused(
+        load_fenced(&box, ahead.halves.half[1], ahead.size), &box, DOOR_ACCEPTED);
+}
+
+static void waiting_states(void)
+{
+    struct door_party box = stage.at[DOOR_IDLE];
+    none_waits(DOOR_IDLE);
+    bad_waiting_terms(&box);
+    box.waiting = ahead.opened.check.set; /* no call leaves a set that waits with none open */
+    all_refused(&box);
+    bad_waiting_numbers(&box);
+    for (uint32_t phase = DOOR_LOADED; phase <= DOOR_TAKEN; phase++) {
+        bad_waiting_numbers(&ahead.at[phase]);
+        bad_waiting_terms(&ahead.at[phase]);
+        none_waits(phase);
+    }
+}
+
+/* A message for the waiting set is refused until that is open: by 7 if all before it fits. */
+static void messages_ahead(void)
+{
+    struct message vector = stage.vector, word_message = stage.word;
+    vector.number = word_message.number = AHEAD;
+    const struct door_party *loaded = &ahead.at[DOOR_LOADED], *masked = &ahead.at[DOOR_MASKED];
+    const struct door_party *taken = &ahead.at[DOOR_TAKEN];
+    fenced_refused(take_fenced(loaded, vector, stage.v), loaded, DOOR_OUT_OF_TURN);
+    fenced_refused(take_fenced(taken, vector, stage.v), taken, DOOR_OUT_OF_TURN);
+    fenced_refused(take_fenced(masked, vector, stage.v), masked, DOOR_WRONG_NUMBER);
+    fenced_refused(finish_fenced(loaded, word_message, 1), loaded, DOOR_OUT_OF_TURN);
+    fenced_refused(finish_fenced(masked, word_message, 1), masked, DOOR_OUT_OF_TURN);
+    fenced_refused(finish_fenced(taken, word_message, 1), taken, DOOR_WRONG_NUMBER);
+    vector.n = ahead.n; /* the length that the waiting set has, and the open one may not have */
+    fenced_refused(take_fenced(masked, vector, stage.v), masked,
+        ahead.n == stage.n ? DOOR_WRONG_NUMBER : DOOR_WRONG_LENGTH);
+    vector.n = stage.n;
+    vector.sender = word_message.sender = 1;
+    fenced_refused(take_fenced(masked, vector, stage.v), masked, DOOR_WRONG_MESSAGE);
+    fenced_refused(finish_fenced(taken, word_message, 1), taken, DOOR_WRONG_MESSAGE);
+}
+
+static void loads_ahead(uint32_t code, size_t n)
+{
+    set_ahead(code, n);
+    goes_on_ahead();
+    opens_what_waits();
+    waits_alone();
+    for (uint32_t phase = DOOR_LOADED; phase <= DOOR_TAKEN; phase++)
+        numbers_ahead(phase);
+    number_refused(DOOR_IDLE, AHEAD - 1, UINT64_MAX, DOOR_ACCEPTED); /* none is open */
+    waiting_states();
+    messages_ahead();
+}
+
+/* Two checks, of which the second is loaded while the first is under way. */
+
+struct overlap {
+    struct check k[2];
+    struct halves halves[2];
+    struct door_party box[2];
+    uint32_t done[2][2];         /* by box and set: how many of calls 1 to 4 */
+    uint32_t goal[2][2];         /* how many are to be done */
+    uint32_t load_ahead_at[2];   /* by box: when so many calls of the first set are done */
+    struct vector sent[2][2];    /* by box and set */
+    uint32_t words[2][2], answers[2][2];
+};
+
+static uint64_t overlap_number(int set)
+{
+    return set == 0 ? 71 : 80;
+}
+
+static struct message overlap_message(const struct overlap *o, uint32_t kind, int box, int set)
+{
+    struct message m = {
+        kind, PADDED, DOOR_NAME, (uint32_t)(1 - box), overlap_number(set), o->k[set].terms.n};
+    return m;
+}
+
+/* Whether the box's next call for this set can be made: its turn has come, and what it takes from
+   the other box is there. */
+static bool may_go_on(const struct overlap *o, int box, int set)
+{
+    const uint32_t done = o->done[box][set];
+    if (done >= o->goal[box][set])
+        return false;
+    if (set == 1 && done == 0)
+        return o->done[box][0] >= o->load_ahead_at[box];
+    if (set == 1 && o->done[box][0] < 4)
+        return false;
+    return done < 2 || o->done[1 - box][set] >= done;
+}
+
+static struct door_party_answer next_call(struct overlap *o, int box, int set)
+{
+    const struct door_party *party = &o->box[box];
+    const size_t n = o->k[set].terms.n;
+    uint32_t v[MOST];
+    switch (o->done[box][set]) {
+    case 0:
+        return load_fenced(party, o->halves[set].half[box], half_size(n));
+    case 1:
+        words_of(&o->k[set], box, v);
+        return mask_fenced(party, v, n);
+    case 2:
+        return take_fenced(
+            party, overlap_message(o, DOOR_MASKED_VECTOR, box, set), o->sent[1 - box][set].at);
+    default:
+        return finish_fenced(
+            party, overlap_message(o, DOOR_WORD, box, set), o->words[1 - box][set]);
+    }
+}
+
+static void go_on(struct overlap *o, int box, int set)
+{
+    struct door_party_answer a = next_call(o, box, set);
+    EXPECT(a.why == DOOR_ACCEPTED);
+    uint32_t done = ++o->done[box][set];
+    if (done == 2)
+        memcpy(o->sent[box][set].at, a.party.check.masked, sizeof a.party.check.masked);
+    else if (done == 3)
+        o->words[box][set] = a.word;
+    else if (done == 4)
+        o->answers[box][set] = a.word;
+    o->box[box] = a.party;
+}
+
+static bool is_done(const struct overlap *o)
+{
+    return memcmp(o->done, o->goal, sizeof o->done) == 0;
+}
+
+/* Calls in an order by chance, as far as the goals say. */
+static void go_to_goals(struct overlap *o)
+{
+    while (!is_done(o)) {
+        int box = draw() % 2, set = draw() % 2;
+        if (may_go_on(o, box, set))
+            go_on(o, box, set);
+    }
+}
+
+static void set_goals(struct overlap *o, int set, uint32_t goal0, uint32_t goal1)
+{
+    o->goal[0][set] = goal0;
+    o->goal[1][set] = goal1;
+}
+
+static void begin_overlap(struct overlap *o)
+{
+    static const size_t lengths[] = {1, 18, 128, 512};
+    struct door d = open_door(70);
+    memset(o, 0, sizeof *o);
+    for (int set = 0; set < 2; set++) {
+        o->k[set] = drawn_check(draw() % 3, lengths[draw() % 4]);
+        o->k[set].t += set == 0 ? draw() % 2 : 0;
+        deals(&d, overlap_number(set), &o->k[set], &o->halves[set]);
+        o->box[set] = d.box[set];
+    }
+    set_goals(o, 0, 4, 4);
+    set_goals(o, 1, 4, 4);
+}
+
+static void joined_right(const struct overlap *o, int set, uint64_t last)
+{
+    const struct check *k = &o->k[set];
+    struct join j = join_of(overlap_number(set), o->answers[0][set], o->answers[1][set]);
+    EXPECT(join(last, &j, overlap_number(set)) == (measure(k) >= k->t));
+}
+
+static void nothing_left(const struct overlap *o)
+{
+    for (uint32_t box = 0; box < 2; box++) {
+        struct door_party empty = idle(box, overlap_number(1));
+        EXPECT(same_party(&o->box[box], &empty));
+    }
+}
+
+/* Both sets are answered, wherever in the first check each box loads the second set. */
+static void both_answered(uint32_t at0, uint32_t at1)
+{
+    static struct overlap o;
+    begin_overlap(&o);
+    o.load_ahead_at[0] = at0;
+    o.load_ahead_at[1] = at1;
+    go_to_goals(&o);
+    joined_right(&o, 0, 70);
+    joined_right(&o, 1, overlap_number(0));
+    nothing_left(&o);
+}
+
+/* The first check is dropped at both boxes, wherever each is in it, and the second answered. */
+static void second_answered(uint32_t at0, uint32_t at1)
+{
+    static struct overlap o;
+    begin_overlap(&o);
+    o.load_ahead_at[0] = o.load_ahead_at[1] = 1;
+    set_goals(&o, 0, at0, at1);
+    set_goals(&o, 1, 1, 1);
+    go_to_goals(&o);
+    for (int box = 0; box < 2; box++) {
+        struct door_party_answer a = door_drop(o.box[box]);
+        EXPECT(a.why == DOOR_ACCEPTED && a.party.check.set.number == overlap_number(1));
+        o.box[box] = a.party;
+        o.done[box][0] = o.goal[box][0] = 4;
+    }
+    set_goals(&o, 1, 4, 4);
+    go_to_goals(&o);
+    joined_right(&o, 1, 70);
+    nothing_left(&o);
+}
+
+static void overlaps(void)
+{
+    for (uint32_t at0 = 1; at0 <= 4; at0++)
+        for (uint32_t at1 = 1; at1 <= 4; at1++) {
+            both_answered(at0, at1);
+            bool can_come_to = at0 < 4 && at1 < 4 && at0 + 1 >= at1 && at1 + 1 >= at0;
+            if (can_come_to)
+                second_answered(at0, at1);
+        }
+}
+
 int main(int count, char **arguments)
 {
     if (count > 1)
@@ -990,14 +1454,20 @@ int main(int count, char **arguments)
     for (uint32_t code = 0; code < 3; code++) {
         set_stage(code, 20);
         states();
-        load_in_turn();
+        for (uint32_t phase = DOOR_IDLE; phase <= DOOR_TAKEN; phase++)
+            load_in_turn(phase);
         load_alone();
         mask();
         message(&stage.at[DOOR_MASKED], stage.vector);
         message(&stage.at[DOOR_TAKEN], stage.word);
         empty_slices(keys[0], stage.v);
         empty_slices(NULL, NULL);
+        loads_ahead(code, 20);
+        loads_ahead((code + 1) % 3, 1);
+        loads_ahead((code + 2) % 3, MOST);
     }
+    for (int i = 0; i < 4; i++)
+        overlaps();
     joins();
     printf("c/test: %s: %ld passed\n", door_level(), passed);
 }

@@ -1,22 +1,31 @@
 /*
  * The camera box and the office box.
  *
- * What a power cut takes away is the open set, and it is gone for good: a box starts again from
- * its key, its name and its last number, which was on the disk before anything of that set had
- * left. So no set is opened twice, and no second vector comes under its mask. What is lost is one
- * check, and the operator begins another.
+ * While a check is under way the dealer announces the next set, and the box loads it ahead: the
+ * next check then begins with the masked vector at once.
+ *
+ * What a power cut takes away is the open set and the one that waits, and they are gone for good:
+ * a box starts again from its key, its name and its last number, which was on the disk before
+ * anything of that set had left. So no set is opened twice, and no second vector comes under its
+ * mask. What is lost is one check, and the operator begins another.
  */
 #include "host.h"
 
 #include <inttypes.h>
 #include <string.h>
 
+#define EARLY_SETS 2 /* the open set and the one behind it have a place each for early messages */
+
+/* A message of the other box, which may be faster, that waits for this one to get there. */
+struct early {
+    bool waits;
+    struct message message;
+};
+
 struct box {
     struct door_party party;
-    /* By kind, messages of the other box, which may be faster, that wait for this one to get
-       there. */
-    struct message early[DOOR_WORD + 1];
-    bool waits[DOOR_WORD + 1];
+    uint64_t announced; /* the set that the dealer has dealt ahead, until it is loaded; else 0 */
+    struct early early[EARLY_SETS][DOOR_WORD + 1]; /* by kind */
 };
 
 static enum part self_of(const struct box *box)
@@ -27,6 +36,12 @@ static enum part self_of(const struct box *box)
 static enum part other_of(const struct box *box)
 {
     return box->party.who.party == CAMERA ? OFFICE : CAMERA;
+}
+
+/* Whether a set was loaded ahead and waits for the open one to end. */
+static bool is_waiting(const struct box *box)
+{
+    return box->party.waiting.terms.n != 0;
 }
 
 /* The state goes on and the answer's copy of it goes away; the refusal is handed back. */
@@ -67,6 +82,7 @@ static void send_words(const struct box *box, const struct link *link, enum part
     send_to(link, to, &message);
 }
 
+/* Only the open set: one that waits is then the open one. */
 static void drop_open_set(struct box *box, const char *because)
 {
     if (box->party.check.phase == DOOR_IDLE)
@@ -91,10 +107,16 @@ static bool own_vector(const struct box *box, const struct message *begin, struc
     return true;
 }
 
-/* Opens the half and spends its number, in memory and on disk. Only when this has answered true
-   may anything that the set masks leave the box. */
+/* Loads the half and spends its number, in memory and on disk. Only when this has answered true
+   may anything that the set masks leave the box.
+
+   A set whose number is not on disk must not be used. If it waits, it cannot be dropped alone. So
+   the check in front of it is given up too: the disk is in trouble, and no next check will begin.
+   A note in memory that the waiting set is a bad one would save this check, but every later use of
+   the set would depend on it. */
 static bool load(struct box *box, uint64_t number, const uint8_t *half, size_t size, uint32_t *why)
 {
+    static const char *const because = "since a last number could not be forced to disk";
     struct door_party_answer a = door_load(box->party, half, size);
     *why = adopt(box, &a);
     if (*why != DOOR_ACCEPTED) {
@@ -102,11 +124,33 @@ static bool load(struct box *box, uint64_t number, const uint8_t *half, size_t s
         return false;
     }
     if (!write_last(PART[self_of(box)].command, box->party.last)) {
-        drop_open_set(box, "since its number could not be forced to disk and nothing has left yet");
+        drop_open_set(box, because);
+        drop_open_set(box, because);
         return false;
     }
     remove_spent_halves(box->party.who.party, box->party.last);
     return true;
+}
+
+/* Loads the set that is announced, if it is the next one and there is room. Numbers only rise: a
+   box that has not begun the set before it would spend that one's number too. It is tried again
+   after every message. A set that cannot be loaded is left to its begin, and harms nothing. */
+static void load_announced(struct box *box)
+{
+    static uint8_t half[DOOR_HALF_MOST + 1];
+    const uint64_t number = box->announced;
+    size_t size;
+    uint32_t why;
+    if (number == 0 || number != box->party.last + 1 || is_waiting(box))
+        return;
+    box->announced = 0;
+    bool loaded = read_half(box->party.who.party, number, half, &size)
+        && load(box, number, half, size, &why);
+    explicit_bzero(half, sizeof half);
+    say("set %" PRIu64 ": %s", number,
+        !loaded ? "could not be loaded ahead; its check tries again, or takes another set"
+            : is_waiting(box) ? "loaded ahead; it waits for the open set to end"
+                              : "loaded ahead; it is open");
 }
 
 static bool mask(
@@ -153,7 +197,7 @@ static bool comes_early(const struct box *box, const struct message *m)
 {
     if (m->kind != DOOR_MASKED_VECTOR && m->kind != DOOR_WORD)
         return false;
-    if (m->number > box->party.last)
+    if (m->number > box->party.last || (is_waiting(box) && m->number == box->party.waiting.number))
         return true;
     const struct door_check *check = &box->party.check;
     uint32_t takes_at = m->kind == DOOR_MASKED_VECTOR ? DOOR_MASKED : DOOR_TAKEN;
@@ -161,42 +205,74 @@ static bool comes_early(const struct box *box, const struct message *m)
         && check->phase < takes_at;
 }
 
-/* A masked vector first: taking it is what lets a word be taken. */
+/* Sets with consecutive numbers have places of their own. */
+static struct early *place_of(struct box *box, uint32_t kind, uint64_t number)
+{
+    return &box->early[number % EARLY_SETS][kind];
+}
+
+/* Those for the open set. A masked vector first: taking it is what lets a word be taken. */
 static void hand_in_early_ones(struct box *box, const struct link *link)
 {
+    const uint64_t number = box->party.check.set.number;
     for (uint32_t kind = DOOR_MASKED_VECTOR; kind <= DOOR_WORD; kind++) {
-        if (!box->waits[kind] || comes_early(box, &box->early[kind]))
+        struct early *early = place_of(box, kind, number);
+        if (!early->waits || early->message.number != number || comes_early(box, &early->message))
             continue;
-        box->waits[kind] = false;
-        hand_in(box, link, &box->early[kind]);
+        early->waits = false;
+        hand_in(box, link, &early->message);
     }
 }
 
 static void take_message(struct box *box, const struct link *link, const struct message *m)
 {
     if (comes_early(box, m)) {
-        box->early[m->kind] = *m;
-        box->waits[m->kind] = true;
+        *place_of(box, m->kind, m->number) = (struct early){.waits = true, .message = *m};
         return;
     }
     hand_in(box, link, m);
     hand_in_early_ones(box, link);
 }
 
-/* A begin that brings no half or no vector leaves an open set as it is. */
-static void begin(struct box *box, const struct link *link, const struct message *m)
+/* The half comes from the stick: the set was not loaded ahead. It is loaded behind the open set,
+   which is dropped only when the load has taken the half. Behind two sets there is no room. */
+static bool open_from_stick(struct box *box, uint64_t number, uint32_t *why)
 {
     static uint8_t half[DOOR_HALF_MOST + 1];
-    static struct vector vector;
+    static const char *const because = "since another one begins";
     size_t size;
-    uint32_t why = DOOR_ACCEPTED;
-    bool begun =
-        own_vector(box, m, &vector) && read_half(box->party.who.party, m->number, half, &size);
-    if (begun) {
-        drop_open_set(box, "since another one begins");
-        begun = load(box, m->number, half, size, &why) && mask(box, link, &vector, &why);
-    }
+    if (!read_half(box->party.who.party, number, half, &size))
+        return false;
+    if (is_waiting(box))
+        drop_open_set(box, because);
+    bool loaded = load(box, number, half, size, why);
     explicit_bzero(half, sizeof half);
+    if (loaded && is_waiting(box))
+        drop_open_set(box, because);
+    return loaded;
+}
+
+/* Makes this set the open one, with nothing masked yet: it is that already, it waits, or its half
+   is on the stick. */
+static bool open_set(struct box *box, uint64_t number, uint32_t *why)
+{
+    const struct door_check *check = &box->party.check;
+    if (check->phase == DOOR_LOADED && check->set.number == number)
+        return true;
+    if (is_waiting(box) && box->party.waiting.number == number)
+        drop_open_set(box, "since the set that waits begins");
+    else if (!open_from_stick(box, number, why))
+        return false;
+    return check->phase == DOOR_LOADED && check->set.number == number;
+}
+
+/* A begin that brings no vector, or finds no set, leaves an open set as it is. */
+static void begin(struct box *box, const struct link *link, const struct message *m)
+{
+    static struct vector vector;
+    uint32_t why = DOOR_ACCEPTED;
+    bool begun = own_vector(box, m, &vector) && open_set(box, m->number, &why)
+        && mask(box, link, &vector, &why);
     explicit_bzero(&vector, sizeof vector);
     if (begun) {
         hand_in_early_ones(box, link);
@@ -206,12 +282,30 @@ static void begin(struct box *box, const struct link *link, const struct message
     }
 }
 
+static void announce(struct box *box, uint64_t number)
+{
+    if (number > box->party.last)
+        box->announced = number;
+    else
+        say("set %" PRIu64 ": not loaded ahead, since its number is spent here", number);
+}
+
 static void handle(void *state, const struct link *link, const struct message *message)
 {
     if (message->kind == HOST_BEGIN)
         begin(state, link, message);
+    else if (message->kind == HOST_AHEAD)
+        announce(state, message->number);
     else
         take_message(state, link, message);
+    load_announced(state);
+}
+
+/* A set that is loaded and not masked was loaded ahead: a begin masks what it loads. */
+static bool is_ready(const void *state)
+{
+    const struct box *box = state;
+    return is_waiting(box) || box->party.check.phase == DOOR_LOADED;
 }
 
 int run_box(enum part self, const char *via)
@@ -219,7 +313,8 @@ int run_box(enum part self, const char *via)
     static struct box box;
     if (!start_box(&box, self))
         return EXIT_TROUBLE;
-    const struct served served = {.state = &box, .last = &box.party.last, .handle = handle};
+    const struct served served = {
+        .state = &box, .last = &box.party.last, .handle = handle, .is_ready = is_ready};
     int status = serve(self, via, &served);
     explicit_bzero(&box, sizeof box);
     return status;

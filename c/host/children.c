@@ -15,6 +15,8 @@
 
 #define PATIENCE 5000 /* milliseconds for a process to end */
 
+bool deals_ahead = true;
+
 static const char *program;
 static pid_t children[PARTS];
 
@@ -63,9 +65,11 @@ int run_to_end(char *const arguments[])
 
 void start_child(enum part part)
 {
-    char *const arguments[] = {
-        "door-host", (char *)PART[part].command, ".", "--via", (char *)PART[WATCH].socket, NULL};
-    children[part] = start_program(arguments);
+    char *command = (char *)PART[part].command, *via = (char *)PART[WATCH].socket;
+    char *const arguments[] = {"door-host", command, ".", "--via", via, NULL};
+    char *const not_ahead[] = {"door-host", command, ".", "--no-ahead", "--via", via, NULL};
+    bool as_usual = part != DEALER || deals_ahead;
+    children[part] = start_program(as_usual ? arguments : not_ahead);
 }
 
 void kill_child(enum part part)

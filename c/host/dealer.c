@@ -11,6 +11,15 @@ struct halves {
     uint8_t half[2][DOOR_HALF_MOST];
 };
 
+struct dealer {
+    struct door_dealer state;
+    bool deals_ahead;
+    /* The set that was dealt ahead and not handed out yet, 0 with none, and what it was dealt for.
+       They are in memory alone: a dealer that was switched off deals anew. */
+    uint64_t ahead;
+    struct settings ahead_for;
+};
+
 static bool start_dealer(struct door_dealer *dealer)
 {
     struct door_name name;
@@ -61,47 +70,106 @@ static bool hand_out(const struct door_dealer *dealer, size_t length, const stru
         && write_half(OFFICE, dealer->last, h->half[OFFICE], DOOR_HALF(length));
 }
 
-static bool deal(struct door_dealer *dealer, struct settings *s, uint32_t *why)
+static bool deal(struct door_dealer *dealer, const struct settings *s, uint32_t *why)
 {
     static struct halves h;
-    *why = DOOR_ACCEPTED;
-    if (!read_settings(s) || !deal_next(dealer, s, &h, why))
+    if (!deal_next(dealer, s, &h, why))
         return false;
     bool done = hand_out(dealer, s->terms.n, &h);
     explicit_bzero(&h, sizeof h);
-    if (!done)
+    if (done)
+        say("set %" PRIu64 ": dealt; a half of %zu bytes is on each stick", dealer->last,
+            DOOR_HALF(s->terms.n));
+    else
         say("set %" PRIu64 ": its number or a half could not be forced to disk; the set is lost",
             dealer->last);
     return done;
 }
 
+static bool same_settings(const struct settings *a, const struct settings *b)
+{
+    return a->terms.code == b->terms.code && a->terms.n == b->terms.n
+        && a->threshold == b->threshold;
+}
+
+/* Finds the set that was dealt ahead, if it was dealt for these settings, or else deals one. A set
+   dealt for others would judge this check by them. */
+static bool find_set(
+    struct dealer *dealer, const struct settings *s, uint64_t *number, uint32_t *why)
+{
+    *number = dealer->ahead;
+    dealer->ahead = 0; /* whatever comes of it, it is not handed out a second time */
+    if (*number != 0 && same_settings(&dealer->ahead_for, s))
+        return true;
+    if (*number != 0)
+        say("set %" PRIu64 ": was dealt ahead for other settings and is not used; its number "
+            "stays spent", *number);
+    if (!deal(&dealer->state, s, why))
+        return false;
+    *number = dealer->state.last;
+    return true;
+}
+
+static void send_dealt(const struct dealer *dealer, const struct link *link, uint64_t number,
+    const struct settings *s)
+{
+    struct message dealt = {.kind = HOST_DEALT, .sender = DEALER, .number = number,
+        .words = {s->terms.code, (uint32_t)s->terms.n, (uint32_t)s->threshold}, .count = 3};
+    memcpy(dealt.name, dealer->state.name, DOOR_NAME);
+    send_to(link, OPERATOR, &dealt);
+}
+
+/* Deals the next set while the check is under way, for the settings of this one. */
+static void deal_ahead(struct dealer *dealer, const struct link *link, const struct settings *s)
+{
+    uint32_t why;
+    if (!deal(&dealer->state, s, &why)) {
+        say("no set is dealt ahead; the next request deals one");
+        return;
+    }
+    dealer->ahead = dealer->state.last;
+    dealer->ahead_for = *s;
+    for (uint32_t box = CAMERA; box <= OFFICE; box++) {
+        struct message ahead = {.kind = HOST_AHEAD, .sender = DEALER, .number = dealer->ahead,
+            .words = {box}, .count = 1};
+        memcpy(ahead.name, dealer->state.name, DOOR_NAME);
+        send_to(link, (enum part)box, &ahead);
+    }
+}
+
 static void handle(void *state, const struct link *link, const struct message *message)
 {
-    struct door_dealer *dealer = state;
+    struct dealer *dealer = state;
     struct settings s;
-    uint32_t why;
+    uint64_t number;
+    uint32_t why = DOOR_ACCEPTED;
     if (message->kind != HOST_DEAL) {
         say("a message (%s) that no dealer takes is dropped", kind_words(message->kind));
         return;
     }
-    if (!deal(dealer, &s, &why)) {
-        send_failed(link, dealer->last, why);
+    if (!read_settings(&s) || !find_set(dealer, &s, &number, &why)) {
+        send_failed(link, dealer->state.last, why);
         return;
     }
-    say("set %" PRIu64 ": dealt; a half of %zu bytes is on each stick", dealer->last,
-        DOOR_HALF(s.terms.n));
-    struct message dealt = {.kind = HOST_DEALT, .sender = DEALER, .number = dealer->last,
-        .words = {s.terms.code, (uint32_t)s.terms.n, (uint32_t)s.threshold}, .count = 3};
-    memcpy(dealt.name, dealer->name, DOOR_NAME);
-    send_to(link, OPERATOR, &dealt);
+    say("set %" PRIu64 ": handed out", number);
+    send_dealt(dealer, link, number, &s);
+    if (dealer->deals_ahead)
+        deal_ahead(dealer, link, &s);
 }
 
-int run_dealer(const char *via)
+static bool is_ready(const void *state)
 {
-    struct door_dealer dealer;
-    if (!start_dealer(&dealer))
+    const struct dealer *dealer = state;
+    return dealer->ahead != 0;
+}
+
+int run_dealer(const char *via, bool deals_ahead)
+{
+    struct dealer dealer = {.deals_ahead = deals_ahead};
+    if (!start_dealer(&dealer.state))
         return EXIT_TROUBLE;
-    const struct served served = {.state = &dealer, .last = &dealer.last, .handle = handle};
+    const struct served served = {
+        .state = &dealer, .last = &dealer.state.last, .handle = handle, .is_ready = is_ready};
     int status = serve(DEALER, via, &served);
     explicit_bzero(&dealer, sizeof dealer);
     return status;

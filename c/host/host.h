@@ -14,12 +14,16 @@ enum exit_status {
 };
 
 int set_up(const char *folder, const char *name, const char *settings_text);
-int run_dealer(const char *via);
+int run_dealer(const char *via, bool deals_ahead);
 int run_box(enum part self, const char *via);
 int run_lock(const char *via);
 int run_check(const struct vector *vector);
 int run_status(void);
 int run_watch(void);
+
+/* How many sets a check may take: a box that was switched off has lost the set that it had loaded
+   ahead, and the check begins again with the next one. */
+#define SETS_FOR_A_CHECK 3
 
 /* What the dealer, the boxes and the lock have in common: a message is handled to its end before
    the next is read, and HOST_ASK is answered with the last number. */
@@ -27,6 +31,7 @@ struct served {
     void *state;
     const uint64_t *last;
     void (*handle)(void *state, const struct link *link, const struct message *message);
+    bool (*is_ready)(const void *state); /* has it the next set ready; NULL: it never has */
 };
 
 int serve(enum part self, const char *via, const struct served *served);

@@ -13,7 +13,8 @@
 static int usage(void)
 {
     fputs("usage: door-host setup FOLDER NAME CODE LENGTH THRESHOLD\n"
-          "       door-host dealer|camera|office|lock FOLDER [--via SOCKET]\n"
+          "       door-host dealer FOLDER [--no-ahead] [--via SOCKET]\n"
+          "       door-host camera|office|lock FOLDER [--via SOCKET]\n"
           "       door-host check FOLDER VECTORFILE\n"
           "       door-host status FOLDER\n"
           "       door-host watch FOLDER\n",
@@ -60,12 +61,15 @@ static int run_check_of(const char *folder, const char *path)
     return status;
 }
 
-static int run_part(const char *command, const char *folder, const char *via)
+static int run_part(const char *command, const char *folder, bool deals_ahead, const char *via)
 {
+    bool is_dealer = strcmp(command, PART[DEALER].command) == 0;
+    if (!deals_ahead && !is_dealer)
+        return usage();
     if (!go_to(folder))
         return EXIT_TROUBLE;
-    if (strcmp(command, PART[DEALER].command) == 0)
-        return run_dealer(via);
+    if (is_dealer)
+        return run_dealer(via, deals_ahead);
     if (strcmp(command, PART[CAMERA].command) == 0)
         return run_box(CAMERA, via);
     if (strcmp(command, PART[OFFICE].command) == 0)
@@ -79,6 +83,20 @@ static int run_part(const char *command, const char *folder, const char *via)
     return usage();
 }
 
+/* A part's command, its folder, and the options behind them. */
+static int run_part_with(int count, char **arguments)
+{
+    int at = 2;
+    bool deals_ahead = !(count > at && strcmp(arguments[at], "--no-ahead") == 0);
+    if (!deals_ahead)
+        at++;
+    if (count == at && at >= 2)
+        return run_part(arguments[0], arguments[1], deals_ahead, NULL);
+    if (count == at + 2 && strcmp(arguments[at], "--via") == 0)
+        return run_part(arguments[0], arguments[1], deals_ahead, arguments[at + 1]);
+    return usage();
+}
+
 int main(int count, char **arguments)
 {
     if (!keep_secrets_in() || !stop_on_signals())
@@ -87,9 +105,5 @@ int main(int count, char **arguments)
         return run_setup(arguments + 2);
     if (count == 4 && strcmp(arguments[1], "check") == 0)
         return run_check_of(arguments[2], arguments[3]);
-    if (count == 3)
-        return run_part(arguments[1], arguments[2], NULL);
-    if (count == 5 && strcmp(arguments[3], "--via") == 0)
-        return run_part(arguments[1], arguments[2], arguments[4]);
-    return usage();
+    return run_part_with(count - 1, arguments + 1);
 }

@@ -20,6 +20,7 @@ const char *const STAGE[STAGES] = {
 struct check check;
 bool disorder;
 bool operator_runs;
+bool ready[PARTS];
 struct message answers[2];
 
 static bool here[PARTS]; /* has answered HOST_ASK */
@@ -33,12 +34,28 @@ static bool forward(enum part to, const struct message *m)
     return send_bytes(&relay, PART[to].socket, bytes, encode(m, bytes));
 }
 
+static bool is_held_back(enum part to, const struct message *m)
+{
+    if (m->kind != DOOR_MASKED_VECTOR)
+        return false;
+    bool waits_for_next_set = check.pace == SLOW && !check.announced[to];
+    return to == check.word_first || waits_for_next_set || check.pace == STUCK;
+}
+
+static void release_vector(enum part to)
+{
+    if (check.held[to])
+        forward(to, &check.vector[to]);
+    check.held[to] = false;
+}
+
 /* A message to a dead part is lost; that a part may be killed is what the test is about. */
 static void carry(enum part to, const struct message *m)
 {
     busy = true;
-    if (to == check.word_first && m->kind == DOOR_MASKED_VECTOR) {
-        check.vector = *m;
+    if (is_held_back(to, m)) {
+        check.vector[to] = *m;
+        check.held[to] = true;
         return;
     }
     if (disorder && chance(32) == 0 && late_to == PARTS) {
@@ -49,8 +66,12 @@ static void carry(enum part to, const struct message *m)
     forward(to, m);
     if (disorder && chance(16) == 0)
         forward(to, m);
-    if (to == check.word_first && m->kind == DOOR_WORD)
-        forward(to, &check.vector);
+    if (m->kind == HOST_AHEAD)
+        check.announced[to] = true;
+    bool releases = m->kind == HOST_AHEAD ? check.pace == SLOW
+                                          : m->kind == DOOR_WORD && to == check.word_first;
+    if (releases)
+        release_vector(to);
 }
 
 void carry_late(void)
@@ -60,20 +81,35 @@ void carry_late(void)
     late_to = PARTS;
 }
 
+bool carry_late_announcement(void)
+{
+    bool is_one = late_to != PARTS && late.kind == HOST_AHEAD;
+    if (is_one)
+        carry_late();
+    return is_one;
+}
+
 static void follow(const struct message *m)
 {
     static const enum stage stages[] = {
         [DOOR_MASKED_VECTOR] = MASKED, [DOOR_WORD] = WORDS, [DOOR_ANSWER] = ANSWERS,
-        [HOST_DEALT] = DEALT, [HOST_VERDICT] = REPORTED, [HOST_FAILED] = ASKED};
+        [HOST_DEALT] = DEALT, [HOST_VERDICT] = REPORTED, [HOST_FAILED] = ASKED,
+        [HOST_AHEAD] = ASKED};
+    check.messages++;
     if (m->kind == HOST_DEALT)
         check.number = m->number;
+    if (m->number != check.number && m->sender != DEALER)
+        return; /* of a set before this one */
     if (m->kind == HOST_FAILED) {
         check.failed = true;
         check.why = m->words[0];
     }
-    if (m->number == check.number && stages[m->kind] > check.stage)
+    if (m->kind == DOOR_MASKED_VECTOR && check.vector_ns == 0)
+        check.vector_ns = now_ns();
+    if (m->kind == HOST_VERDICT)
+        check.report_ns = now_ns();
+    if (stages[m->kind] > check.stage)
         check.stage = stages[m->kind];
-    check.messages++;
 }
 
 static void handle(enum part from, const struct message *m)
@@ -81,6 +117,7 @@ static void handle(enum part from, const struct message *m)
     EXPECT(from <= LOCK, "a message came from no part's socket");
     if (m->kind == HOST_HERE) {
         here[from] = true;
+        ready[from] = m->words[0] == 1;
         EXPECT(m->number <= durable_last(from), "the %s has last number %" PRIu64 " in mind alone",
             PART[from].title, m->number);
     }
@@ -90,7 +127,7 @@ static void handle(enum part from, const struct message *m)
     follow(m);
     if (m->kind == DOOR_ANSWER)
         answers[from] = *m;
-    enum part to = destination(from, m->kind);
+    enum part to = destination(from, m);
     if (to != OPERATOR)
         carry(to, m);
     else if (operator_runs)

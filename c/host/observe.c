@@ -6,10 +6,13 @@
 #include <stdlib.h>
 #include <string.h>
 
-#define NUMBERS 4096 /* more than one run deals */
+#define NUMBERS 8192 /* more than one run deals */
+#define COPIES 8     /* of halves that are kept, for each box */
 
 struct tally tally;
 int32_t current[2][DOOR_LENGTH_MOST];
+struct settings settings;
+uint64_t newest_ahead;
 
 /* What is known of one set. */
 struct seen {
@@ -24,6 +27,14 @@ struct seen {
 
 static struct seen seen[NUMBERS];
 static uint64_t most_sent[PARTS]; /* the highest number that left each part */
+static uint64_t lost[PARTS];      /* the newest set dealt ahead when the part had it no longer */
+static struct settings ahead_for; /* what that one was dealt for */
+
+bool same_settings(const struct settings *a, const struct settings *b)
+{
+    return a->terms.code == b->terms.code && a->terms.n == b->terms.n
+        && a->threshold == b->threshold;
+}
 
 int64_t measure(struct door_terms terms, const int32_t *x, const int32_t *y)
 {
@@ -70,11 +81,12 @@ struct copy {
     size_t size;
 };
 
-static struct copy newest[2]; /* of each box, to be put back on the stick when it is spent */
+/* Of each box, by number, to be put back on the stick when they are spent. */
+static struct copy copies[2][COPIES];
 
 void put_half_back(enum part box, uint64_t number)
 {
-    const struct copy *c = &newest[box];
+    const struct copy *c = &copies[box][number % COPIES];
     EXPECT(c->number == number && write_half(box, number, c->bytes, c->size),
         "cannot put the half of set %" PRIu64 " back", number);
 }
@@ -103,8 +115,8 @@ static void take_down_half(enum part box, const char *file)
     EXPECT(*known == 0 || *known == hash, "%s was dealt twice", path);
     *known = hash;
     left(DEALER, c.number);
-    if (c.number > newest[box].number)
-        newest[box] = c;
+    if (c.number >= copies[box][c.number % COPIES].number)
+        copies[box][c.number % COPIES] = c;
 }
 
 static void take_down_halves(void)
@@ -120,9 +132,42 @@ static void take_down_halves(void)
     }
 }
 
+enum stock stock_of(enum part part)
+{
+    if (newest_ahead == 0 || newest_ahead <= lost[part])
+        return NOTHING_AHEAD;
+    const struct seen *s = &seen[newest_ahead];
+    if (part == DEALER)
+        return s->dealt ? NOTHING_AHEAD : READY_AHEAD;
+    if (part == LOCK || s->sent[part][DOOR_MASKED_VECTOR] || durable_last(part) < newest_ahead)
+        return NOTHING_AHEAD;
+    const bool *sent = seen[check.number].sent[part]; /* none before the deal, under number 0 */
+    bool is_under_way = sent[DOOR_MASKED_VECTOR] && !sent[DOOR_ANSWER];
+    return is_under_way ? WAITING_AHEAD : READY_AHEAD;
+}
+
+void lose_stock(enum part part)
+{
+    lost[part] = newest_ahead;
+}
+
+/* A set dealt ahead is handed out unless the settings have changed. That a set that is handed out
+   was dealt for the new ones shows in its answer. */
+static void use_stock(uint64_t number)
+{
+    if (number == newest_ahead)
+        tally.taken++;
+    else
+        tally.unused++;
+    EXPECT(number == newest_ahead || !same_settings(&ahead_for, &settings),
+        "set %" PRIu64 " was dealt ahead in vain", newest_ahead);
+    lose_stock(DEALER);
+}
+
 static void observe_dealt(enum part from, const struct message *m)
 {
     struct seen *s = set_of(m->number);
+    const bool has_one = stock_of(DEALER) != NOTHING_AHEAD;
     EXPECT(from == DEALER, "the %s deals", PART[from].title);
     EXPECT(!s->dealt, "set %" PRIu64 " was dealt twice", m->number);
     take_down_halves();
@@ -132,7 +177,27 @@ static void observe_dealt(enum part from, const struct message *m)
     s->settings.terms.code = m->words[0];
     s->settings.terms.n = m->words[1];
     s->settings.threshold = (int32_t)m->words[2];
+    EXPECT(same_settings(&s->settings, &settings),
+        "set %" PRIu64 " was announced for other settings than those that the dealer has",
+        m->number);
     tally.dealt++;
+    if (has_one)
+        use_stock(m->number);
+}
+
+/* The next set is on the sticks before it is announced, and announced before it is handed out. */
+static void observe_ahead(enum part from, const struct message *m)
+{
+    struct seen *s = set_of(m->number);
+    EXPECT(from == DEALER && m->words[0] <= OFFICE, "the %s announces a set", PART[from].title);
+    EXPECT(!s->dealt, "set %" PRIu64 " was announced when it was handed out already", m->number);
+    take_down_halves();
+    EXPECT(s->half[CAMERA] != 0 && s->half[OFFICE] != 0,
+        "set %" PRIu64 " was announced without its halves", m->number);
+    if (m->number > newest_ahead)
+        tally.ahead++;
+    newest_ahead = m->number;
+    ahead_for = settings;
 }
 
 /* The test knows the vector and sees it masked: no other set of this box may have had this mask.
@@ -197,6 +262,8 @@ void observe(enum part from, const struct message *m)
     left(from, m->number);
     if (m->kind == HOST_DEALT)
         observe_dealt(from, m);
+    else if (m->kind == HOST_AHEAD)
+        observe_ahead(from, m);
     else if (m->kind == HOST_VERDICT)
         observe_verdict(from, m);
     else if (m->kind <= DOOR_ANSWER)

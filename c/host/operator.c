@@ -11,8 +11,27 @@ static bool start_operator(struct link *link)
     return claim("operator.running") && open_link(link, OPERATOR, NULL);
 }
 
+/* Whether this says that what is waited for came to nothing. A set before it may have failed at
+   the other box as well, which says so later. */
+static bool is_failure(const struct message *message, uint32_t kind, uint64_t number)
+{
+    if (message->kind != HOST_FAILED || message->sender >= OPERATOR)
+        return false;
+    return kind == HOST_DEALT ? message->sender == DEALER
+                              : number != 0 && message->number == number;
+}
+
+static void say_failure(const struct message *message)
+{
+    uint32_t why = message->words[0];
+    say("set %" PRIu64 " came to nothing at the %s: %s", message->number,
+        PART[message->sender].title,
+        why == DOOR_ACCEPTED ? "its log says why" : refusal_words(why));
+}
+
 /* Waits for a message of this kind and set (any set if 0), and passes over others; false where the
-   set came to nothing. */
+   set came to nothing, with the message that says so, or where nothing came, with one of kind
+   HOST_ASK. */
 static bool wait_for(
     const struct link *link, uint32_t kind, uint64_t number, struct message *message)
 {
@@ -20,17 +39,14 @@ static bool wait_for(
     for (int64_t left; (left = deadline - milliseconds_now()) > 0;) {
         if (receive(link, (int)left, message, NULL) != RECEIVED)
             break;
-        bool ours = number == 0 || message->number == number;
-        if (message->kind == kind && ours)
+        if (message->kind == kind && (number == 0 || message->number == number))
             return true;
-        if (message->kind == HOST_FAILED && message->sender < OPERATOR && ours) {
-            uint32_t why = message->words[0];
-            say("set %" PRIu64 " came to nothing at the %s: %s", message->number,
-                PART[message->sender].title,
-                why == DOOR_ACCEPTED ? "its log says why" : refusal_words(why));
+        if (is_failure(message, kind, number)) {
+            say_failure(message);
             return false;
         }
     }
+    *message = (struct message){.kind = HOST_ASK};
     if (number == 0)
         say("no answer (%s) came within %d seconds", kind_words(kind), PATIENCE / 1000);
     else
@@ -51,18 +67,41 @@ static bool send_begin(
     return send_to(link, box, &begin);
 }
 
-static int check(const struct link *link, const struct vector *vector)
+/* Asks for a set and begins with it; true where the lock has spoken. `said` is what came last. */
+static bool check_once(
+    const struct link *link, const struct vector *vector, struct message *said)
 {
     const struct message deal = {.kind = HOST_DEAL, .sender = OPERATOR};
-    struct message dealt, verdict;
-    if (!send_to(link, DEALER, &deal) || !wait_for(link, HOST_DEALT, 0, &dealt))
+    if (!send_to(link, DEALER, &deal) || !wait_for(link, HOST_DEALT, 0, said))
+        return false;
+    const uint64_t number = said->number;
+    return send_begin(link, CAMERA, number, vector) && send_begin(link, OFFICE, number, vector)
+        && wait_for(link, HOST_VERDICT, number, said);
+}
+
+/* Whether another set may fare better. A box that was switched off has lost the set that it had
+   loaded ahead. But what it says of the vector, its length or range, it would say with any set. */
+static bool another_may_do(const struct message *said)
+{
+    bool box_failed =
+        said->kind == HOST_FAILED && (said->sender == CAMERA || said->sender == OFFICE);
+    uint32_t why = said->words[0];
+    return box_failed && why != DOOR_WRONG_LENGTH && why != DOOR_OUT_OF_RANGE;
+}
+
+static int check(const struct link *link, const struct vector *vector)
+{
+    struct message said = {.kind = HOST_ASK};
+    int sets = 1;
+    bool answered = check_once(link, vector, &said);
+    for (; !answered && another_may_do(&said) && sets < SETS_FOR_A_CHECK; sets++) {
+        say("the check begins again with another set");
+        answered = check_once(link, vector, &said);
+    }
+    if (!answered)
         return EXIT_TROUBLE;
-    if (!send_begin(link, CAMERA, dealt.number, vector)
-        || !send_begin(link, OFFICE, dealt.number, vector)
-        || !wait_for(link, HOST_VERDICT, dealt.number, &verdict))
-        return EXIT_TROUBLE;
-    bool open = verdict.words[0] == 1;
-    printf("lock: set %" PRIu64 ": %s\n", verdict.number, open ? "OPEN" : "STAY SHUT");
+    bool open = said.words[0] == 1;
+    printf("lock: set %" PRIu64 ": %s\n", said.number, open ? "OPEN" : "STAY SHUT");
     return open ? EXIT_OPEN : EXIT_SHUT;
 }
 
@@ -86,7 +125,8 @@ static bool is_here(const struct link *link, enum part part)
         if (!wait_for(link, HOST_HERE, 0, &here))
             return false;
     while (here.sender != part);
-    printf("%s: running, last number %" PRIu64 "\n", PART[part].title, here.number);
+    printf("%s: running, last number %" PRIu64 "%s\n", PART[part].title, here.number,
+        here.words[0] == 1 ? ", with the next set ready" : "");
     return true;
 }
 

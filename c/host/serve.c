@@ -20,9 +20,11 @@ void send_failed(const struct link *link, uint64_t number, uint32_t why)
     send_to(link, OPERATOR, &failed);
 }
 
-static void answer_here(const struct link *link, uint64_t last)
+static void answer_here(const struct link *link, const struct served *served)
 {
-    const struct message here = {.kind = HOST_HERE, .sender = link->self, .number = last};
+    bool ready = served->is_ready != NULL && served->is_ready(served->state);
+    const struct message here = {.kind = HOST_HERE, .sender = link->self,
+        .number = *served->last, .words = {ready}, .count = 1};
     send_to(link, OPERATOR, &here);
 }
 
@@ -36,7 +38,7 @@ int serve(enum part self, const char *via, const struct served *served)
     say("ready; the last number is %" PRIu64, *served->last);
     while ((receipt = receive(&link, -1, &message, NULL)) == RECEIVED) {
         if (message.kind == HOST_ASK)
-            answer_here(&link, *served->last);
+            answer_here(&link, served);
         else
             served->handle(served->state, &link, &message);
         explicit_bzero(&message, sizeof message);

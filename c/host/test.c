@@ -23,7 +23,10 @@
 
 #define KILLS 350              /* at the least, in the middle of a check */
 #define KILLS_AT_STAGE 20      /* at the least, at each stage of a check */
+#define KILLS_AHEAD 30         /* at the least, of a box with a set waiting, and of a dealer with
+                                  one dealt ahead */
 #define KILLS_MOST 1500        /* if these do not bring it about, the test fails */
+#define TURNS 21               /* checks of which the median time is taken */
 
 _Noreturn void fail_at(const char *file, int line, const char *format, ...)
 {
@@ -49,8 +52,6 @@ uint64_t chance(uint64_t below)
     drawn = drawn * 6364136223846793005u + 1442695040888963407u;
     return (drawn >> 33) % below;
 }
-
-static struct settings settings;
 
 static int32_t element(uint32_t code)
 {
@@ -83,21 +84,48 @@ static int32_t threshold_near(int64_t found)
     return (int32_t)(t < low ? low : t > high ? high : t);
 }
 
-static void draw_check(void)
+static void write_settings_anew(void)
 {
-    static const size_t lengths[] = {1, 2, 17, 18, 128, 511, 512};
-    settings.terms.code = (uint32_t)chance(3);
-    settings.terms.n = lengths[chance(sizeof lengths / sizeof *lengths)];
-    draw_vector(CAMERA);
-    draw_vector(OFFICE);
-    settings.threshold =
-        threshold_near(measure(settings.terms, current[CAMERA], current[OFFICE]));
     FILE *file = fopen("dealer/settings", "w");
     EXPECT(file != NULL
             && fprintf(file, "%" PRIu32 " %zu %" PRId32 "\n", settings.terms.code,
                    settings.terms.n, settings.threshold) > 0
             && fclose(file) == 0,
         "cannot write the settings");
+}
+
+/* What changes from one check to the next. As long as the settings stay, a set that was dealt ahead
+   is handed out. */
+enum change { VECTORS, THRESHOLD, CODE, ALL };
+
+static enum change some_change(void)
+{
+    static const enum change changes[] = {
+        VECTORS, VECTORS, VECTORS, VECTORS, THRESHOLD, CODE, ALL, ALL};
+    return changes[chance(sizeof changes / sizeof *changes)];
+}
+
+static void draw_settings(enum change change)
+{
+    static const size_t lengths[] = {1, 2, 17, 18, 128, 511, 512};
+    if (change == CODE || change == ALL) {
+        settings.terms.code = (uint32_t)chance(3);
+        if (change == ALL)
+            settings.terms.n = lengths[chance(sizeof lengths / sizeof *lengths)];
+        draw_vector(CAMERA);
+        draw_vector(OFFICE);
+    }
+    settings.threshold =
+        threshold_near(measure(settings.terms, current[CAMERA], current[OFFICE]));
+    write_settings_anew();
+}
+
+static void draw_check(enum change change)
+{
+    if (change != VECTORS)
+        draw_settings(change);
+    else if (chance(2) == 0)
+        draw_vector((enum part)chance(2)); /* else those before, which are near the threshold */
     write_vector("office/vector", current[OFFICE]);
 }
 
@@ -120,8 +148,10 @@ static void send_begin(enum part box)
 
 /* Kills. */
 
-static unsigned long begun, kills[PARTS], kills_at[STAGES], asked_again;
+static unsigned long begun, kills[PARTS], kills_at[STAGES], kills_with[PARTS][STOCKS];
+static unsigned long asked_again, begun_anew;
 static int64_t usual_ns = 20000000; /* an undisturbed check's time */
+static bool box_lost_power;         /* since the last check that was answered */
 
 /* When a part is to be killed: after a time, or when so many messages of the check were seen. */
 struct plan {
@@ -135,16 +165,26 @@ static struct plan draw_plan(void)
 {
     struct plan p = {.due = true, .at_ns = INT64_MAX, .at_message = UINT32_MAX};
     p.victim = chance(8) == 0 ? PARTS : (enum part)chance(4);
-    if (chance(2) == 0)
+    if (check.pace == STUCK || chance(2) == 0)
         p.at_ns = now_ns() + (int64_t)chance((uint64_t)(usual_ns + usual_ns / 8));
     else
-        p.at_message = 1 + (unsigned)chance(7);
+        p.at_message = 1 + (unsigned)chance(9);
     return p;
 }
 
 static bool is_victim(const struct plan *p, enum part part)
 {
     return p->victim == PARTS || p->victim == part;
+}
+
+static void lose_power(enum part part)
+{
+    lose_stock(part);
+    cut_power(part);
+    inspect_dead(part);
+    start_child(part);
+    if (part == CAMERA || part == OFFICE)
+        box_lost_power = true;
 }
 
 /* All victims die before any loses its power or starts: what each had sent is then all there is,
@@ -162,9 +202,8 @@ static void carry_out(struct plan *p)
     for (enum part part = CAMERA; part <= LOCK; part++)
         if (is_victim(p, part)) {
             inspect_dead(part);
-            cut_power(part);
-            inspect_dead(part);
-            start_child(part);
+            kills_with[part][stock_of(part)]++;
+            lose_power(part);
         }
 }
 
@@ -202,21 +241,41 @@ static bool is_due(const struct plan *p)
     return p->due && (now_ns() >= p->at_ns || check.messages >= p->at_message);
 }
 
+static bool is_told_later(enum part box)
+{
+    return box == check.told_later
+        && (check.stage < MASKED || (check.told_last && !check.announced[box]));
+}
+
 /* The boxes are told to begin as soon as the set is dealt, or one of them somewhat later. */
 static void begin_when_due(void)
 {
     for (enum part box = CAMERA; box <= OFFICE; box++)
-        if (!check.told[box] && check.number != 0
-            && (box != check.told_later || check.stage >= MASKED)) {
+        if (!check.told[box] && check.number != 0 && !is_told_later(box)) {
             check.told[box] = true;
             send_begin(box);
             carry_late();
         }
 }
 
+/* The program's own operator sees to failures itself. */
 static bool is_over(void)
 {
-    return check.stage == REPORTED || check.failed;
+    return check.stage == REPORTED || (check.failed && !operator_runs);
+}
+
+/* As the operator does: where a box has lost the set that was dealt ahead, another is asked for.
+   One more must do. */
+static void begin_anew_when_lost(void)
+{
+    if (!check.failed || !box_lost_power || check.sets > 1 || operator_runs)
+        return;
+    begun_anew++;
+    check.sets++;
+    check.failed = check.told[CAMERA] = check.told[OFFICE] = false;
+    check.number = 0;
+    check.stage = ASKED;
+    send_deal();
 }
 
 static enum part some_box_or_none(void)
@@ -225,19 +284,22 @@ static enum part some_box_or_none(void)
     return drawn_box == 2 ? PARTS : (enum part)drawn_box;
 }
 
-static void start_check(void)
+static void start_check(enum change change)
 {
     memset(&check, 0, sizeof check);
     check.told_later = some_box_or_none();
+    check.told_last = deals_ahead && chance(2) == 0;
     check.word_first = PARTS;
-    draw_check();
+    check.sets = 1;
+    draw_check(change);
     begun++;
 }
 
 /* One check in which a part is killed. It may be answered or not; the next must find all well. */
 static void disturbed_check(void)
 {
-    start_check();
+    start_check(some_change());
+    check.pace = (enum pace)chance(STUCK + 1);
     struct plan p = draw_plan();
     disorder = true;
     send_deal();
@@ -247,6 +309,7 @@ static void disturbed_check(void)
         if (is_due(&p))
             break;
         begin_when_due();
+        begin_anew_when_lost();
     }
     carry_out(&p);
     check.told_later = PARTS;
@@ -256,6 +319,8 @@ static void disturbed_check(void)
     begin_when_due();
     settle();
     disorder = false;
+    if (carry_late_announcement())
+        settle();
 }
 
 static void expect_answer(void)
@@ -263,28 +328,44 @@ static void expect_answer(void)
     const int64_t deadline = now_ns() + PATIENCE_NS;
     while (!is_over()) {
         pump_before(deadline);
+        begin_anew_when_lost();
         if (!operator_runs)
             begin_when_due();
     }
-    EXPECT(!check.failed, "set %" PRIu64 ": an undisturbed check came to nothing", check.number);
+    EXPECT(check.stage == REPORTED, "set %" PRIu64 ": an undisturbed check came to nothing",
+        check.number);
+    box_lost_power = false;
 }
 
-static void undisturbed_check(void)
+/* When all is quiet, the dealer and both boxes are ready for the next check. */
+static void expect_ready(void)
 {
-    start_check();
-    check.word_first = some_box_or_none();
+    settle();
+    EXPECT(ready[DEALER] == deals_ahead, "the dealer has %s dealt ahead",
+        deals_ahead ? "no set" : "a set");
+    for (enum part box = CAMERA; box <= OFFICE; box++)
+        EXPECT(ready[box] == deals_ahead, "the %s has %s loaded ahead", PART[box].title,
+            deals_ahead ? "no set" : "a set");
+}
+
+static void undisturbed_check(enum change change)
+{
+    start_check(change);
+    check.pace = deals_ahead && chance(2) == 0 ? SLOW : USUAL;
+    if (check.pace == USUAL)
+        check.word_first = some_box_or_none();
     const int64_t start = now_ns();
     send_deal();
     expect_answer();
     usual_ns = (3 * usual_ns + (now_ns() - start)) / 4;
-    settle();
+    expect_ready();
 }
 
 /* The same by the program's own operator, whose exit status tells what the lock said. */
-static void operators_check(void)
+static void operators_check(enum change change)
 {
     char *const arguments[] = {"door-host", "check", ".", "picture", NULL};
-    start_check();
+    start_check(change);
     write_vector("picture", current[CAMERA]);
     bool open =
         measure(settings.terms, current[CAMERA], current[OFFICE]) >= settings.threshold;
@@ -294,7 +375,48 @@ static void operators_check(void)
     operator_runs = false;
     EXPECT(end_of(process) == (open ? EXIT_OPEN : EXIT_SHUT),
         "the operator's exit status is wrong");
+    expect_ready();
+}
+
+static void switch_off_and_on(enum part part)
+{
+    kill_child(part);
+    pump_what_is_there();
+    lose_power(part);
+    hear_from(part);
+}
+
+/* A box that has lost the set that was dealt ahead fails the check, and the operator gets it
+   answered with another set. */
+static void operator_asks_again(enum part box)
+{
+    switch_off_and_on(box);
+    unsigned long failed = tally.failed;
+    operators_check(VECTORS);
+    EXPECT(tally.failed > failed, "the %s did not miss the set that it had lost",
+        PART[box].title);
+}
+
+/* A vector with an element out of range is refused, and another set would not help. */
+static void operator_gives_up(void)
+{
+    char *const arguments[] = {"door-host", "check", ".", "picture", NULL};
+    const int64_t deadline = now_ns() + PATIENCE_NS;
+    unsigned long dealt = tally.dealt;
+    start_check(ALL);
+    current[CAMERA][0] = 1024;
+    write_vector("picture", current[CAMERA]);
+    operator_runs = true;
+    int process = start_program(arguments);
+    while (!check.failed)
+        pump_before(deadline);
     settle();
+    EXPECT(end_of(process) == EXIT_TROUBLE, "the operator takes a vector that is out of range");
+    pump_what_is_there();
+    operator_runs = false;
+    EXPECT(check.why == DOOR_OUT_OF_RANGE, "it is refused by %" PRIu32, check.why);
+    EXPECT(tally.dealt == dealt + 1, "the operator tries another set with a refused vector");
+    draw_vector(CAMERA);
 }
 
 /* Refusals. */
@@ -337,16 +459,26 @@ static void damaged_numbers(enum part part)
     hear_from(part);
 }
 
-/* A half that was cut to so many bytes, or has one bit changed at that place. */
+/* The settings are others than before: the set that was dealt ahead is of no use. */
+static void draw_other_threshold(void)
+{
+    settings.threshold += settings.threshold > 0 ? -1 : 1;
+    write_settings_anew();
+}
+
+/* A half that was cut to so many bytes, or has one bit changed at that place, of a set that was not
+   dealt ahead: one that was is in the box already. */
 static void refuses_half(enum part box, size_t cut_to, size_t changed, uint32_t why)
 {
     const int64_t deadline = now_ns() + PATIENCE_NS;
     uint8_t half[DOOR_HALF_MOST + 1];
     size_t size;
-    start_check();
+    start_check(VECTORS);
+    draw_other_threshold();
     send_deal();
     while (check.number == 0)
         pump_before(deadline);
+    settle(); /* nobody looks at the sticks any more */
     EXPECT(read_half(box, check.number, half, &size) && changed < size, "no half");
     half[changed] ^= 1;
     EXPECT(write_half(box, check.number, half, cut_to < size ? cut_to : size), "no half");
@@ -364,6 +496,76 @@ static void damaged_halves(enum part box)
     refuses_half(box, DOOR_HALF_MOST, 8, DOOR_BAD_BLOCK); /* the block's place */
     refuses_half(box, 3 * DOOR_BLOCK - 1, 0, DOOR_WRONG_LENGTH);
     refuses_half(box, 0, 0, DOOR_WRONG_LENGTH);
+}
+
+/* Someone begins with a set of which the half is on the stick again. */
+static void refuses_spent_half(enum part box, uint64_t number)
+{
+    const int64_t deadline = now_ns() + PATIENCE_NS;
+    put_half_back(box, number);
+    check.number = number;
+    check.failed = false;
+    send_begin(box);
+    while (!check.failed)
+        pump_before(deadline);
+    EXPECT(check.why == DOOR_WRONG_NUMBER, "a spent half is refused by %" PRIu32, check.why);
+}
+
+/* The dealer's word that a set is dealt ahead comes a second time, and its half is there again. */
+static void announce_again(enum part box)
+{
+    const struct message ahead = {.kind = HOST_AHEAD, .sender = DEALER, .number = newest_ahead,
+        .words = {box}, .count = 1};
+    put_half_back(box, newest_ahead);
+    send_surely(box, &ahead);
+    hear_from(box);
+    EXPECT(!ready[box], "the %s has loaded a spent half ahead", PART[box].title);
+}
+
+/* A check that goes on until each box has sent its masked vector and has the next set waiting. */
+static void begin_and_stop(void)
+{
+    const int64_t deadline = now_ns() + PATIENCE_NS;
+    start_check(VECTORS);
+    check.told_later = PARTS;
+    check.pace = STUCK;
+    send_deal();
+    while (!check.told[OFFICE] || !check.announced[OFFICE]) {
+        pump_before(deadline);
+        begin_when_due();
+    }
+    settle();
+}
+
+/* A check behind one that came to nothing: the box that is told later gets the other's masked
+   vector while its own set still waits. */
+static void check_behind_a_stuck_one(enum part told_later)
+{
+    begin_and_stop();
+    start_check(VECTORS);
+    check.told_later = told_later;
+    send_deal();
+    expect_answer();
+    expect_ready();
+}
+
+/* The half of a set that was loaded ahead: the set was used, or lost with the box's power, when it
+   was open or while it waited. */
+static void spent_halves_ahead(enum part box)
+{
+    undisturbed_check(VECTORS);
+    refuses_spent_half(box, check.number);
+    expect_ready(); /* the set behind it is not lost by that */
+    switch_off_and_on(box);
+    refuses_spent_half(box, newest_ahead);
+    announce_again(box);
+    undisturbed_check(VECTORS);
+    begin_and_stop();
+    EXPECT(stock_of(box) == WAITING_AHEAD, "no set waits at the %s", PART[box].title);
+    switch_off_and_on(box);
+    announce_again(box);
+    refuses_spent_half(box, newest_ahead);
+    undisturbed_check(VECTORS);
 }
 
 static void second_process(enum part part)
@@ -396,6 +598,11 @@ static void refusals(void)
     }
     damaged_halves(CAMERA);
     damaged_halves(OFFICE);
+    spent_halves_ahead(CAMERA);
+    spent_halves_ahead(OFFICE);
+    check_behind_a_stuck_one(CAMERA);
+    check_behind_a_stuck_one(OFFICE);
+    operator_gives_up();
     for (uint32_t why = DOOR_BAD_NAME; why <= DOOR_BAD_SUM; why++)
         EXPECT(strcmp(refusal_words(why), refusal_words(why - 1)) != 0, "no words for %" PRIu32,
             why);
@@ -412,10 +619,17 @@ static unsigned long killed_midway(void)
     return killed() - kills_at[REPORTED];
 }
 
+/* With a set waiting at the box that was killed. */
+static unsigned long killed_waiting(void)
+{
+    return kills_with[CAMERA][WAITING_AHEAD] + kills_with[OFFICE][WAITING_AHEAD];
+}
+
 /* A test whose kills all fall beside the checks would show nothing. */
 static bool killed_enough(void)
 {
-    bool enough = killed_midway() >= KILLS;
+    bool enough = killed_midway() >= KILLS && killed_waiting() >= KILLS_AHEAD
+        && kills_with[DEALER][READY_AHEAD] >= KILLS_AHEAD;
     for (enum stage stage = ASKED; stage < REPORTED; stage++)
         enough = enough && kills_at[stage] >= KILLS_AT_STAGE;
     return enough;
@@ -423,8 +637,13 @@ static bool killed_enough(void)
 
 static void expect_enough(void)
 {
-    EXPECT(killed_enough(), "of %lu kills only %lu fell into a check, or too few at some stage",
-        killed(), killed_midway());
+    EXPECT(killed_enough(),
+        "of %lu kills only %lu fell into a check, or too few at some stage; %lu with a set waiting "
+        "at the box, %lu with one dealt ahead at the dealer",
+        killed(), killed_midway(), killed_waiting(), kills_with[DEALER][READY_AHEAD]);
+    EXPECT(tally.taken >= 50 && tally.unused >= 50 && begun_anew >= 5,
+        "of %lu sets dealt ahead %lu were handed out and %lu left unused, and %lu times one was "
+        "lost: too few", tally.ahead, tally.taken, tally.unused, begun_anew);
     for (enum part part = CAMERA; part <= LOCK; part++)
         EXPECT(kills[part] >= 30, "the %s was killed only %lu times", PART[part].title,
             kills[part]);
@@ -440,8 +659,70 @@ static void summary(void)
         kills[OFFICE], kills[LOCK], killed_midway());
     for (enum stage stage = ASKED; stage < REPORTED; stage++)
         printf("%s%lu %s", stage == ASKED ? " (" : ", ", kills_at[stage], STAGE[stage]);
-    printf("); asked again %lu times; %lu sets dealt, %lu messages seen, no number used twice\n",
+    printf("); asked again %lu times; %lu sets handed out, %lu messages seen, no number used "
+           "twice\n",
         asked_again, tally.dealt, tally.messages);
+    printf("c/host/test: %lu sets dealt ahead: %lu handed out, %lu left unused by other settings; "
+           "killed with a set waiting: %lu boxes, loaded ahead and open: %lu boxes, dealt ahead: "
+           "%lu dealers; %lu checks begun anew with another set\n",
+        tally.ahead, tally.taken, tally.unused, killed_waiting(),
+        kills_with[CAMERA][READY_AHEAD] + kills_with[OFFICE][READY_AHEAD],
+        kills_with[DEALER][READY_AHEAD], begun_anew);
+}
+
+/* Times. */
+
+static int by_size(const void *a, const void *b)
+{
+    int64_t x = *(const int64_t *)a, y = *(const int64_t *)b;
+    return (x > y) - (x < y);
+}
+
+/* The median time from a check's end to the next one's first masked vector. The next one is asked
+   for at once; where that is not so, when all is quiet, and the time is from the asking on. */
+static double turn_ms(bool at_once)
+{
+    int64_t turns[TURNS], start;
+    undisturbed_check(VECTORS);
+    start = check.report_ns;
+    for (int i = 0; i < TURNS; i++) {
+        if (!at_once) {
+            expect_ready();
+            start = now_ns();
+        }
+        memset(&check, 0, sizeof check);
+        check.told_later = check.word_first = PARTS;
+        begun++;
+        send_deal();
+        expect_answer();
+        turns[i] = check.vector_ns - start;
+        start = check.report_ns;
+    }
+    qsort(turns, TURNS, sizeof *turns, by_size);
+    return (double)turns[TURNS / 2] / 1e6;
+}
+
+static void restart_dealer(bool ahead)
+{
+    settle();
+    stop_child(DEALER);
+    lose_stock(DEALER);
+    deals_ahead = ahead;
+    start_child(DEALER);
+}
+
+static void print_times(void)
+{
+    double at_once = turn_ms(true), quiet = turn_ms(false);
+    restart_dealer(false);
+    undisturbed_check(VECTORS); /* uses up what the boxes had loaded ahead */
+    double at_once_without = turn_ms(true), quiet_without = turn_ms(false);
+    restart_dealer(true);
+    undisturbed_check(ALL);
+    printf("c/host/test: to the first masked vector, median of %d: from the verdict before it "
+           "%.2f ms, without load ahead %.2f ms; from the asking, all quiet, %.2f ms and %.2f "
+           "ms\n",
+        TURNS, at_once, at_once_without, quiet, quiet_without);
 }
 
 static void set_up_door(const char *folder)
@@ -474,17 +755,20 @@ int main(int count, char **arguments)
     atexit(kill_what_is_left);
     set_up_door(arguments[2]);
     for (int i = 0; i < 10; i++)
-        undisturbed_check();
+        undisturbed_check(ALL);
     while (!killed_enough() && killed() < KILLS_MOST) {
         disturbed_check();
         if (chance(4) == 0)
-            undisturbed_check();
+            undisturbed_check(some_change());
     }
     refusals();
     for (int i = 0; i < 10; i++)
-        undisturbed_check();
+        undisturbed_check(some_change());
     for (int i = 0; i < 4; i++)
-        operators_check();
+        operators_check(some_change());
+    operator_asks_again(CAMERA);
+    operator_asks_again(OFFICE);
+    print_times();
     for (enum part part = CAMERA; part <= LOCK; part++)
         stop_child(part);
     expect_enough();

@@ -26,6 +26,8 @@ uint64_t chance(uint64_t below);
 
 /* children.c: the four processes, and the power. */
 
+extern bool deals_ahead; /* else a dealer that is started does not */
+
 void name_program(const char *path);
 void start_child(enum part part);
 void kill_child(enum part part); /* SIGKILL, and waits until it is dead */
@@ -53,6 +55,10 @@ enum stage { ASKED, DEALT, MASKED, WORDS, ANSWERS, REPORTED, STAGES };
 
 extern const char *const STAGE[STAGES];
 
+/* When a box gets the other's masked vector: at once, when the next set has been announced to it,
+   or not at all. */
+enum pace { USUAL, SLOW, STUCK };
+
 /* The check that is under way. */
 struct check {
     uint64_t number; /* 0 before the deal */
@@ -60,20 +66,28 @@ struct check {
     unsigned messages;
     bool failed;
     uint32_t why;          /* it failed */
+    unsigned sets;         /* that were asked for */
     bool told[2];          /* to begin */
     enum part told_later;  /* the box that is told when the other's masked vector has come */
+    bool told_last;        /* and when the next set has been announced to it too */
     enum part word_first;  /* the box that gets the other's word before the masked vector */
-    struct message vector; /* which is held back until then */
+    enum pace pace;
+    bool announced[2]; /* the next set, to each box */
+    bool held[2];      /* by box, a masked vector that is held back */
+    struct message vector[2];
+    int64_t vector_ns, report_ns; /* when the first masked vector was seen, and the verdict */
 };
 
 extern struct check check;
 extern bool disorder;             /* the network doubles messages and delays them */
 extern bool operator_runs;        /* the program's own operator asks for the check */
+extern bool ready[PARTS];         /* said with its last HOST_HERE that it has the next set ready */
 extern struct message answers[2]; /* the last of each box, to be sent to the lock again */
 
 int64_t now_ns(void);
 void open_network(void);
-void carry_late(void); /* hands on the message that was delayed, if there is one */
+void carry_late(void);              /* hands on the message that was delayed, if there is one */
+bool carry_late_announcement(void); /* if it is the dealer's: whether it was */
 
 /* Handles one message, if one comes before that time. */
 bool pump_until(int64_t time);
@@ -91,9 +105,27 @@ void settle(void);
 
 struct tally {
     unsigned long messages, dealt, answered, open, shut, failed;
+    unsigned long ahead;  /* sets that were dealt ahead */
+    unsigned long taken;  /* of these, handed out */
+    unsigned long unused; /* and left unused since the settings had changed */
 };
 
 extern struct tally tally;
+
+/* What the dealer is to deal for, as its file has it. */
+extern struct settings settings;
+
+bool same_settings(const struct settings *a, const struct settings *b);
+
+/* What a part has of the set that was dealt ahead last. */
+enum stock { NOTHING_AHEAD, READY_AHEAD, WAITING_AHEAD, STOCKS };
+
+/* A box has it ready, or waiting behind the check that is under way; the dealer has it ready until
+   it hands it out. */
+enum stock stock_of(enum part part);
+void lose_stock(enum part part); /* with its power */
+
+extern uint64_t newest_ahead; /* the number of that set */
 
 /* The vectors that the boxes would mask if they began now: the camera's, the office's. */
 extern int32_t current[2][DOOR_LENGTH_MOST];
@@ -104,8 +136,8 @@ void observe(enum part from, const struct message *message);
    lost its power: its files must know of all that has left it. */
 void inspect_dead(enum part part);
 
-/* Puts the box's half of the set that was dealt last back on the stick, as someone may who has
-   kept a copy. */
+/* Puts the box's half of one of the sets that were dealt last back on the stick, as someone may who
+   has kept a copy. */
 void put_half_back(enum part box, uint64_t number);
 
 int64_t measure(struct door_terms terms, const int32_t *x, const int32_t *y);

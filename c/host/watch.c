@@ -32,7 +32,7 @@ int run_watch(void)
         }
         uint8_t bytes[DATAGRAM_MOST];
         size_t size = encode(&message, bytes);
-        enum part to = destination(from, message.kind);
+        enum part to = destination(from, &message);
         if (message.kind != HOST_HERE)
             show(from, to, &message, bytes, size);
         send_to(&link, to, &message);

@@ -28,7 +28,8 @@ static const struct content CONTENTS[] = {
     {HOST_VERDICT, 1, 1, "verdict"},
     {HOST_FAILED, 1, 1, "failed"},
     {HOST_ASK, 0, 0, "ask"},
-    {HOST_HERE, 0, 0, "here"},
+    {HOST_HERE, 1, 1, "here"},
+    {HOST_AHEAD, 1, 1, "ahead"},
 };
 
 static const struct content *content_of(uint32_t kind)
@@ -45,13 +46,19 @@ const char *kind_words(uint32_t kind)
     return content == NULL ? "message of no known kind" : content->words;
 }
 
-enum part destination(enum part from, uint32_t kind)
+enum part destination(enum part from, const struct message *message)
 {
-    if (kind == DOOR_ANSWER)
+    switch (message->kind) {
+    case DOOR_ANSWER:
         return LOCK;
-    if (kind == DOOR_MASKED_VECTOR || kind == DOOR_WORD)
+    case DOOR_MASKED_VECTOR:
+    case DOOR_WORD:
         return from == CAMERA ? OFFICE : CAMERA;
-    return OPERATOR;
+    case HOST_AHEAD:
+        return message->words[0] == OFFICE ? OFFICE : CAMERA;
+    default:
+        return OPERATOR;
+    }
 }
 
 static void put_little(uint8_t *bytes, size_t size, uint64_t number)

@@ -20,7 +20,7 @@
 #include <stddef.h>
 #include <stdint.h>
 
-/* Kinds beside those of door.h: between the operator and the parts. */
+/* Kinds beside those of door.h: between the operator, the dealer and the other parts. */
 enum host_kind {
     HOST_DEAL = 16,    /* to the dealer: deal a set */
     HOST_DEALT = 17,   /* its answer: the halves are on the sticks; code, length, threshold */
@@ -28,7 +28,8 @@ enum host_kind {
     HOST_VERDICT = 19, /* from the lock: 1 open, 0 stay shut */
     HOST_FAILED = 20,  /* to the operator: this set came to nothing; the refusal, or 0 */
     HOST_ASK = 21,     /* to any part: are you there */
-    HOST_HERE = 22     /* its answer, with its last number */
+    HOST_HERE = 22,    /* its answer: its last number; 1 if it has the next set ready, else 0 */
+    HOST_AHEAD = 23    /* from the dealer to a box: this set is dealt ahead; the box's party */
 };
 
 struct message {
@@ -45,8 +46,8 @@ struct message {
 
 const char *kind_words(uint32_t kind);
 
-/* To whom a part's message of this kind goes: what one needs who hands messages on. */
-enum part destination(enum part from, uint32_t kind);
+/* To whom a part's message goes: what one needs who hands messages on. */
+enum part destination(enum part from, const struct message *message);
 
 size_t encode(const struct message *message, uint8_t bytes[DATAGRAM_MOST]);
 
