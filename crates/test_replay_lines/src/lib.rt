@@ -4,3 +4,4 @@ pub mod kept;
 pub mod lines;
 pub mod memory;
 pub mod put;
+pub mod shown;

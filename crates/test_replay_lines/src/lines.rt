@@ -39,10 +39,12 @@ pub const DROP: usize = 13;
 
 pub const PUT: usize = 14;
 
-// A line that is no command, and one that asks for nothing.
-pub const BAD_LINE: usize = 15;
+pub const WAITING: usize = 15;
 
-pub const COMMENT: usize = 16;
+// A line that is no command, and one that asks for nothing.
+pub const BAD_LINE: usize = 16;
+
+pub const COMMENT: usize = 17;
 
 // The parts, as `show` counts them; the boxes' numbers are 0 and 1.
 pub const CAMERA: u64 = 0;
@@ -230,9 +232,9 @@ pub fn read(line: &[u8], b: &mut [u8; BYTES], n: [u64; NUMBERS]) -> Line {
     }
     let command = place_of(
         test_script::field(line, 0),
-        b"dealer deal lock join host show party load mixed bytes mask take finish drop put",
+        b"dealer deal lock join host show party load mixed bytes mask take finish drop put waiting",
     );
     let kinds =
-        b"BBBN NBWWWRR BN WBWNaWBWNa BNWBWNaWBWNa P XBWBN XXKWW XJKJ XB XVM XWBWNv XWBWNw X XWWWW ";
+        b"BBBN NBWWWRR BN WBWNaWBWNa BNWBWNaWBWNa P XBWBN XXKWW XJKJ XB XVM XWBWNv XWBWNw X XWWWW XNWW ";
     read_fields(command, test_script::part(kinds, b' ', command), line, b, n)
 }

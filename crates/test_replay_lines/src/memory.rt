@@ -2,11 +2,12 @@
 // lent, while a reference to a struct is not covered by the borrow checker.
 ghost use Prim.Native.Nat.{_+_, _≤_};
 
-// The size of a slot, 19 blocks: a box's state fits.
+// The size of a slot, 19 blocks: the most bytes of a field.
 pub const SLOT: usize = 9728;
 
 // Slots 1 to 12 hold what the fields of a line say. Slot 0 holds what a call is handed, or the bytes
-// whose tag answers it, and OTHER the second such bytes.
+// whose tag answers it, and OTHER the second such bytes. A box's state goes on into slot 1: the field
+// of `show` names a part and has no bytes there.
 pub const FIELDS: usize = 13;
 
 pub const OTHER: usize = 12;

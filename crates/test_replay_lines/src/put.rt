@@ -4,6 +4,7 @@ use crate::lines::Line;
 use crate::memory;
 use crate::memory::BYTES;
 use crate::memory::OTHER;
+use crate::shown;
 use test_script::ROOM;
 
 // Poly1305's key for a tag that stands for long bytes: the bytes 0 to 31.
@@ -82,11 +83,11 @@ fn hosted(b: &[u8; BYTES], l: Line, out: &mut [u8; ROOM], at: usize) -> usize {
 }
 
 // How many bytes a part's state has.
-fn state_size(part: u64) -> u64 {
+fn state_size(part: u64) -> usize {
     match part {
-        lines::THE_DEALER => 88,
-        lines::THE_LOCK => 24,
-        _ => 9608,
+        lines::THE_DEALER => shown::DEALER,
+        lines::THE_LOCK => shown::LOCK,
+        _ => shown::BOX,
     }
 }
 
@@ -109,10 +110,10 @@ pub fn answer(
     match command {
         lines::COMMENT => at,
         lines::BAD_LINE => bad_line(place, out, at),
-        lines::PUT => test_script::put_text(out, at, b"put"),
+        lines::PUT | lines::WAITING => test_script::put_text(out, at, b"put"),
         lines::HOST => hosted(b, l, out, at),
         lines::DEAL => two_tags(b, l, out, at),
-        lines::SHOW => tag(b, 0, state_size(l.part), out, at),
+        lines::SHOW => tag(b, 0, memory::wide(state_size(l.part)), out, at),
         lines::MASK => {
             let next = accepted(out, at);
             tag(b, 0, 4 * (l.f3 % 1024), out, next)

@@ -19,7 +19,7 @@ pub fn closed() -> Door {
     }
 }
 
-// A start, `put` or `show`. Every part is handed the line, and those that it does not ask answer zeros:
+// A start, `put`, `waiting` or `show`. Every part is handed the line, and those that it does not ask answer zeros:
 // with no branch here the walk carries each state once.
 fn prepare(door: Door, b: &mut [u8; BYTES], l: Line) -> DoorAnswer {
     let d = starts::dealer(door.dealer, b, l);

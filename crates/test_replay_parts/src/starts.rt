@@ -1,4 +1,5 @@
-// The starts of a door's parts, and what a script does to a state beside its calls: `put` and `show`.
+// The starts of a door's parts, and what a script does to a state beside its calls: `put`, `waiting`
+// and `show`.
 use crate::states;
 use call_dealer::Dealer;
 use call_dealer::DealerAnswer;
@@ -92,7 +93,20 @@ fn put(p: Party, l: Line) -> PartyAnswer {
     silent_box(next)
 }
 
-// show BOX: the state's bytes go to slot 0.
+// waiting BOX NUMBER CODE L
+fn put_waiting(p: Party, l: Line) -> PartyAnswer {
+    let code = memory::low(l.f3);
+    let n = memory::size(l.f4);
+    let terms = Terms { code, n };
+    let mut waiting = p.waiting;
+    waiting.number = l.f2;
+    waiting.terms = terms;
+    let mut next = p;
+    next.waiting = waiting;
+    silent_box(next)
+}
+
+// show BOX: the state's bytes go to slots 0 and 1.
 fn show_box(p: Party, b: &mut [u8; BYTES]) -> PartyAnswer {
     states::lay_party(b, p);
     silent_box(p)
@@ -103,6 +117,7 @@ fn asked_box(p: Party, b: &mut [u8; BYTES], l: Line) -> PartyAnswer {
     match command {
         lines::PARTY => start_party(p, b, l),
         lines::PUT => put(p, l),
+        lines::WAITING => put_waiting(p, l),
         lines::SHOW => show_box(p, b),
         _ => silent_box(p),
     }

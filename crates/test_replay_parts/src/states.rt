@@ -1,5 +1,5 @@
-// The states before the first start, and the bytes of a state, in slot 0. Each field stands at a
-// fixed place.
+// The states before the first start, and the bytes of a state, from slot 0 on. Each field stands at a
+// fixed place, below 17,096, the bytes of a box's state.
 ghost use Prim.Native.Nat.{_≤_};
 use base_messages::Identity;
 use base_messages::KEY;
@@ -9,11 +9,11 @@ use call_lock::Lock;
 use call_party::Check;
 use call_party::Party;
 use dcf_node::Correction;
-use dcf_node::Key;
 use half_content::Set;
 use measure_table::MOST_ELEMENTS;
 use test_replay_lines::memory;
 use test_replay_lines::memory::BYTES;
+use test_replay_lines::shown;
 
 pub fn no_dealer() -> Dealer {
     Dealer {
@@ -41,6 +41,7 @@ pub fn no_party() -> Party {
         who,
         last: 0,
         check,
+        waiting: half_content::no_set(),
     }
 }
 
@@ -60,94 +61,95 @@ fn lay_name(b: &mut [u8; BYTES], name: [u8; NAME]) {
 }
 
 fn lay_secret(b: &mut [u8; BYTES], at: usize, key: [u8; KEY])
-    requires { ⌜ at ≤ 9000 ⌝ }
+    requires { ⌜ at ≤ 17096 ⌝ }
 {
     base_slices::copy(b, at, &key);
 }
 
 fn lay_word(b: &mut [u8; BYTES], at: usize, w: u32)
-    requires { ⌜ at ≤ 9000 ⌝ }
+    requires { ⌜ at ≤ 17096 ⌝ }
 {
     base_slices::store(b, at, w);
 }
 
 fn lay_wide(b: &mut [u8; BYTES], at: usize, n: u64)
-    requires { ⌜ at ≤ 9000 ⌝ }
+    requires { ⌜ at ≤ 17096 ⌝ }
 {
     base_slices::store_all(b, at, &[memory::low(n), high(n)]);
 }
 
 fn lay_words(b: &mut [u8; BYTES], at: usize, w: [u32; 2])
-    requires { ⌜ at ≤ 9600 ⌝ }
+    requires { ⌜ at ≤ 17096 ⌝ }
 {
     base_slices::store_all(b, at, &w);
 }
 
 fn lay_seed(b: &mut [u8; BYTES], at: usize, seed: [u32; 8])
-    requires { ⌜ at ≤ 9000 ⌝ }
+    requires { ⌜ at ≤ 17096 ⌝ }
 {
     base_slices::store_all(b, at, &seed);
 }
 
 fn lay_vector(b: &mut [u8; BYTES], at: usize, w: [u32; MOST_ELEMENTS])
-    requires { ⌜ at ≤ 9000 ⌝ }
+    requires { ⌜ at ≤ 17096 ⌝ }
 {
     base_slices::store_all(b, at, &w);
 }
 
 fn lay_correction(b: &mut [u8; BYTES], at: usize, c: Correction)
-    requires { ⌜ at ≤ 8000 ⌝ }
+    requires { ⌜ at ≤ 17060 ⌝ }
 {
     let seed = c.seed;
     lay_seed(b, at, seed);
     lay_words(b, at + 32, [c.word, c.flags]);
 }
 
-fn lay_corrections(b: &mut [u8; BYTES], corrections: [Correction; 32]) {
+fn lay_corrections(b: &mut [u8; BYTES], at: usize, corrections: [Correction; 32])
+    requires { ⌜ at ≤ 15812 ⌝ }
+{
     let mut i: usize = 0;
     while i < 32 {
-        lay_correction(b, 6268 + 40 * i, corrections[i]);
+        lay_correction(b, at + shown::CORRECTION * i, corrections[i]);
         i += 1;
     }
 }
 
-fn lay_key(b: &mut [u8; BYTES], key: Key) {
-    let corrections = key.corrections;
-    lay_corrections(b, corrections);
-    lay_word(b, 7548, key.last);
-}
-
-fn lay_set(b: &mut [u8; BYTES], s: Set) {
+// A set from a place on: that of the open one, or that of the waiting one.
+fn lay_set(b: &mut [u8; BYTES], at: usize, s: Set)
+    requires { ⌜ at ≤ 9608 ⌝ }
+{
     let mask = s.mask;
     let x = s.x;
     let y = s.y;
     let seed = s.seed;
-    let key = s.key;
-    lay_wide(b, 64, s.number);
-    lay_word(b, 72, s.terms.code);
-    lay_wide(b, 76, memory::wide(s.terms.n));
-    lay_vector(b, 84, mask);
-    lay_vector(b, 2132, x);
-    lay_vector(b, 4180, y);
-    lay_words(b, 6228, [s.c, s.r]);
-    lay_seed(b, 6236, seed);
-    lay_key(b, key);
+    let corrections = s.key.corrections;
+    lay_wide(b, at, s.number);
+    lay_word(b, at + shown::CODE_AT, s.terms.code);
+    lay_wide(b, at + shown::LENGTH_AT, memory::wide(s.terms.n));
+    lay_vector(b, at + shown::MASK_AT, mask);
+    lay_vector(b, at + shown::X_AT, x);
+    lay_vector(b, at + shown::Y_AT, y);
+    lay_words(b, at + shown::C_AND_R_AT, [s.c, s.r]);
+    lay_seed(b, at + shown::SEED_AT, seed);
+    lay_corrections(b, at + shown::CORRECTIONS_AT, corrections);
+    lay_word(b, at + shown::FINAL_WORD_AT, s.key.last);
 }
 
-// 9,608 bytes.
 pub fn lay_party(b: &mut [u8; BYTES], p: Party) {
     let name = p.who.name;
     let key = p.who.key;
     let set = p.check.set;
     let masked = p.check.masked;
+    let waiting = p.waiting;
     lay_name(b, name);
-    lay_word(b, 16, p.who.party);
-    lay_secret(b, 20, key);
-    lay_wide(b, 52, p.last);
-    lay_word(b, 60, p.check.phase);
-    lay_set(b, set);
-    lay_vector(b, 7552, masked);
-    lay_words(b, 9600, [p.check.own, p.check.word]);
+    lay_word(b, shown::PARTY_AT, p.who.party);
+    lay_secret(b, shown::KEY_AT, key);
+    lay_wide(b, shown::LAST_AT, p.last);
+    lay_word(b, shown::PHASE_AT, p.check.phase);
+    lay_set(b, shown::OPEN_AT, set);
+    lay_vector(b, shown::MASKED_AT, masked);
+    lay_words(b, shown::OWN_AND_WORD_AT, [p.check.own, p.check.word]);
+    lay_set(b, shown::WAITING_AT, waiting);
 }
 
 // 88 bytes.

@@ -4,10 +4,10 @@ use Rattle.test_replay_parts.proofs.states.lay_corrections.Statement.{s
 use Rattle.test_replay_parts.proofs.states.lay_corrections.Tie as tie
 
 abbrev Inv-loop : tie.InvT-loop
-Inv-loop b₀ corrections i₀ b i = Unit {0}
+Inv-loop b₀ at corrections i₀ b i = Unit {0}
 
 abbrev μ-loop : tie.MeasureT-loop
-μ-loop b₀ corrections i₀ b i = 32 - i
+μ-loop b₀ at corrections i₀ b i = 32 - i
 
 loop-holds : tie.Need-loop-holds Inv-loop μ-loop
 loop-holds c = search needs

@@ -1,0 +1,55 @@
+// The bytes of a state that `show` answers the tag of (docs/REPLAY.md): where each field stands, past the
+// one before it, and how many there are.
+
+// A vector: 512 words.
+pub const VECTOR: usize = 2048;
+
+// A correction of a comparison key: 8 seed words, word and flags.
+pub const CORRECTION: usize = 40;
+
+// The fields of a set, open or waiting. Its number comes first.
+pub const CODE_AT: usize = 8;
+
+pub const LENGTH_AT: usize = CODE_AT + 4;
+
+pub const MASK_AT: usize = LENGTH_AT + 8;
+
+pub const X_AT: usize = MASK_AT + VECTOR;
+
+pub const Y_AT: usize = X_AT + VECTOR;
+
+pub const C_AND_R_AT: usize = Y_AT + VECTOR;
+
+pub const SEED_AT: usize = C_AND_R_AT + 8;
+
+pub const CORRECTIONS_AT: usize = SEED_AT + 32;
+
+pub const FINAL_WORD_AT: usize = CORRECTIONS_AT + 32 * CORRECTION;
+
+// 7,488 bytes.
+pub const SET: usize = FINAL_WORD_AT + 4;
+
+// The fields of a box. Its name, 16 bytes, comes first.
+pub const PARTY_AT: usize = 16;
+
+pub const KEY_AT: usize = PARTY_AT + 4;
+
+pub const LAST_AT: usize = KEY_AT + 32;
+
+pub const PHASE_AT: usize = LAST_AT + 8;
+
+pub const OPEN_AT: usize = PHASE_AT + 4;
+
+pub const MASKED_AT: usize = OPEN_AT + SET;
+
+pub const OWN_AND_WORD_AT: usize = MASKED_AT + VECTOR;
+
+pub const WAITING_AT: usize = OWN_AND_WORD_AT + 8;
+
+// 17,096 bytes.
+pub const BOX: usize = WAITING_AT + SET;
+
+// A dealer's name, two keys and last number; a lock's name and last number.
+pub const DEALER: usize = 88;
+
+pub const LOCK: usize = 24;
