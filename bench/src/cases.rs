@@ -23,6 +23,8 @@ enum Call {
         phase: usize,
         step: MakeStep,
     },
+    /// A load at the timed box with a set open and one waiting.
+    LoadFull,
     Join {
         number: u64,
     },
@@ -69,9 +71,10 @@ pub const COPY_STATE: Case = Case {
 };
 
 /// The calls of a check, in their order.
-pub const ACCEPTED: [Case; 8] = [
+pub const ACCEPTED: [Case; 9] = [
     deal("deal", 0, THRESHOLD),
     on_box("load", 0, 0, |known, out| known.step(0, out)),
+    on_box("load ahead", 0, 1, |known, _| Step::Load(&known.ahead)),
     on_box("mask", 0, 1, |known, out| known.step(1, out)),
     on_box("take", 0, 2, |known, out| known.step(2, out)),
     on_box("finish", 0, 3, |known, out| known.step(3, out)),
@@ -83,7 +86,11 @@ pub const ACCEPTED: [Case; 8] = [
 /// A refusal of each call, where it can be had one that comes late among its tests.
 pub const REFUSED: [Case; 9] = [
     deal("deal, threshold out of range", 8, 1 << 31),
-    on_box("load, out of turn", 3, 1, |known, out| known.step(0, out)),
+    Case {
+        name: "load, a set waits",
+        why: 3,
+        call: Call::LoadFull,
+    },
     on_box("load, a spent number", 7, 0, |known, _| {
         Step::Load(&known.spent)
     }),
@@ -175,6 +182,10 @@ impl Call {
                 let next = &mut states.of(who)[PARTY];
                 let step = step(known, &mut sent.masked[PARTY]);
                 who.step_to(&parts.phases[phase], next, step)
+            }
+            Call::LoadFull => {
+                let next = &mut states.of(who)[PARTY];
+                who.step_to(&parts.full, next, Step::Load(&known.ahead))
             }
             Call::Join { number } => {
                 let word = known.join(who, number);

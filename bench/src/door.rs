@@ -58,6 +58,19 @@ impl Input {
         }
     }
 
+    /// The timed box's half of the next set.
+    fn next_half(&self) -> Vec<u8> {
+        let mut halves = Sent::nothing(self.length).halves;
+        let [half0, half1] = &mut halves;
+        let order = Order {
+            number: NUMBER + 1,
+            ..self.order(THRESHOLD)
+        };
+        let why = Second.deal(&self.dealer(Second), &order, [half0, half1]);
+        assert_eq!(why, 0, "the next set's deal");
+        take(&mut halves[PARTY])
+    }
+
     fn dealer<C: Calls>(&self, who: C) -> C::Dealer {
         who.start_dealer(NAME, FLOOR, &self.keys)
     }
@@ -165,6 +178,8 @@ pub const THRESHOLD: u32 = 500;
 pub struct Known {
     pub input: Input,
     pub sent: Sent,
+    /// The half of the next set, which can be loaded ahead.
+    pub ahead: Vec<u8>,
     /// A half with a spent number, one with a bad last tag, and a vector with a bad last element.
     pub spent: Vec<u8>,
     pub broken: Vec<u8>,
@@ -183,6 +198,7 @@ impl Known {
         let mut wide = input.vectors[PARTY].clone();
         *wide.last_mut().expect("a vector has elements") = 1024;
         Known {
+            ahead: input.next_half(),
             input,
             sent,
             spent,
@@ -207,6 +223,8 @@ pub struct Parts<C: Calls> {
     pub started: [C::Party; 2],
     /// The timed box after so many of the four calls.
     pub phases: [C::Party; 4],
+    /// The timed box with a set open and one waiting.
+    pub full: C::Party,
 }
 
 impl<C: Calls> Parts<C> {
@@ -221,10 +239,14 @@ impl<C: Calls> Parts<C> {
             }
             party.clone()
         });
+        let mut full = phases[1].clone();
+        let said = who.step(&mut full, Step::Load(&known.ahead));
+        assert_eq!(said.why, 0, "{:?}: a load ahead", who.who());
         Parts {
             dealer: known.input.dealer(who),
             started,
             phases,
+            full,
         }
     }
 
@@ -233,8 +255,10 @@ impl<C: Calls> Parts<C> {
             dealer,
             started,
             phases,
+            full,
         } = other;
-        self.dealer == *dealer && self.started == *started && self.phases == *phases
+        let begun = self.dealer == *dealer && self.started == *started;
+        begun && self.phases == *phases && self.full == *full
     }
 
     /// A whole check, from the starts.

@@ -338,6 +338,7 @@ pub mod door {
     use second::dealer::Order;
     use second::lock::Answer;
     use second::message::Label;
+    use second::opened::OpenedSet;
     use second::{dcf, party};
     use std::mem::MaybeUninit;
 
@@ -389,6 +390,24 @@ pub mod door {
         key: ComparisonKey,
     }
 
+    impl Set {
+        /// The set as the second implementation has it.
+        fn plain(&self) -> OpenedSet {
+            OpenedSet {
+                number: self.number,
+                code: self.terms.code,
+                length: self.terms.n as u32,
+                own_mask: self.mask,
+                x_share: self.x,
+                y_share: self.y,
+                c: self.c,
+                r: self.r,
+                seed: self.seed,
+                key: self.key.plain(),
+            }
+        }
+    }
+
     /// The check that a box has open, as crates/call_party has it.
     #[repr(C)]
     #[derive(Clone, Copy, PartialEq)]
@@ -407,6 +426,7 @@ pub mod door {
         who: Identity,
         last: u64,
         check: Check,
+        waiting: Set,
     }
 
     /// What a call on a box answers: the next state is in it.
@@ -426,31 +446,25 @@ pub mod door {
 
         /// The state as the second implementation has it.
         pub fn plain(&self) -> party::Party {
-            let Party { who, last, check } = &self.party;
-            let set = &check.set;
+            let Party {
+                who,
+                last,
+                check,
+                waiting,
+            } = &self.party;
             party::Party {
                 name: who.name,
                 party: who.party,
                 key: who.key,
                 last: *last,
                 phase: check.phase,
-                set: party::OpenSet {
-                    number: set.number,
-                    code: set.terms.code,
-                    length: set.terms.n as u32,
-                    own_mask: set.mask,
-                    x_share: set.x,
-                    y_share: set.y,
-                    c: set.c,
-                    r: set.r,
-                    seed: set.seed,
-                    key: set.key.plain(),
-                },
+                set: check.set.plain(),
                 check: party::Check {
                     masked: check.masked,
                     own: check.own,
                     word: check.word,
                 },
+                waiting: waiting.plain(),
             }
         }
     }
