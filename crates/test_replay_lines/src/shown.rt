@@ -1,5 +1,10 @@
-// The bytes of a state that `show` answers the tag of (docs/REPLAY.md): where each field stands, past the
-// one before it, and how many there are.
+// The bytes of a state, whose tag answers `show` (docs/REPLAY.md): where each field stands, past the one
+// before it, and how many bytes there are.
+
+// A name, which every state begins with, and a secret key.
+pub const NAME: usize = 16;
+
+pub const KEY: usize = 32;
 
 // A vector: 512 words.
 pub const VECTOR: usize = 2048;
@@ -29,12 +34,12 @@ pub const FINAL_WORD_AT: usize = CORRECTIONS_AT + 32 * CORRECTION;
 // 7,488 bytes.
 pub const SET: usize = FINAL_WORD_AT + 4;
 
-// The fields of a box. Its name, 16 bytes, comes first.
-pub const PARTY_AT: usize = 16;
+// The fields of a box.
+pub const PARTY_AT: usize = NAME;
 
 pub const KEY_AT: usize = PARTY_AT + 4;
 
-pub const LAST_AT: usize = KEY_AT + 32;
+pub const LAST_AT: usize = KEY_AT + KEY;
 
 pub const PHASE_AT: usize = LAST_AT + 8;
 
@@ -49,7 +54,16 @@ pub const WAITING_AT: usize = OWN_AND_WORD_AT + 8;
 // 17,096 bytes.
 pub const BOX: usize = WAITING_AT + SET;
 
-// A dealer's name, two keys and last number; a lock's name and last number.
-pub const DEALER: usize = 88;
+// The fields of a dealer.
+pub const KEY0_AT: usize = NAME;
 
-pub const LOCK: usize = 24;
+pub const KEY1_AT: usize = KEY0_AT + KEY;
+
+pub const DEALER_LAST_AT: usize = KEY1_AT + KEY;
+
+pub const DEALER: usize = DEALER_LAST_AT + 8;
+
+// The fields of a lock.
+pub const LOCK_LAST_AT: usize = NAME;
+
+pub const LOCK: usize = LOCK_LAST_AT + 8;

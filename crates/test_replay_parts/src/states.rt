@@ -1,5 +1,5 @@
 // The states before the first start, and the bytes of a state, from slot 0 on. Each field stands at a
-// fixed place, below 17,096, the bytes of a box's state.
+// fixed place (`shown`), below the 17,096 bytes of a box's state.
 ghost use Prim.Native.Nat.{_≤_};
 use base_messages::Identity;
 use base_messages::KEY;
@@ -96,14 +96,16 @@ fn lay_vector(b: &mut [u8; BYTES], at: usize, w: [u32; MOST_ELEMENTS])
     base_slices::store_all(b, at, &w);
 }
 
+// The last one of a waiting set stands at 17,052.
 fn lay_correction(b: &mut [u8; BYTES], at: usize, c: Correction)
-    requires { ⌜ at ≤ 17060 ⌝ }
+    requires { ⌜ at ≤ 17052 ⌝ }
 {
     let seed = c.seed;
     lay_seed(b, at, seed);
     lay_words(b, at + 32, [c.word, c.flags]);
 }
 
+// Those of a waiting set stand at 15,812.
 fn lay_corrections(b: &mut [u8; BYTES], at: usize, corrections: [Correction; 32])
     requires { ⌜ at ≤ 15812 ⌝ }
 {
@@ -114,7 +116,7 @@ fn lay_corrections(b: &mut [u8; BYTES], at: usize, corrections: [Correction; 32]
     }
 }
 
-// A set from a place on: that of the open one, or that of the waiting one.
+// A set, open or waiting: the waiting one stands at 9,608.
 fn lay_set(b: &mut [u8; BYTES], at: usize, s: Set)
     requires { ⌜ at ≤ 9608 ⌝ }
 {
@@ -152,20 +154,18 @@ pub fn lay_party(b: &mut [u8; BYTES], p: Party) {
     lay_set(b, shown::WAITING_AT, waiting);
 }
 
-// 88 bytes.
 pub fn lay_dealer(b: &mut [u8; BYTES], d: Dealer) {
     let name = d.name;
     let key0 = d.key0;
     let key1 = d.key1;
     lay_name(b, name);
-    lay_secret(b, 16, key0);
-    lay_secret(b, 48, key1);
-    lay_wide(b, 80, d.last);
+    lay_secret(b, shown::KEY0_AT, key0);
+    lay_secret(b, shown::KEY1_AT, key1);
+    lay_wide(b, shown::DEALER_LAST_AT, d.last);
 }
 
-// 24 bytes.
 pub fn lay_lock(b: &mut [u8; BYTES], l: Lock) {
     let name = l.name;
     lay_name(b, name);
-    lay_wide(b, 16, l.last);
+    lay_wide(b, shown::LOCK_LAST_AT, l.last);
 }
