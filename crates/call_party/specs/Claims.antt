@@ -1,5 +1,5 @@
--- What a box may rely on when it loads ahead (02, §1): a set that was loaded ahead is, when the open one ends, just as
--- if it had been loaded then; and a message for a set that waits is refused. Assumes nothing.
+-- What a box may rely on when it loads ahead (02, §1): when the open set ends the waiting one is open, just as if it
+-- had been loaded then; and a message for a set that waits is refused. Assumes nothing. [SPEC 15.7, 18.5, 19.2, 27.8]
 use mathlib.Core.Path.{_≡_, refl, sym, ap, _∙_}
 use mathlib.Core.Bool.{Bool, true, false, not}
 use mathlib.Core.List.{List}
@@ -19,11 +19,32 @@ use Rattle.call_party.specs.declared.Check.{Check}
 use Rattle.call_party.specs.declared.Party.{Party}
 use Rattle.call_party.specs.Party.{idlePhase, noCheck, idle, isOpen, waits, stateFits, waitingFits, sound, inTurn}
 use Rattle.call_party.specs.Party.{highWater, whyNotLoad, opened, loaded, load, nextCheck, closed, whyNotMessage}
+use Rattle.call_party.specs.Party.{whyNotFinish, finish, whyNotDrop, dropSet}
 use Rattle.call_party.specs.Laws.{waterOf, load-tells, opened-long}
+
+-- ---- the open set ends
+
+-- the waiting set at its beginning, with nothing left of the check that ended; the last number stays
+abbrev pub promoted : Party → Party
+promoted s = record { who = s .who; last = s .last; check = opened (s .waiting); waiting = noSet }
+
+closed-promotes : (s : Party) → waits s ≡ true → closed s ≡ promoted s
+unfolding closed nextCheck
+closed-promotes s w = rw (ne-eqb (s .waiting .terms .n) 0 (eqb-false (s .waiting .terms .n) 0 (not-true _ w))) refl
+
+-- "The waiting set becomes the open one when the open one is answered or dropped"
+pub answered-promotes : (s : Party) (l : Label) (name : List ℕ) (w : ℕ) → waits s ≡ true → whyNotFinish s l name ≡ 0
+    → finish s l name w .party ≡ promoted s
+unfolding finish
+answered-promotes s l name w one e = sym (taken (closed s) s refl e) ∙ closed-promotes s one
+
+pub dropped-promotes : (s : Party) → waits s ≡ true → whyNotDrop s ≡ 0 → dropSet s .party ≡ promoted s
+unfolding dropSet
+dropped-promotes s one e = sym (taken (closed s) s refl e) ∙ closed-promotes s one
 
 -- ---- a set that was loaded ahead
 
--- the same box with no set open and none waiting, which is what ending the open set would have left
+-- the same box with no set open and none waiting: what ending the open set leaves where none waits
 abbrev pub ended : Party → Party
 ended s = idle (s .who) (s .last)
 
@@ -64,8 +85,8 @@ closed-loaded s set o l =
     rw o
     (ap (λ (c : Check). record { who = s .who; last = set .number; check = c; waiting = noSet }) (next-is set l))
 
--- "The waiting set becomes the open one": to load ahead and then to end the open set leaves the state that a load of
--- the same half leaves at that box with no set open
+-- to load ahead and then to end the open set leaves the state that a load of the same half leaves at that box with no
+-- set open
 pub ahead-then-ended : (s : Party) (h : List ℕ) → isOpen s ≡ true → whyNotLoad s h ≡ 0
     → closed (load s h .party) ≡ load (ended s) h .party
 unfolding load idle

@@ -52,7 +52,7 @@ idle who last = record { who = who; last = last; check = noCheck; waiting = noSe
 abbrev pub withCheck : Party → Check → Party
 withCheck s check = record { who = s .who; last = s .last; check = check; waiting = s .waiting }
 
--- whether a set is open, and whether one waits: a set that a load leaves has an L that is not 0
+-- whether a set is open, and whether one waits: a set that a load leaves has an L that is not 0 [SPEC 12.8, 12.17]
 abbrev pub isOpen : Party → Bool
 isOpen s = not (eqb (s .check .phase) idlePhase)
 
@@ -92,7 +92,8 @@ stateFits party phase terms =
     (leb phase takenPhase && (isCode (terms .code) && lengthFits terms))
 
 -- 02, §1: "in a state handed in, that" (a waiting number not above the open one), "or a waiting code or L that no load
--- leaves, is 01's third". No call leaves a waiting set with none open, and with none waiting all of it is zero.
+-- leaves, is 01's third". No call leaves a waiting set with none open, or with none waiting a waiting code.
+-- [SPEC 12.19, 23.3]
 unfoldable pub waitingFits : ℕ → ℕ → ℕ → Terms → Bool
 waitingFits phase number waitingNumber terms =
     cond (eqb (terms .n) 0) (eqb (terms .code) 0)
@@ -109,12 +110,12 @@ inTurn phase s = eqb (s .check .phase) phase && sound s
 
 -- ---- load
 
--- a half's number has to be above this: the last number, and with a set open its number too
+-- a half's number has to be above this: the last number, and with a set open its number too [SPEC 23.7]
 unfoldable pub highWater : ℕ → ℕ → ℕ → ℕ
 highWater phase number last = cond (not (eqb phase idlePhase) && leb last number) number last
 
 -- 02, §1: "A box may load one further set while another is still open. .. A load with a set already waiting is out of
--- turn"
+-- turn" [SPEC 15.1, 24.5]
 unfoldable pub whyNotLoad : Party → List ℕ → ℕ
 whyNotLoad s h =
     unless (not (waits s) && sound s) outOfTurn
@@ -125,7 +126,7 @@ whyNotLoad s h =
 unfoldable pub opened : Set → Check
 opened set = record { phase = loadedPhase; set = set; masked = replicate mostElements 0; own = 0; word = 0 }
 
--- the set is opened, or waits for the open one to end; its number is spent in either case
+-- the set is opened, or waits for the open one to end; its number is spent in either case [SPEC 15.3, 15.4, 15.6]
 unfoldable pub loaded : Party → Set → Party
 loaded s set = record {
   who = s .who;
@@ -209,7 +210,7 @@ takeVector s l name v =
 unfoldable pub whyNotFinish : Party → Label → List ℕ → ℕ
 whyNotFinish s l name = whyNotMessage takenPhase wordKind s l name (isName name)
 
--- 02, §1: "The waiting set becomes the open one when the open one is answered or dropped"
+-- 02, §1: "The waiting set becomes the open one when the open one is answered or dropped" [SPEC 18.5, 19.2]
 unfoldable pub nextCheck : Set → Check
 nextCheck waiting = cond (eqb (waiting .terms .n) 0) noCheck (opened waiting)
 

@@ -13,10 +13,6 @@ pub own-box : (b : Box) → sameBox b b ≡ true
 own-box camera = refl
 own-box office = refl
 
-pub other-twice : (b : Box) → other (other b) ≡ b
-other-twice camera = refl
-other-twice office = refl
-
 pub both : (P : Box → Type 0) → P camera → P office → (b : Box) → P b
 both P p q camera = p
 both P p q office = q

@@ -3,7 +3,7 @@
 use mathlib.Core.Path.{_≡_, sym, ap, subst, _∙_}
 use mathlib.Core.Bool.{Bool, true, cond}
 use mathlib.Core.List.{List, [], _∷_}
-use Prim.Native.Nat.{ℕ, suc, _<_}
+use Prim.Native.Nat.{ℕ, _<_}
 use borrow.Author.Tests.{lt-ltb}
 use Rattle.measure_table.specs.declared.Terms.{Terms}
 use Rattle.measure_table.specs.Measure.{isCode}
@@ -11,7 +11,7 @@ use Rattle.measure_table.specs.Laws.{any-length, reached-plain}
 use Rattle.half_deal.specs.Dealing.{Deal}
 use Rattle.door_lists.specs.Lists.{Box, Starts, Started, beginning, Call, camera, office, joined, after, events}
 use Rattle.door_lists.specs.Lists.{history, Admissible}
-use Rattle.door_lists.specs.Demand.{openSets, nothingMade, Answered, Free, NoWrongReport, NoReuse, AlwaysAnswered}
+use Rattle.door_lists.specs.Demand.{nothingMade, Answered, Free, NoWrongReport, NoReuse, AlwaysAnswered}
 use Rattle.door_lists.specs.Demand.{NeverStuck, CanEnd, CanDrop, NotEmpty, VerdictIs, Demand3}
 use Rattle.door_lists.proofs.Once.{single}
 use Rattle.door_lists.proofs.History.{look, in-deals, in-vectors}
@@ -75,10 +75,9 @@ can-drop : CanDrop
 unfolding CanDrop
 can-drop s f cs a b o =
     let h = history s cs in
-    let (e, n) = dropped-then s h (after (beginning s) cs) (always s f cs a) b o in
-    (ap (λ x. x ∷ h) e, ap (λ x. suc (openSets b (x ∷ h))) e ∙ n)
+    let (e, n) = dropped-then s h (after (beginning s) cs) (always s f cs a) b o in (ap (λ x. x ∷ h) e, n)
 
-coded : (terms : Terms) → terms .code < 3 → isCode (terms .code) ≡ true
+pub coded : (terms : Terms) → terms .code < 3 → isCode (terms .code) ≡ true
 unfolding isCode
 coded terms h = lt-ltb _ _ h
 

@@ -2,15 +2,14 @@
 use mathlib.Core.Path.{_≡_, refl, ap, _∙_}
 use mathlib.Core.List.{List, [], _∷_}
 use mathlib.Core.Bool.{true}
-use Prim.Native.Nat.{ℕ, suc, _≤_}
+use Prim.Native.Nat.{ℕ, _≤_}
 use native.Mathlib.Omega.{arith}
 use Rattle.measure_table.specs.Measure.{isCode, lengthFits}
 use Rattle.call_party.specs.Party as BoxCalls
-use Rattle.call_party.specs.Party.{whyNotDrop}
+use Rattle.call_party.specs.Party.{whyNotDrop, closed}
 use Rattle.door_lists.specs.Lists.{Box, World, Starts, Event, dealt, dropped, refused, drop, step}
 use Rattle.door_lists.specs.Demand.{openSets}
-use Rattle.door_lists.proofs.Boxes.{party-fits}
-use Rattle.door_lists.proofs.Parts.{open-dropped}
+use Rattle.door_lists.proofs.Boxes.{party-fits, put-own}
 use Rattle.door_lists.proofs.Dealt.{setOf, set-terms, set-n, Sound}
 use Rattle.door_lists.proofs.Goes.{OpenAt, Behind, none-behind, one-behind, drop-goes}
 use Rattle.door_lists.proofs.History.{Good, Dealt, look}
@@ -72,9 +71,9 @@ module _ (S : Starts) (h : List Event) where
             ap whyNotDrop shows
             ∙ drop-goes (phaseOf t) _ (slot-open (I .good) b _ (lastAt S b h) t ts (ok .holds) (ok .counted .rising))
 
-    pub dropped-then : (step w (drop b) .event ≡ dropped b) × (suc (openSets b (dropped b ∷ h)) ≡ openSets b h)
+    pub dropped-then : (step w (drop b) .event ≡ dropped b) × (step w (drop b) .world .box b ≡ closed (w .box b))
     unfolding BoxCalls.dropSet
     dropped-then = (
       new (whyNotDrop (w .box b)) (dropped b) (refused (whyNotDrop (w .box b))) not-refused,
-      omega (arith, open-dropped b h, open-set),
+      put-own (w .box) b _ ∙ new (whyNotDrop (w .box b)) (closed (w .box b)) (w .box b) not-refused,
     )

@@ -26,11 +26,11 @@ use Rattle.door_lists.proofs.Boxes.{both}
 
 -- ---- vectors of zeros: at every measure, T = 0 is reached and T = 1 is not
 
-zeros : ℕ → List ℕ
+abbrev zeros : ℕ → List ℕ
 zeros l = replicate l 0
 
 no-element : (l i : ℕ) → element (zeros l) i ≡ pos 0
-unfolding element zeros signed
+unfolding element signed
 no-element zero i = refl
 no-element (suc l) zero = refl
 no-element (suc l) (suc i) = no-element l i
@@ -49,7 +49,7 @@ no-measure zero l n = rw (no-product l n) refl
 no-measure (suc zero) l n = rw (no-product l n) refl
 no-measure (suc (suc code)) l n = rw (no-product l n) refl
 
-zero-fits : (code n : ℕ)
+pub zero-fits : (code n : ℕ)
     → (let terms : Terms = record { code = code; n = n } in
     (inRange terms 0 ≡ true) × (thresholdFits terms 0 ≡ true) × (thresholdFits terms 1 ≡ true))
 unfolding inRange thresholdFits within row scalarProduct squaredEuclid hamming signed
@@ -58,7 +58,7 @@ zero-fits (suc zero) n = (refl, refl, refl)
 zero-fits (suc (suc code)) n = (refl, refl, refl)
 
 zeros-fit : (terms : Terms) (l : ℕ) → allInRange terms (zeros l) ≡ true
-unfolding allInRange zeros
+unfolding allInRange
 zeros-fit terms zero = refl
 zeros-fit terms (suc l) = ap₂ _&&_ (zero-fits (terms .code) (terms .n) .0) (zeros-fit terms l)
 
@@ -66,14 +66,13 @@ zeros-fit terms (suc l) = ap₂ _&&_ (zero-fits (terms .code) (terms .n) .0) (ze
 
 module _ (n : ℕ) (terms : Terms) (small : n < 2 ^ 64) (coded : isCode (terms .code) ≡ true)
     (long : lengthFits terms ≡ true) where
-  abbrev nothing : List ℕ
-  nothing = zeros (terms .n)
+  abbrev pub zeroVector : List ℕ
+  zeroVector = zeros (terms .n)
 
-  abbrev dealOf : ℕ → Deal
-  dealOf t = dealFrom n (replicate 32 0) terms t
+  abbrev pub zeroDeal : ℕ → Deal
+  zeroDeal t = dealFrom n (replicate 32 0) terms t
 
-  zero-range : (t : ℕ) → thresholdFits terms t ≡ true → InRange (dealOf t) (λ b. nothing)
-  unfolding zeros
+  pub zero-range : (t : ℕ) → thresholdFits terms t ≡ true → InRange (zeroDeal t) (λ b. zeroVector)
   zero-range t k =
       record {
         number-fits = small;
@@ -85,19 +84,19 @@ module _ (n : ℕ) (terms : Terms) (small : n < 2 ^ 64) (coded : isCode (terms .
         elements-fit = λ b. zeros-fit terms (terms .n);
       }
 
-  zero-verdict : (verdict (dealOf 0) nothing nothing ≡ 1) × (verdict (dealOf 1) nothing nothing ≡ 0)
+  pub zero-verdict : (verdict (zeroDeal 0) zeroVector zeroVector ≡ 1) × (verdict (zeroDeal 1) zeroVector zeroVector ≡ 0)
   unfolding signed
   zero-verdict =
       let none = no-measure (terms .code) (terms .n) (terms .n) in
       (rw (reached-plain terms _ (pos 0), none) refl, rw (reached-plain terms _ (pos 1), none) refl)
 
   example : (s : Starts) (cs : List Call) (t bit : ℕ) → thresholdFits terms t ≡ true
-      → verdict (dealOf t) nothing nothing ≡ bit
-      → (InRange (dealOf t) (λ b. nothing) → Ended s cs (dealOf t) (λ b. nothing)) → Example s cs n terms bit
+      → verdict (zeroDeal t) zeroVector zeroVector ≡ bit
+      → (InRange (zeroDeal t) (λ b. zeroVector) → Ended s cs (zeroDeal t) (λ b. zeroVector)) → Example s cs n terms bit
   example s cs t bit k says ends =
       record {
-        d = dealOf t;
-        v = λ b. nothing;
+        d = zeroDeal t;
+        v = λ b. zeroVector;
         number-is = refl;
         terms-are = refl;
         in-range = zero-range t k;
@@ -109,8 +108,8 @@ module _ (n : ℕ) (terms : Terms) (small : n < 2 ^ 64) (coded : isCode (terms .
       → Example s cs n terms 1 × Example s cs n terms 0
   unfolding CanEnd
   examples ends s f cs a F =
-      let run : (t : ℕ) → InRange (dealOf t) (λ b. nothing) → Ended s cs (dealOf t) (λ b. nothing) =
-      λ t R. ends s f cs a (dealOf t) (λ b. nothing) R F in
+      let run : (t : ℕ) → InRange (zeroDeal t) (λ b. zeroVector) → Ended s cs (zeroDeal t) (λ b. zeroVector) =
+      λ t R. ends s f cs a (zeroDeal t) (λ b. zeroVector) R F in
       let fit = zero-fits (terms .code) (terms .n) in (
         example s cs 0 1 (fit .1) (zero-verdict .0) (run 0),
         example s cs 1 0 (fit .2) (zero-verdict .1) (run 1),

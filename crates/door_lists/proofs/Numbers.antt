@@ -5,18 +5,18 @@ use mathlib.Core.Bool.{Bool, true, false, cond, not}
 use mathlib.Core.List.{List, [], _∷_, _++_, map}
 use Prim.Native.Nat.{ℕ, suc, _<_, _≤_}
 use native.Mathlib.Omega.{arith}
-use borrow.Author.Tests.{eqb-true, eq-eqb, ne-eqb}
+use borrow.Author.Tests.{eqb-true, eq-eqb, ne-eqb, le-ltb}
 use lib.Dec.{eqb}
 use lib.ListN.{length, length-append, length-map}
 use Rattle.base_algebra.specs.Bit.{both}
 use Rattle.measure_table.specs.Measure.{isCode, lengthFits, ownWord}
 use Rattle.measure_table.specs.Laws.{length-fits}
 use Rattle.base_messages.specs.declared.Label.{Label}
-use Rattle.base_messages.specs.Messages.{outOfTurn, unless, ifTaken}
+use Rattle.base_messages.specs.Messages.{outOfTurn, wrongNumber, unless, ifTaken}
 use Rattle.half_content.specs.declared.Set.{Set}
 use Rattle.half_content.specs.Content as ContentIs
 use Rattle.half_content.specs.Content.{fill, noSet}
-use Rattle.half_seal.specs.Half.{setNumber, openedSet}
+use Rattle.half_seal.specs.Half.{wholeBlocks, whyNot, setNumber, openedSet}
 use Rattle.call_dealer.specs.declared.Dealer.{Dealer}
 use Rattle.call_dealer.specs.Dealer as DealerCalls
 use Rattle.call_dealer.specs.Laws.{deal-tells}
@@ -24,7 +24,7 @@ use Rattle.call_party.specs.declared.Party.{Party}
 use Rattle.call_party.specs.Party as BoxCalls
 use Rattle.call_party.specs.Party.{idle, inTurn, takeVector, dropSet}
 use Rattle.call_party.specs.Party.{whyNotLoad, whyNotMask, whyNotTake, whyNotFinish, whyNotDrop}
-use Rattle.call_party.specs.Laws.{waterOf, opened-fits, load-tells}
+use Rattle.call_party.specs.Laws.{waterOf, water-last, opened-fits, load-tells}
 use Rattle.call_lock.specs.declared.Lock.{Lock}
 use Rattle.call_lock.specs.Lock as LockCalls
 use Rattle.door_lists.specs.Lists.{Box, partyOf, other, put, World, Starts, Started, beginning}
@@ -36,10 +36,10 @@ use Rattle.door_lists.specs.Numbers.{Rise, NoTurn, numbersIn, NumbersKep
 use Rattle.door_lists.proofs.Accepted.{mask-tells, take-tells, finish-tells}
 use Rattle.door_lists.proofs.Accepted.{drop-tells, join-tells}
 use Rattle.door_lists.proofs.Boxes.{own-box, party-fits, put-all}
-use Rattle.door_lists.proofs.Goes.{Behind, none-behind, one-behind, drop-goes}
+use Rattle.door_lists.proofs.Goes.{OpenAt, Behind, none-behind, one-behind, idle-sound, open-sound, drop-goes}
 use Rattle.door_lists.proofs.History.{door}
 use Rattle.door_lists.proofs.Invariant.{phaseOf, firstIn, Fresh, FreshBehind, Long, behind-next, behind-load}
-use Rattle.door_lists.proofs.Invariant.{showing, closing, loads, lastAt, none-yet}
+use Rattle.door_lists.proofs.Invariant.{whoAt, showing, closing, loads, lastAt, none-yet}
 use Rattle.door_lists.proofs.Once.{All}
 use Rattle.door_lists.proofs.Parts.{Away, last-away, Own, own-load, own-sent, own-drop, last-loaded}
 use Rattle.door_lists.proofs.Parts.{other-away, dealt-away, joined-away, refused-away}
@@ -73,6 +73,24 @@ phase-some : (t : Slot) → (1 ≤ phaseOf t) × (phaseOf t ≤ 3)
 phase-some (fresh s) = (omega arith, omega arith)
 phase-some (masked s m o) = (omega arith, omega arith)
 phase-some (worded s m o w) = (omega arith, omega arith)
+
+-- a load at a box with a set waiting, and one of a number that is not above the last one
+waits-3 : (z : Party) (x : List ℕ) → 1 ≤ z .waiting .terms .n → whyNotLoad z x ≡ outOfTurn
+unfolding whyNotLoad unless
+waits-3 z x some = rw (ne-eqb (z .waiting .terms .n) 0 (λ e. omega (arith, some, e))) refl
+
+spent-7 : (z : Party) (x : List ℕ) → z .waiting .terms .n ≡ 0 → BoxCalls.sound z ≡ true → wholeBlocks x ≡ true
+    → setNumber x ≤ z .last → whyNotLoad z x ≡ wrongNumber
+unfolding whyNotLoad whyNot unless
+spent-7 z x none fits whole low =
+    rw (
+      eq-eqb (z .waiting .terms .n) 0 none,
+      fits,
+      whole,
+      le-ltb (waterOf z) (setNumber x)
+          (omega (arith, low, water-last (z .check .phase) (z .check .set .number) (z .last))),
+    )
+    refl
 
 module _ (S : Starts) where
   record Has (b : Box) (h : List Event) (ts : List Slot) : Type 0 where
@@ -216,6 +234,24 @@ module _ (S : Starts) where
       closes-to t ts k,
     )
 
+    -- such a state stands as 01's third refusal asks
+    behind-fits : (n : ℕ) (ts : List Slot) → All Fitting ts → Rising n last ts → Behind n (firstIn ts)
+    behind-fits n [] f r = none-behind n
+    behind-fits n (t ∷ ts) f r = one-behind n (setIn t) (r .0) (f .0 .0) (f .0 .1)
+
+    opened : (t : Slot) (ts : List Slot) → Has b h (t ∷ ts) → OpenAt (phaseOf t) (showing S b last (t ∷ ts))
+    opened t ts k =
+        record {
+          phase-is = refl;
+          some-phase = phase-some t .0;
+          last-phase = phase-some t .1;
+          party-fits = party-fits b;
+          code-fits = k .fitting .0 .0;
+          length-fits = k .fitting .0 .1;
+          waiting-fits = behind-fits (setIn t .number) ts (k .fitting .1) (k .counted .rising .1) (phaseOf t)
+              (phase-some t .0);
+        }
+
     -- the same at any state of the box
     module _ (p : Party) (a : BoxAt b h p) where
       box-loaded : (x : List ℕ) → whyNotLoad p x ≡ 0
@@ -266,23 +302,28 @@ module _ (S : Starts) where
       drops : 1 ≤ openSets b h → whyNotDrop p ≡ 0
       drops = at p a (λ z. 1 ≤ openSets b h → whyNotDrop z ≡ 0) go
         where
-          behind : (n : ℕ) (ts : List Slot) → All Fitting ts → Rising n last ts → Behind n (firstIn ts)
-          behind n [] f r = none-behind n
-          behind n (t ∷ ts) f r = one-behind n (setIn t) (r .0) (f .0 .0) (f .0 .1)
-
           go : (ts : List Slot) → Has b h ts → 1 ≤ openSets b h → whyNotDrop (showing S b last ts) ≡ 0
           go [] k o = absurd (omega (arith, o, k .counted .count))
-          go (t ∷ ts) k o =
-              drop-goes (phaseOf t) _ (record {
-                phase-is = refl;
-                some-phase = phase-some t .0;
-                last-phase = phase-some t .1;
-                party-fits = party-fits b;
-                code-fits = k .fitting .0 .0;
-                length-fits = k .fitting .0 .1;
-                waiting-fits = behind (setIn t .number) ts (k .fitting .1) (k .counted .rising .1) (phaseOf t)
-                    (phase-some t .0);
-              })
+          go (t ∷ ts) k o = drop-goes (phaseOf t) _ (opened t ts k)
+
+      -- with two sets a load is out of turn, and else one of a spent number is refused by it
+      full : openSets b h ≡ 2 → (x : List ℕ) → whyNotLoad p x ≡ outOfTurn
+      full two x = at p a (λ z. whyNotLoad z x ≡ outOfTurn) go
+        where
+          go : (ts : List Slot) → Has b h ts → whyNotLoad (showing S b last ts) x ≡ outOfTurn
+          go [] k = absurd (omega (arith, two, k .counted .count))
+          go (t ∷ []) k = absurd (omega (arith, two, k .counted .count))
+          go (t ∷ u ∷ ts) k = waits-3 _ x (length-fits (setIn u .terms) (k .fitting .1 .0 .1) .0)
+
+      spent : openSets b h ≤ 1 → (x : List ℕ) → wholeBlocks x ≡ true → setNumber x ≤ last → whyNotLoad p x ≡ wrongNumber
+      unfolding idle noSet
+      spent few x whole low = at p a (λ z. whyNotLoad z x ≡ wrongNumber) go
+        where
+          go : (ts : List Slot) → Has b h ts → whyNotLoad (showing S b last ts) x ≡ wrongNumber
+          go [] k = spent-7 (showing S b last []) x refl (idle-sound (whoAt S b) last (party-fits b)) whole low
+          go (t ∷ []) k =
+              spent-7 _ x refl (open-sound (phaseOf t) _ (opened t [] k)) whole low
+          go (t ∷ u ∷ ts) k = absurd (omega (arith, few, k .counted .count))
 
       numbers : numbersIn p ≡ held b h
       unfolding BoxCalls.noCheck noSet
@@ -413,7 +454,7 @@ no-turns w b e =
     }
 
 pub numbers-kept : NumbersKept
-unfolding NumbersKept dropSet ifTaken
+unfolding NumbersKept dropSet BoxCalls.load ifTaken
 numbers-kept s f cs =
     let h = history s cs in
     let w = after (beginning s) cs in
@@ -430,6 +471,8 @@ numbers-kept s f cs =
       drop-taken = λ b l. rw (drops s b h (w .box b) (I .box-at b) l) refl;
       drop-refused = λ b e. rw (drops-not (w .box b) (none-idle s b h (w .box b) (I .box-at b) e)) refl;
       no-turn = λ b e. no-turns w b (none-idle s b h (w .box b) (I .box-at b) e);
+      no-load = λ b two x. rw (full s b h (w .box b) (I .box-at b) two x) refl;
+      spent-load = λ b few x whole low. rw (spent s b h (w .box b) (I .box-at b) few x whole low) refl;
       held-count = λ b. let k = I .box-at b .1 .counted in
           ap length (sym (k .held-is)) ∙ length-map (I .box-at b .0) numberOf ∙ k .count;
       held-are = λ b. numbers s b h (w .box b) (I .box-at b);

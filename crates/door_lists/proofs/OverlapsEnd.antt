@@ -2,10 +2,10 @@
 -- ahead, whole. Assumes nothing.
 use mathlib.Core.Path.{_≡_, refl, sym, ap, ap₂, subst, _∙_}
 use mathlib.Core.List.{List, [], _∷_, _++_}
-use mathlib.Core.Logic.{inl}
-use Prim.Native.Nat.{ℕ, _<_}
+use Prim.Native.Nat.{ℕ, _^_, _<_}
 use native.Mathlib.Omega.{arith}
 use lib.ListN.{length, replicate}
+use Rattle.measure_table.specs.Laws.{any-length}
 use Rattle.half_deal.specs.Dealing.{Deal}
 use Rattle.call_dealer.specs.Dealer.{halfSize}
 use Rattle.door_lists.specs.Lists.{Box, camera, office, World, Starts, Started, beginning, Call, deal, load, mask}
@@ -13,12 +13,14 @@ use Rattle.door_lists.specs.Lists.{take, finish, join, Event, after, eve
 use Rattle.door_lists.specs.Demand.{onward, Answered, InRange, Free}
 use Rattle.door_lists.specs.Overlap.{Both, nothingYet, FirstReady, SecondReady, Overlap, begin, of-first}
 use Rattle.door_lists.specs.Overlap.{of-second, Two, BothAnswered, NeitherStuck, BothEnded, BothCanEnd, LoadAhead}
+use Rattle.door_lists.specs.Overlap.{TwoThereAre}
 use Rattle.door_lists.proofs.Boxes.{both}
-use Rattle.door_lists.proofs.Claims.{always}
+use Rattle.door_lists.proofs.Claims.{always, coded}
 use Rattle.door_lists.proofs.Ends.{events-both, admitted, fitting, third}
 use Rattle.door_lists.proofs.History.{door, halfOf}
 use Rattle.door_lists.proofs.Invariant.{door-long}
 use Rattle.door_lists.proofs.Made.{said}
+use Rattle.door_lists.proofs.NotEmpty.{zeroDeal, zeroVector, zero-range, zero-verdict, zero-fits}
 use Rattle.door_lists.proofs.Once.{in-left}
 use Rattle.door_lists.proofs.Overlaps.{At, ready, running, first-goes, second-goes, drop-goes-on}
 use Rattle.door_lists.proofs.OverlapsStuck.{never}
@@ -121,7 +123,7 @@ module _ (s : Starts) (cs : List Call) (d e : Deal) (v u : Box → List ℕ) (T 
       ((refl, (refl, refl), here refl), omega arith) in
       let w6 = next-second w5 (finish office (wordFrom s e u camera)) ((refl, (refl, refl), third), omega arith) in
       let w7 = next-second w6 (join (answerFrom s e u camera) (answerFrom s e u office))
-      ((refl, (refl, refl), there (here refl), (refl, refl), here refl), inl refl) in
+      ((refl, (refl, refl), there (here refl), (refl, refl), here refl), tt) in
       record {
         early = _;
         late = _ ∷ _ ∷ _ ∷ _ ∷ _ ∷ _ ∷ _ ∷ _ ∷ _ ∷ _ ∷ _ ∷ _ ∷ _ ∷ _ ∷ [];
@@ -136,6 +138,12 @@ module _ (s : Starts) (cs : List Call) (d e : Deal) (v u : Box → List ℕ) (T 
             (there (there (there (there (there (there (there (here refl))))))));
         before = _;
         second-says = history-is w7;
+        free = λ n l. subst (λ h. Free s h n) (sym (history-is w7)) (record {
+          none-open = both _ (rw (T .free .none-open camera) refl) (rw (T .free .none-open office) refl);
+          above-dealer = l;
+          above-box = both _ l l;
+          above-lock = l;
+        });
       }
 
 both-answered : BothAnswered
@@ -164,6 +172,32 @@ both-can-end : BothCanEnd
 unfolding BothCanEnd
 both-can-end s cs d e v u T = both-ended s cs d e v u T
 
+two-there-are : TwoThereAre
+unfolding TwoThereAre
+two-there-are s f cs a n m l small F p q cp sp lp cq sq lq =
+    let below : n < 2 ^ 64 = omega (arith, l, small) in
+    let fit = zero-fits (p .code) (p .n) in
+    let fit2 = zero-fits (q .code) (q .n) in (
+      zeroDeal n p below (coded p cp) (any-length p sp lp) 0,
+      zeroDeal m q small (coded q cq) (any-length q sq lq) 1,
+      (λ b. zeroVector n p below (coded p cp) (any-length p sp lp)),
+      (λ b. zeroVector m q small (coded q cq) (any-length q sq lq)),
+      record {
+        started = f;
+        admissible = a;
+        first-in-range = zero-range n p below (coded p cp) (any-length p sp lp) 0 (fit .1);
+        second-in-range = zero-range m q small (coded q cq) (any-length q sq lq) 1 (fit2 .2);
+        free = F;
+        above = l;
+      },
+      refl,
+      refl,
+      refl,
+      refl,
+      zero-verdict n p below (coded p cp) (any-length p sp lp) .0,
+      zero-verdict m q small (coded q cq) (any-length q sq lq) .1,
+    )
+
 pub load-ahead : LoadAhead
 unfolding LoadAhead
-load-ahead = (both-answered, neither-stuck, both-can-end)
+load-ahead = (both-answered, neither-stuck, both-can-end, two-there-are)

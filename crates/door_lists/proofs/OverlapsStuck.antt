@@ -5,20 +5,23 @@ use mathlib.Core.List.{List, [], _∷_}
 use mathlib.Core.Logic.{_⊎_, inl, inr}
 use Prim.Native.Nat.{ℕ, zero, suc, _<_, _≤_}
 use native.Mathlib.Omega.{arith}
-use lib.ListN.{length}
+use native.Mathlib.Decide.{decLe}
+use native.Mathlib.Nat.{lt-of-not-le}
+use lib.ListN.{length, replicate}
 use Rattle.half_deal.specs.Dealing.{Deal}
+use Rattle.call_dealer.specs.Dealer.{halfSize}
 use Rattle.door_lists.specs.Lists.{Box, camera, office, other, World, Starts, Call, deal, load, mask, take}
 use Rattle.door_lists.specs.Lists.{finish, drop, join, Event, dealt, loaded, sent, dropped, joined, refused}
 use Rattle.door_lists.specs.Lists.{events, In, here, there, step, after}
 use Rattle.door_lists.specs.Demand.{Progress, nothingMade, madeOne, onward, Ready, Whole, InRange}
 use Rattle.door_lists.specs.Overlap.{Both, nothingYet, endedAt, UnderWay, FirstInOrder, SecondInOrder, FirstReady}
 use Rattle.door_lists.specs.Overlap.{SecondReady, Overlap, begin, of-first, of-second, first-dropped, still}
-use Rattle.door_lists.specs.Overlap.{turned-down, BothDone}
-use Rattle.door_lists.proofs.Boxes.{each, put-all, other-twice}
+use Rattle.door_lists.specs.Overlap.{turned-down}
+use Rattle.door_lists.proofs.Boxes.{each, put-all}
 use Rattle.door_lists.proofs.History.{door, halfOf}
 use Rattle.door_lists.proofs.Made.{said}
 use Rattle.door_lists.proofs.Overlaps.{At, Holds, running, first-goes, second-goes, drop-goes-on}
-use Rattle.door_lists.proofs.Stuck.{Has, has-later, has-next, Next, goes-on}
+use Rattle.door_lists.proofs.Stuck.{Has, has-later, has-next, goes-on, room, maskFrom, wordFrom}
 use Rattle.door_lists.proofs.Unmoved.{unmoved}
 
 -- ---- kinds of events
@@ -47,28 +50,6 @@ before-drop : (b : Box) (x : Event) (h : List Event) → NoDrop x → In (droppe
 before-drop b x h n (here p) = absurd (n (sym (ap kindOf p)))
 before-drop b x h n (there i) = i
 
--- whether any was dropped
-abbrev Dropped : List Event → Type 0
-Dropped h = (b : Box) × In (dropped b) h
-
-some-dropped : (h : List Event) → Dropped h ⊎ ((b : Box) → In (dropped b) h → ⊥)
-some-dropped [] = inr (λ b i. elim i [ ])
-some-dropped (x ∷ h) = go (some-dropped h) x
-  where
-    later : Dropped h ⊎ ((b : Box) → In (dropped b) h → ⊥) → (y : Event) → NoDrop y
-        → Dropped (y ∷ h) ⊎ ((b : Box) → In (dropped b) (y ∷ h) → ⊥)
-    later (inl d) y n = inl (d .0, there (d .1))
-    later (inr f) y n = inr (λ b i. f b (before-drop b y h n i))
-
-    go : Dropped h ⊎ ((b : Box) → In (dropped b) h → ⊥) → (y : Event)
-        → Dropped (y ∷ h) ⊎ ((b : Box) → In (dropped b) (y ∷ h) → ⊥)
-    go k (dropped b) = inl (b, here refl)
-    go k (dealt d f) = later k (dealt d f) (λ e. omega (arith, e))
-    go k (loaded b n) = later k (loaded b n) (λ e. omega (arith, e))
-    go k (sent b n y) = later k (sent b n y) (λ e. omega (arith, e))
-    go k (joined n bit) = later k (joined n bit) (λ e. omega (arith, e))
-    go k (refused why) = later k (refused why) (λ e. omega (arith, e))
-
 -- a drop at one box is none at the other
 abbrev boxOf : Event → Box → ℕ
 boxOf (dealt d f) c = 0
@@ -84,6 +65,39 @@ boxOf (refused why) c = 0
 not-other : (b : Box) → dropped (other b) ≡ dropped b → ⊥
 not-other camera p = omega (arith, ap (λ (x : Event). boxOf x camera) p)
 not-other office p = omega (arith, ap (λ (x : Event). boxOf x office) p)
+
+not-in : {b : Box} {h : List Event} (y : Event) → (dropped b ≡ y → ⊥) → (In (dropped b) h → ⊥)
+    → In (dropped b) (y ∷ h) → ⊥
+not-in y n f (here p) = n p
+not-in y n f (there i) = f i
+
+at-drop : (b c : Box) (h : List Event) → In (dropped b) h ⊎ (In (dropped b) h → ⊥)
+    → In (dropped b) (dropped c ∷ h) ⊎ (In (dropped b) (dropped c ∷ h) → ⊥)
+at-drop camera camera h k = inl (here refl)
+at-drop office office h k = inl (here refl)
+at-drop camera office h (inl i) = inl (there i)
+at-drop camera office h (inr f) = inr (not-in (dropped office) (not-other office) f)
+at-drop office camera h (inl i) = inl (there i)
+at-drop office camera h (inr f) = inr (not-in (dropped camera) (not-other camera) f)
+
+-- whether box b dropped
+any-dropped : (b : Box) (h : List Event) → In (dropped b) h ⊎ (In (dropped b) h → ⊥)
+any-dropped b [] = inr (λ i. elim i [ ])
+any-dropped b (x ∷ h) = go (any-dropped b h) x
+  where
+    later : In (dropped b) h ⊎ (In (dropped b) h → ⊥) → (y : Event) → (dropped b ≡ y → ⊥)
+        → In (dropped b) (y ∷ h) ⊎ (In (dropped b) (y ∷ h) → ⊥)
+    later (inl i) y n = inl (there i)
+    later (inr f) y n = inr (not-in y n f)
+
+    go : In (dropped b) h ⊎ (In (dropped b) h → ⊥) → (y : Event)
+        → In (dropped b) (y ∷ h) ⊎ (In (dropped b) (y ∷ h) → ⊥)
+    go k (dropped c) = at-drop b c h k
+    go k (dealt d f) = later k (dealt d f) (λ e. omega (arith, ap kindOf e))
+    go k (loaded c n) = later k (loaded c n) (λ e. omega (arith, ap kindOf e))
+    go k (sent c n y) = later k (sent c n y) (λ e. omega (arith, ap kindOf e))
+    go k (joined n bit) = later k (joined n bit) (λ e. omega (arith, ap kindOf e))
+    go k (refused why) = later k (refused why) (λ e. omega (arith, ap kindOf e))
 
 -- before its first call
 none-has : (S : Starts) (d : Deal) (v : Box → List ℕ) → Has S d v nothingMade []
@@ -111,21 +125,17 @@ module _ (S : Starts) (d e : Deal) (v u : Box → List ℕ) (above : d .number <
     second-has : Has S e u (g .second) h
     loaded-deal : (b : Box) → 1 ≤ g .first .made b → (f : Box → List ℕ) × In (dealt d f) h
     deal-begun : (f : Box → List ℕ) → In (dealt d f) h → g .first .begun ≡ true
+    begun-deal : g .first .begun ≡ true → In (dealt d (halfOf S d)) h
     begun-order : g .second .begun ≡ true → g .first .begun ≡ true
-    ended-order : g .second .ended ≡ true → (g .first .ended ≡ true) ⊎ Dropped h
     dropped-ends : (b : Box) → In (dropped b) h → 4 ≤ g .first .made b
 
-  later-dropped : (x : Event) (h : List Event) → Dropped h → Dropped (x ∷ h)
-  later-dropped x h k = (k .0, there (k .1))
-
-  later-order : {A : Type 0} (x : Event) (h : List Event) → A ⊎ Dropped h → A ⊎ Dropped (x ∷ h)
-  later-order x h (inl a) = inl a
-  later-order x h (inr k) = inr (later-dropped x h k)
+  abbrev pub FirstNext : Both → List Event → Type 0
+  FirstNext g h = (c : Call) × FirstReady (door S) d e v u g h c
 
   abbrev pub Goes : Both → List Event → Type 0
   Goes g h =
-      BothDone g h ⊎ (((c : Call) × FirstReady (door S) d e v u g h c)
-      ⊎ (((c : Call) × SecondReady (door S) d e v u g h c)
+      (Whole (g .second) × ((b : Box) → 4 ≤ g .first .made b))
+      ⊎ (FirstNext g h ⊎ (((c : Call) × SecondReady (door S) d e v u g h c)
       ⊎ ((b : Box) × UnderWay (g .first) b × In (dropped (other b)) h)))
 
   module _ (g : Both) (h : List Event) (T : Track g h) where
@@ -145,8 +155,8 @@ module _ (S : Starts) (d e : Deal) (v u : Box → List ℕ) (above : d .number <
           second-has = has-later S e u (g .second) h x (T .second-has);
           loaded-deal = λ b l. let k = T .loaded-deal b l in (k .0, there (k .1));
           deal-begun = λ f i. T .deal-begun f (not-dealt x f m i);
+          begun-deal = λ z. there (T .begun-deal z);
           begun-order = T .begun-order;
-          ended-order = λ z. later-order x h (T .ended-order z);
           dropped-ends = λ b i. T .dropped-ends b (before-drop b x h n i);
         }
 
@@ -163,8 +173,8 @@ module _ (S : Starts) (d e : Deal) (v u : Box → List ℕ) (above : d .number <
           second-has = has-later S e u (g .second) h x (T .second-has);
           loaded-deal = λ c l. (D .0, there (D .1));
           deal-begun = λ f i. T .deal-begun f (not-dealt x f nd i);
+          begun-deal = λ z. there (T .begun-deal z);
           begun-order = T .begun-order;
-          ended-order = λ z. later-order x h (T .ended-order z);
           dropped-ends = put-all (λ c j. In (dropped c) (x ∷ h) → 4 ≤ j) (g .first .made) b (suc (g .first .made b))
               (λ i. omega (arith, T .dropped-ends b (before-drop b x h n i)))
               (λ i. T .dropped-ends (other b) (before-drop (other b) x h n i));
@@ -179,8 +189,8 @@ module _ (S : Starts) (d e : Deal) (v u : Box → List ℕ) (above : d .number <
           second-has = has-later S e u (g .second) h x (T .second-has);
           loaded-deal = λ b l. let k = T .loaded-deal b l in (k .0, there (k .1));
           deal-begun = λ f i. refl;
+          begun-deal = λ z. here (sym q);
           begun-order = λ z. refl;
-          ended-order = λ z. later-order x h (T .ended-order z);
           dropped-ends = λ b i. T .dropped-ends b (before-drop b x h n i);
         }
     track-first (load b y) (r, o) x q =
@@ -201,8 +211,8 @@ module _ (S : Starts) (d e : Deal) (v u : Box → List ℕ) (above : d .number <
           second-has = has-later S e u (g .second) h x (T .second-has);
           loaded-deal = λ b l. let k = T .loaded-deal b l in (k .0, there (k .1));
           deal-begun = λ f i. T .deal-begun f (not-dealt x f (λ z. omega (arith, z ∙ ap dealtNumber q)) i);
+          begun-deal = λ z. there (T .begun-deal z);
           begun-order = T .begun-order;
-          ended-order = λ z. inl refl;
           dropped-ends = λ b i. T .dropped-ends b (before-drop b x h no-drop i);
         }
 
@@ -226,12 +236,12 @@ module _ (S : Starts) (d e : Deal) (v u : Box → List ℕ) (above : d .number <
           second-has = has-next S e u (g .second) h (T .second-has) c r x q;
           loaded-deal = L .loaded-deal;
           deal-begun = L .deal-begun;
+          begun-deal = L .begun-deal;
           begun-order = begun-then c r o;
-          ended-order = ended-then c r o;
           dropped-ends = L .dropped-ends;
         }
       where
-        begun-then : (c : Call) → Ready (door S) e u (g .second) h c → SecondInOrder g h c
+        begun-then : (c : Call) → Ready (door S) e u (g .second) h c → SecondInOrder g c
             → onward (g .second) c .begun ≡ true → g .first .begun ≡ true
         begun-then (deal y out0 out1) r o z = o
         begun-then (load b y) r o z = T .begun-order z
@@ -239,15 +249,6 @@ module _ (S : Starts) (d e : Deal) (v u : Box → List ℕ) (above : d .number <
         begun-then (take b m) r o z = T .begun-order z
         begun-then (finish b m) r o z = T .begun-order z
         begun-then (join m n) r o z = T .begun-order z
-
-        ended-then : (c : Call) → Ready (door S) e u (g .second) h c → SecondInOrder g h c
-            → onward (g .second) c .ended ≡ true → (g .first .ended ≡ true) ⊎ Dropped (x ∷ h)
-        ended-then (deal y out0 out1) r o z = later-order x h (T .ended-order z)
-        ended-then (load b y) r o z = later-order x h (T .ended-order z)
-        ended-then (mask b y out) r o z = later-order x h (T .ended-order z)
-        ended-then (take b m) r o z = later-order x h (T .ended-order z)
-        ended-then (finish b m) r o z = later-order x h (T .ended-order z)
-        ended-then (join m n) r o z = later-order x h o
 
     track-dropped : (b : Box) → UnderWay (g .first) b → (x : Event) → x ≡ dropped b
         → Track (record { first = endedAt (g .first) b; second = g .second }) (x ∷ h)
@@ -257,8 +258,8 @@ module _ (S : Starts) (d e : Deal) (v u : Box → List ℕ) (above : d .number <
           second-has = has-later S e u (g .second) h x (T .second-has);
           loaded-deal = λ c l. let D = T .loaded-deal b (k .0) in (D .0, there (D .1));
           deal-begun = λ f i. T .deal-begun f (not-dealt x f (λ z. omega (arith, z ∙ ap dealtNumber q)) i);
+          begun-deal = λ z. there (T .begun-deal z);
           begun-order = T .begun-order;
-          ended-order = λ z. inr (b, here (sym q));
           dropped-ends = put-all (λ c j. In (dropped c) (x ∷ h) → 4 ≤ j) (g .first .made) b 4 (λ i. omega arith)
               (λ i. T .dropped-ends (other b) (elsewhere i));
         }
@@ -269,85 +270,103 @@ module _ (S : Starts) (d e : Deal) (v u : Box → List ℕ) (above : d .number <
 
     -- ---- what may come next
 
-    -- a call of the second, where the first has ended at both boxes and was joined or dropped
-    second-next : g .first .begun ≡ true → ((b : Box) → 4 ≤ g .first .made b)
-        → (Whole (g .first) ⊎ Dropped h) → Goes g h
-    second-next begun over how =
+    -- a call of the second, where the first has ended at both boxes
+    second-next : g .first .begun ≡ true → ((b : Box) → 4 ≤ g .first .made b) → Goes g h
+    second-next begun over =
         elim (goes-on S e u (g .second) h (T .second-has) (g .second .begun) refl) as (λ z. Goes g h) [
-          | inl whole ↦ inl (whole, how)
+          | inl whole ↦ inl (whole, over)
           | inr next ↦ inr (inr (inl (next .0, (next .1, order (next .0) (next .1)))))
         ]
       where
-        joined-first : (Whole (g .first) ⊎ Dropped h) → (g .first .ended ≡ true) ⊎ Dropped h
-        joined-first (inl k) = inl (k .2)
-        joined-first (inr k) = inr k
-
-        order : (c : Call) → Ready (door S) e u (g .second) h c → SecondInOrder g h c
+        order : (c : Call) → Ready (door S) e u (g .second) h c → SecondInOrder g c
         order (deal y out0 out1) r = begun
         order (load b y) r = omega (arith, over b)
         order (mask b y out) r = over b
         order (take b m) r = over b
         order (finish b m) r = over b
-        order (join m n) r = joined-first how
+        order (join m n) r = tt
 
-    module _ (A : (b : Box) (k l : ℕ) → g .first .made b ≡ k → g .second .made b ≡ l → k ≡ 0 → l ≡ 0) where
+    module _ (A : (b : Box) → g .first .made b ≡ 0 → g .second .made b ≡ 0) where
       not-begun : (x : Bool) → g .second .begun ≡ x → g .first .begun ≡ false → g .second .begun ≡ false
       not-begun false p q = p
       not-begun true p q = absurd (true≢false (sym (T .begun-order p) ∙ q))
 
-      -- no set was dropped: the first goes on, and then the second
-      undropped : ((b : Box) → In (dropped b) h → ⊥) → Goes g h
-      undropped none =
-          let F = T .first-has none in
-          elim (goes-on S d v (g .first) h F (g .first .begun) refl) as (λ z. Goes g h) [
-            | inl whole ↦ second-next (whole .0) (λ b. omega (arith, whole .1 b)) (inl whole)
-            | inr next ↦ inr (inl (next .0, (next .1, order (next .0) (next .1))))
+      -- the first alone, where none was dropped and the second is not joined
+      first-goes-on : ((b : Box) → In (dropped b) h → ⊥) → g .second .ended ≡ false
+          → Whole (g .first) ⊎ FirstNext g h
+      first-goes-on none open-join =
+          elim (goes-on S d v (g .first) h (T .first-has none) (g .first .begun) refl)
+          as (λ z. Whole (g .first) ⊎ FirstNext g h) [
+            | inl whole ↦ inl whole
+            | inr next ↦ inr (next .0, (next .1, order (next .0) (next .1)))
           ]
         where
-          not-ended : (x : Bool) → g .second .ended ≡ x → g .first .ended ≡ false → g .second .ended ≡ false
-          not-ended false p q = p
-          not-ended true p q =
-              elim (T .ended-order p) as (λ z. g .second .ended ≡ false) [
-                | inl y ↦ absurd (true≢false (sym y ∙ q))
-                | inr k ↦ absurd (none (k .0) (k .1))
-              ]
-
           order : (c : Call) → Ready (door S) d v (g .first) h c → FirstInOrder g c
           order (deal y out0 out1) r = not-begun (g .second .begun) refl (r .0)
-          order (load b y) r = A b _ _ refl refl (r .0)
+          order (load b y) r = A b (r .0)
           order (mask b y out) r = tt
           order (take b m) r = tt
           order (finish b m) r = tt
-          order (join m n) r = not-ended (g .second .ended) refl (r .0)
+          order (join m n) r = open-join
 
-      -- the first was dropped at box b: at the other it is loaded, dropped, or has ended
-      after-drop : (b : Box) → In (dropped b) h → Goes g h
-      after-drop b i = go (g .first .made (other b)) refl
+      -- the first's next call at box b, which is not ahead of the other: it is loaded, or goes on if the other box did
+      -- not drop it, or is dropped too
+      loads-first : (b : Box) → g .first .made b ≡ 0 → (f : Box → List ℕ) → In (dealt d f) h → Goes g h
+      loads-first b m f i = inr (inl (load b (f b), ((m, f, i, refl), A b m)))
+
+      behind-next : (b : Box) (k : ℕ) → g .first .made b ≡ k → k < 4 → k ≤ g .first .made (other b)
+          → (f : Box → List ℕ) → In (dealt d f) h
+          → In (dropped (other b)) h ⊎ (In (dropped (other b)) h → ⊥) → Goes g h
+      behind-next b zero m l o f i drop-or-not = loads-first b m f i
+      behind-next b (suc k) m l o f i (inl gone) =
+          inr (inr (inr (b, (omega (arith, m), omega (arith, m, l)), gone)))
+      behind-next b (suc k) m l o f i (inr kept) = go (suc k) m
         where
-          over : 4 ≤ g .first .made b
-          over = T .dropped-ends b i
+          none : (c : Box) → In (dropped c) h → ⊥
+          none = each (λ c. In (dropped c) h → ⊥) b (λ j. omega (arith, T .dropped-ends b j, m, l)) kept
 
-          D : (f : Box → List ℕ) × In (dealt d f) h
-          D = T .loaded-deal b (omega (arith, over))
+          H : Has S d v (g .first) h
+          H = T .first-has none
 
-          begun : g .first .begun ≡ true
-          begun = T .deal-begun (D .0) (D .1)
+          go : (j : ℕ) → g .first .made b ≡ j → Goes g h
+          go zero n = loads-first b n f i
+          go (suc zero) n =
+              inr (inl (mask b (v b) (replicate (d .terms .n) 0), ((n, refl, room (d .terms .n)), tt)))
+          go (suc (suc zero)) n =
+              inr (inl (
+                take b (maskFrom S d v (other b)),
+                ((n, (refl, refl), (v (other b), H .has-left (other b) 1 (omega (arith, n, m, o)))), tt),
+              ))
+          go (suc (suc (suc zero))) n =
+              inr (inl (
+                finish b (wordFrom S d v (other b)),
+                ((n, (refl, refl), H .has-left (other b) 2 (omega (arith, n, m, o))), tt),
+              ))
+          go (suc (suc (suc (suc j)))) n = absurd (omega (arith, n, m, l))
 
-          there-again : In (dropped (other (other b))) h
-          there-again = subst (λ c. In (dropped c) h) (sym (other-twice b)) i
+      at-box : g .first .begun ≡ true → (b : Box) → g .first .made b ≤ g .first .made (other b) → Goes g h
+      at-box begun b o =
+          elim (decLe 4 (g .first .made b)) as (λ z. Goes g h) [
+            | yes p ↦ second-next begun (each (λ c. 4 ≤ g .first .made c) b p (omega (arith, p, o)))
+            | no p ↦ behind-next b (g .first .made b) refl (lt-of-not-le p) o (halfOf S d) (T .begun-deal begun)
+                (any-dropped (other b) h)
+          ]
 
-          go : (k : ℕ) → g .first .made (other b) ≡ k → Goes g h
-          go zero m =
-              inr (inl (load (other b) (D .0 (other b)), ((m, D .0, D .1, refl), A (other b) _ _ refl refl m)))
-          go (suc zero) m = inr (inr (inr (other b, (omega (arith, m), omega (arith, m)), there-again)))
-          go (suc (suc zero)) m = inr (inr (inr (other b, (omega (arith, m), omega (arith, m)), there-again)))
-          go (suc (suc (suc zero))) m = inr (inr (inr (other b, (omega (arith, m), omega (arith, m)), there-again)))
-          go (suc (suc (suc (suc k)))) m =
-              second-next begun (each (λ c. 4 ≤ g .first .made c) b over (omega (arith, m))) (inr (b, i))
-
-      neither : Goes g h
-      neither =
-          elim (some-dropped h) as (λ z. Goes g h) [ inl k ↦ after-drop (k .0) (k .1) | inr none ↦ undropped none ]
+      neither : (x : Bool) → g .first .begun ≡ x → Goes g h
+      neither false m =
+          let out : List ℕ = replicate (halfSize (d .terms .n)) 0 in
+          inr (inl (
+            deal d out out,
+            (
+              (m, refl, room (halfSize (d .terms .n)), room (halfSize (d .terms .n))),
+              not-begun (g .second .begun) refl m,
+            ),
+          ))
+      neither true m =
+          elim (decLe (g .first .made camera) (g .first .made office)) as (λ z. Goes g h) [
+            | yes p ↦ at-box m camera p
+            | no p ↦ at-box m office (omega (arith, lt-of-not-le p))
+          ]
 
   -- ---- of any two that overlap
 
@@ -366,8 +385,8 @@ module _ (S : Starts) (d e : Deal) (v u : Box → List ℕ) (above : d .number <
           second-has = none-has S e u;
           loaded-deal = λ b l. absurd (omega (arith, l));
           deal-begun = λ f i. elim i [ ];
+          begun-deal = λ z. absurd (true≢false (sym z));
           begun-order = λ z. absurd (true≢false (sym z));
-          ended-order = λ z. absurd (true≢false (sym z));
           dropped-ends = λ b i. elim i [ ];
         }
     tracked (of-first {cs} {g} r c q) =
@@ -381,9 +400,14 @@ module _ (S : Starts) (d e : Deal) (v u : Box → List ℕ) (above : d .number <
     tracked (still {cs} {g} r c q) = refused-track g (events w cs) (tracked r) _ (unmoved (after w cs) c q)
     tracked (turned-down {cs} {g} r c why q) = refused-track g (events w cs) (tracked r) _ (why, q)
 
-    pub never : (cs : List Call) (g : Both) → Overlap (door S) d e v u w cs g → Goes g (events w cs)
-    never cs g r = neither g (events w cs) (tracked r) order
+    pub never : (cs : List Call) (g : Both) → Overlap (door S) d e v u w cs g
+        → Goes g (events w cs)
+        × (((b : Box) → In (dropped b) (events w cs) → ⊥) → g .second .ended ≡ false
+        → Whole (g .first) ⊎ FirstNext g (events w cs))
+    never cs g r = (
+      neither g (events w cs) (tracked r) order (g .first .begun) refl,
+      first-goes-on g (events w cs) (tracked r) order,
+    )
       where
-        order : (b : Box) (k l : ℕ) → g .first .made b ≡ k → g .second .made b ≡ l → k ≡ 0 → l ≡ 0
-        order b k l m n z =
-            sym n ∙ running S d e v u above long R Q w A r .box-at b .begins-first (m ∙ z)
+        order : (b : Box) → g .first .made b ≡ 0 → g .second .made b ≡ 0
+        order b m = running S d e v u above long R Q w A r .box-at b .begins-first m

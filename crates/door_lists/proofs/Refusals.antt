@@ -1,13 +1,13 @@
 -- A refusal changes nothing: one lemma over any call, and for each call that its part keeps what was there. Assumes
 -- nothing.
 use mathlib.Core.Path.{_≡_, refl, sym, ap, _∙_}
-use mathlib.Core.Bool.{Bool, true, false, cond}
+use mathlib.Core.Bool.{Bool, true, false, cond, not, _&&_}
 use mathlib.Core.List.{List, [], _∷_}
 use Prim.Native.Nat.{ℕ, suc}
 use native.Mathlib.Omega.{arith}
 use borrow.Author.Tests.{eqb-false}
 use lib.Dec.{eqb}
-use Rattle.base_messages.specs.Messages.{ifTaken}
+use Rattle.base_messages.specs.Messages.{unless, ifTaken}
 use Rattle.base_messages.specs.Laws as Laws
 use Rattle.call_dealer.specs.declared.Dealer.{Dealer}
 use Rattle.call_dealer.specs.Dealer as DealerCalls
@@ -18,6 +18,7 @@ use Rattle.call_lock.specs.Lock as LockCalls
 use Rattle.door_lists.specs.Lists.{Box, put, World, Call, deal, load, mask, take, finish, drop, join, Event}
 use Rattle.door_lists.specs.Lists.{dealt, loaded, sent, dropped, joined, refused, eventOf, step}
 use Rattle.door_lists.specs.Refusals.{lent, lentAfter, said, NothingChanges, RefusalsChangeNothing}
+use Rattle.door_lists.specs.Refusals.{UnsoundRefused}
 use Rattle.door_lists.proofs.Boxes.{put-same}
 
 -- ---- which events are refusals
@@ -99,3 +100,23 @@ refusals-change-nothing w (join m n) k =
 pub refused-still : (w : World) (c : Call) (why : ℕ) → step w c .event ≡ refused why → step w c .world ≡ w
 unfolding RefusalsChangeNothing
 refused-still w c why q = refusals-change-nothing w c why q .same-states
+
+-- ---- a state that no call leaves
+
+neither : (a : Bool) → a && false ≡ false
+neither true = refl
+neither false = refl
+
+pub unsound-refused : UnsoundRefused
+unfolding UnsoundRefused BoxCalls.load BoxCalls.mask BoxCalls.takeVector BoxCalls.finish BoxCalls.dropSet
+    BoxCalls.whyNotLoad BoxCalls.whyNotMask BoxCalls.whyNotTake BoxCalls.whyNotFinish BoxCalls.whyNotMessage
+    BoxCalls.whyNotDrop BoxCalls.inTurn unless ifTaken
+unsound-refused w b e =
+    let phase : ℕ = w .box b .check .phase in
+    record {
+      no-load = λ h. rw (e, neither (not (BoxCalls.waits (w .box b)))) refl;
+      no-mask = λ v out. rw (e, neither (eqb phase 1)) refl;
+      no-take = λ m. rw (e, neither (eqb phase 2)) refl;
+      no-finish = λ m. rw (e, neither (eqb phase 3)) refl;
+      no-drop = rw (e, neither (BoxCalls.isOpen (w .box b))) refl;
+    }

@@ -53,6 +53,8 @@ tidy-idle who last =
     record {
       none-open = λ e. (refl, refl);
       none-waiting = λ e. refl;
+      unmasked = λ l. (refl, refl);
+      unworded = λ l. refl;
       past-length = none-past;
       past-masked = λ i h. zeros-at 512 i;
       past-waiting = none-past;
@@ -71,6 +73,8 @@ tidy-opened who last set p =
     record {
       none-open = λ e. absurd (omega arith);
       none-waiting = λ e. refl;
+      unmasked = λ l. (refl, refl);
+      unworded = λ l. refl;
       past-length = p;
       past-masked = λ i h. zeros-at 512 i;
       past-waiting = none-past;
@@ -104,6 +108,8 @@ tidy-loaded s h z t = go (eqb (s .check .phase) 0) refl
             eqb-true (set .terms .n) 0 (not-false _ q),
             opened-long s h z,
           ));
+          unmasked = t .unmasked;
+          unworded = t .unworded;
           past-length = t .past-length;
           past-masked = t .past-masked;
           past-waiting = opened-past (s .who .key) h;
@@ -115,6 +121,8 @@ tidy-masked s v t =
     record {
       none-open = λ e. absurd (omega arith);
       none-waiting = t .none-waiting;
+      unmasked = λ l. absurd (omega (arith, l));
+      unworded = λ l. refl;
       past-length = t .past-length;
       past-masked = λ i h. fill-past _ _ i h;
       past-waiting = t .past-waiting;
@@ -126,6 +134,8 @@ tidy-worded s w t =
     record {
       none-open = λ e. absurd (omega arith);
       none-waiting = t .none-waiting;
+      unmasked = λ l. absurd (omega (arith, l));
+      unworded = λ l. absurd (omega (arith, l));
       past-length = t .past-length;
       past-masked = t .past-masked;
       past-waiting = t .past-waiting;

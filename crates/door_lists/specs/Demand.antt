@@ -14,6 +14,7 @@ use Rattle.measure_table.specs.Measure.{measure, reached, isCode, lengthFits, a
 use Rattle.base_messages.specs.Messages.{vectorKind, wordKind, answerKind, padded}
 use Rattle.half_deal.specs.Dealing.{Deal}
 use Rattle.call_dealer.specs.Dealer.{halfSize}
+use Rattle.call_party.specs.Party.{closed}
 use Rattle.door_lists.specs.Lists.{Box, camera, office, partyOf, other, sameBox, put, World, Starts, Started}
 use Rattle.door_lists.specs.Lists.{beginning, Message, Call, deal, load, mask, take, finish, drop, join, Body}
 use Rattle.door_lists.specs.Lists.{vector, word, answer, Event, dealt, loaded, sent, dropped, joined, refused}
@@ -250,7 +251,7 @@ pub record InRange (d : Deal) (v : Box → List ℕ) : Type 0 where
   pub threshold-fits : thresholdFits (d .terms) (d .t) ≡ true
   pub elements-fit : (b : Box) → allInRange (d .terms) (v b) ≡ true
 
--- no set is open at either box, and n is above all four last numbers
+-- neither box has a set, open or waiting, and n is above all four last numbers
 pub record Free (s : Starts) (h : List Event) (n : ℕ) : Type 0 where
   pub none-open : (b : Box) → openSets b h ≡ 0
   pub above-dealer : lastDealt (s .dealerFloor) h < n
@@ -301,11 +302,11 @@ CanEnd = (s : Starts) → Started s → (cs : List Call) → Admissible s cs →
     → Free s (history s cs) (d .number) → Ended s cs d v
 
 -- "Drop ends the open set", 02, §1: "Drop acts on the open set only": after every admissible list, a box with a set
--- open is not refused its drop, and then has one less [SPEC 19.1, 28.12]
+-- open is not refused its drop, and is then as with that set closed [SPEC 19.1, 19.2, 28.12]
 unfoldable pub CanDrop : Type 0
 CanDrop = (s : Starts) → Started s → (cs : List Call) → Admissible s cs → (b : Box) → 1 ≤ openSets b (history s cs)
     → (history s (drop b ∷ cs) ≡ dropped b ∷ history s cs)
-    × (suc (openSets b (history s (drop b ∷ cs))) ≡ openSets b (history s cs))
+    × (after (beginning s) (drop b ∷ cs) .box b ≡ closed (after (beginning s) cs .box b))
 
 -- ---- not empty
 

@@ -1,16 +1,17 @@
 -- Numbers and open sets after any list of calls from accepted starts, whatever was handed in (01, "One check at a box"
 -- and "A door's list of calls"). No proof stands here. Assumes nothing.
 use mathlib.Core.Path.{_≡_}
-use mathlib.Core.Bool.{cond}
+use mathlib.Core.Bool.{true, cond}
 use mathlib.Core.List.{List, [], _∷_, map}
 use mathlib.Core.Logic.{_↔_}
 use Prim.Native.Nat.{ℕ, _<_, _≤_}
 use lib.ListN.{length}
-use Rattle.base_messages.specs.Messages.{outOfTurn}
+use Rattle.base_messages.specs.Messages.{outOfTurn, wrongNumber}
+use Rattle.half_seal.specs.Half.{wholeBlocks, setNumber}
 use Rattle.call_party.specs.declared.Party.{Party}
 use Rattle.call_party.specs.Party.{idlePhase, isOpen, waits}
-use Rattle.door_lists.specs.Lists.{Box, World, Starts, Started, beginning, Message, Call, mask, take, finish}
-use Rattle.door_lists.specs.Lists.{drop, Event, dropped, refused, step, after, history}
+use Rattle.door_lists.specs.Lists.{Box, World, Starts, Started, beginning, Message, Call, load, mask, take}
+use Rattle.door_lists.specs.Lists.{finish, drop, Event, dropped, refused, step, after, history}
 use Rattle.door_lists.specs.Demand.{dealsIn, loadsBy, joinsIn, collect, newest, lastDealt, lastLoaded, lastJoined}
 use Rattle.door_lists.specs.Demand.{openSets, held, vectors, sentWords}
 
@@ -45,8 +46,13 @@ pub record Numbers (s : Starts) (h : List Event) (w : World) : Type 0 where
   pub drop-refused : (b : Box) → openSets b h ≡ 0 → step w (drop b) .event ≡ refused outOfTurn
   -- 3, "A box call is out of its turn": with no set open calls 2, 3 and 4 are refused
   pub no-turn : (b : Box) → openSets b h ≡ 0 → NoTurn w b
-  -- the sets are those that were loaded and not ended, the first of them is the open one, and so what is sent is sent
-  -- under its number
+  -- 02, §1: "A load with a set already waiting is out of turn", whatever is handed in
+  pub no-load : (b : Box) → openSets b h ≡ 2 → (x : List ℕ) → step w (load b x) .event ≡ refused outOfTurn
+  -- else whole blocks whose number is not above the last one, or the open one's, are refused 7
+  pub spent-load : (b : Box) → openSets b h ≤ 1 → (x : List ℕ) → wholeBlocks x ≡ true
+      → setNumber x ≤ lastLoaded (s .boxFloor b) b h → step w (load b x) .event ≡ refused wrongNumber
+  -- the sets are those that were loaded and not ended, and the first of them is the open one, under whose number a step
+  -- sends
   pub held-count : (b : Box) → length (held b h) ≡ openSets b h
   pub held-are : (b : Box) → numbersIn (w .box b) ≡ held b h
   -- at most one masked vector and one word a number and box: a number is spent at its load, whatever the half held

@@ -1,11 +1,13 @@
 -- Two checks that overlap (02, §1, "Load ahead"): while a run in the right order is under way a second one, with a
 -- higher number, is dealt and loaded at both boxes, and goes on at a box when the first was answered or dropped there.
--- No proof stands here. Assumes nothing.
+-- Of two: that a third is loaded ahead behind the second is not said here. No proof stands here. Assumes nothing.
+-- [SPEC 28.14 to 28.16]
 use mathlib.Core.Path.{_≡_}
 use mathlib.Core.Bool.{true, false}
 use mathlib.Core.List.{List, [], _∷_, _++_}
 use mathlib.Core.Logic.{_⊎_}
-use Prim.Native.Nat.{ℕ, _<_, _≤_}
+use Prim.Native.Nat.{ℕ, _^_, _<_, _≤_}
+use Rattle.measure_table.specs.declared.Terms.{Terms}
 use Rattle.base_messages.specs.Messages.{padded}
 use Rattle.half_deal.specs.Dealing.{Deal}
 use Rattle.door_lists.specs.Lists.{Box, camera, office, other, put, World, Starts, Started, beginning, Call, deal}
@@ -31,8 +33,8 @@ endedAt g b = madeTo g b 4
 abbrev pub UnderWay : Progress → Box → Type 0
 UnderWay g b = (1 ≤ g .made b) × (g .made b ≤ 3)
 
--- "every accepted set number is above the last one": the dealer, each box and the lock come to the first's number
--- before the second's
+-- "every accepted set number is above the last one": what the dealer, a box and the lock do of the first comes before
+-- what they do of the second
 abbrev pub FirstInOrder : Both → Call → Type 0
 FirstInOrder g (deal x out0 out1) = g .second .begun ≡ false
 FirstInOrder g (load b h) = g .second .made b ≡ 0
@@ -43,24 +45,24 @@ FirstInOrder g (drop b) = Unit {0}
 FirstInOrder g (join m n) = g .second .ended ≡ false
 
 -- "A box may load one further set while another is still open. The waiting set becomes the open one when the open one
--- is answered or dropped." Where h are the events so far.
-abbrev pub SecondInOrder : Both → List Event → Call → Type 0
-SecondInOrder g h (deal x out0 out1) = g .first .begun ≡ true
-SecondInOrder g h (load b x) = 1 ≤ g .first .made b
-SecondInOrder g h (mask b x out) = 4 ≤ g .first .made b
-SecondInOrder g h (take b m) = 4 ≤ g .first .made b
-SecondInOrder g h (finish b m) = 4 ≤ g .first .made b
-SecondInOrder g h (drop b) = ⊥
-SecondInOrder g h (join m n) = (g .first .ended ≡ true) ⊎ ((b : Box) × In (dropped b) h)
+-- is answered or dropped."
+abbrev pub SecondInOrder : Both → Call → Type 0
+SecondInOrder g (deal x out0 out1) = g .first .begun ≡ true
+SecondInOrder g (load b x) = 1 ≤ g .first .made b
+SecondInOrder g (mask b x out) = 4 ≤ g .first .made b
+SecondInOrder g (take b m) = 4 ≤ g .first .made b
+SecondInOrder g (finish b m) = 4 ≤ g .first .made b
+SecondInOrder g (drop b) = ⊥
+SecondInOrder g (join m n) = Unit {0}
 
 -- the two deals and their vectors
 module _ (door : List ℕ) (d e : Deal) (v u : Box → List ℕ) where
-  -- the next call of the first, of the second, and a drop of the first
+  -- what may be the next call of the first, and of the second
   abbrev pub FirstReady : Both → List Event → Call → Type 0
   FirstReady g h c = Ready door d v (g .first) h c × FirstInOrder g c
 
   abbrev pub SecondReady : Both → List Event → Call → Type 0
-  SecondReady g h c = Ready door e u (g .second) h c × SecondInOrder g h c
+  SecondReady g h c = Ready door e u (g .second) h c × SecondInOrder g c
 
   -- their calls so far, in any order, mixed as in `Run`
   pub data Overlap (w : World) : List Call → Both → Type 0 where
@@ -98,21 +100,22 @@ BothAnswered = (s : Starts) (cs : List Call) (d e : Deal) (v u : Box → List �
     → Answered e u c (step (after w rs) c .event))
     × ((b : Box) → UnderWay (g .first) b → step (after w rs) (drop b) .event ≡ dropped b))
 
--- and they are not stuck: both are whole, but for a first one that was dropped, or a call of theirs may come next. A
--- first one that was dropped at one box may have to be dropped at the other.
-abbrev pub BothDone : Both → List Event → Type 0
-BothDone g h = Whole (g .second) × (Whole (g .first) ⊎ ((b : Box) × In (dropped b) h))
-
+-- and they are not stuck: the second is whole, and the first has ended at both boxes, or a call of theirs may come
+-- next. A first one that was dropped at one box may have to be dropped at the other. And as long as the first was not
+-- dropped and the second not joined, the first is whole or a call of its own may come next. [SPEC 28.15]
 unfoldable pub NeitherStuck : Type 0
 NeitherStuck = (s : Starts) (cs : List Call) (d e : Deal) (v u : Box → List ℕ) → Two s cs d e v u
     → (let w : World = after (beginning s) cs in
     (rs : List Call) (g : Both) → Overlap (padded (s .name)) d e v u w rs g
-    → BothDone g (events w rs) ⊎ (((c : Call) × FirstReady (padded (s .name)) d e v u g (events w rs) c)
+    → ((Whole (g .second) × ((b : Box) → 4 ≤ g .first .made b))
+    ⊎ (((c : Call) × FirstReady (padded (s .name)) d e v u g (events w rs) c)
     ⊎ (((c : Call) × SecondReady (padded (s .name)) d e v u g (events w rs) c)
     ⊎ ((b : Box) × UnderWay (g .first) b × In (dropped (other b)) (events w rs)))))
+    × (((b : Box) → In (dropped b) (events w rs) → ⊥) → g .second .ended ≡ false
+    → Whole (g .first) ⊎ ((c : Call) × FirstReady (padded (s .name)) d e v u g (events w rs) c)))
 
 -- Both to their ends, the second loaded ahead at both boxes: `early` is how far they were when its set waited there.
--- List and runs are one admissible list, whose last call is the second's join.
+-- List and runs are one admissible list, whose last call is the second's join; and then every higher number is free.
 pub record BothEnded (s : Starts) (cs : List Call) (d e : Deal) (v u : Box → List ℕ) : Type 0 where
   pub early : List Call
   pub late : List Call
@@ -126,11 +129,22 @@ pub record BothEnded (s : Starts) (cs : List Call) (d e : Deal) (v u : Box → L
   pub first-says : In (joined (d .number) (verdict d (v camera) (v office))) (history s ((late ++ early) ++ cs))
   pub before : List Event
   pub second-says : history s ((late ++ early) ++ cs) ≡ joined (e .number) (verdict e (u camera) (u office)) ∷ before
+  pub free : (n : ℕ) → e .number < n → Free s (history s ((late ++ early) ++ cs)) n
 
 unfoldable pub BothCanEnd : Type 0
 BothCanEnd = (s : Starts) (cs : List Call) (d e : Deal) (v u : Box → List ℕ) → Two s cs d e v u
     → BothEnded s cs d e v u
 
+-- there are two such checks: after every admissible list that leaves no set open, under every two numbers that are
+-- free, for every two measures and lengths, one that says 1 and one that says 0 [SPEC 28.16]
+unfoldable pub TwoThereAre : Type 0
+TwoThereAre = (s : Starts) → Started s → (cs : List Call) → Admissible s cs → (n m : ℕ) → n < m → m < 2 ^ 64
+    → Free s (history s cs) n → (first second : Terms)
+    → first .code < 3 → 1 ≤ first .n → first .n ≤ 512 → second .code < 3 → 1 ≤ second .n → second .n ≤ 512
+    → (d : Deal) × (e : Deal) × (v : Box → List ℕ) × (u : Box → List ℕ) × Two s cs d e v u
+    × (d .number ≡ n) × (e .number ≡ m) × (d .terms ≡ first) × (e .terms ≡ second)
+    × (verdict d (v camera) (v office) ≡ 1) × (verdict e (u camera) (u office) ≡ 0)
+
 -- the promise that load ahead is for, whole
 unfoldable pub LoadAhead : Type 0
-LoadAhead = BothAnswered × NeitherStuck × BothCanEnd
+LoadAhead = BothAnswered × NeitherStuck × BothCanEnd × TwoThereAre

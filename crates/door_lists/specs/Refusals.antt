@@ -1,14 +1,16 @@
 -- A refusal changes nothing (01, "When a call is turned down"), over every call on any states, whatever is handed in.
 -- No proof stands here. Assumes nothing. [SPEC 22.4]
 use mathlib.Core.Path.{_≡_}
+use mathlib.Core.Bool.{false}
 use mathlib.Core.List.{List, [], _∷_}
 use Prim.Native.Nat.{ℕ}
 use lib.ListN.{length}
-use Rattle.base_messages.specs.Messages.{cameraParty, officeParty}
+use Rattle.base_messages.specs.Messages.{cameraParty, officeParty, outOfTurn}
 use Rattle.call_dealer.specs.Dealer as DealerCalls
 use Rattle.call_party.specs.Party as BoxCalls
 use Rattle.call_lock.specs.Lock as LockCalls
-use Rattle.door_lists.specs.Lists.{World, Call, deal, load, mask, take, finish, drop, join, refused, step}
+use Rattle.door_lists.specs.Lists.{Box, World, Message, Call, deal, load, mask, take, finish, drop, join, refused}
+use Rattle.door_lists.specs.Lists.{step}
 
 -- the buffers lent to a call
 abbrev pub lent : Call → List (List ℕ)
@@ -53,3 +55,15 @@ pub record NothingChanges (w : World) (c : Call) (why : ℕ) : Type 0 where
 
 unfoldable pub RefusalsChangeNothing : Type 0
 RefusalsChangeNothing = (w : World) (c : Call) (why : ℕ) → step w c .event ≡ refused why → NothingChanges w c why
+
+-- 3: "or the state handed in holds a phase or party, or at its phase a code or L, that no call leaves", and 02, §1, of
+-- the waiting set: such a box refuses every call by 3, drop included [SPEC 23.3]
+pub record AllOutOfTurn (w : World) (b : Box) : Type 0 where
+  pub no-load : (h : List ℕ) → step w (load b h) .event ≡ refused outOfTurn
+  pub no-mask : (v out : List ℕ) → step w (mask b v out) .event ≡ refused outOfTurn
+  pub no-take : (m : Message (List ℕ)) → step w (take b m) .event ≡ refused outOfTurn
+  pub no-finish : (m : Message ℕ) → step w (finish b m) .event ≡ refused outOfTurn
+  pub no-drop : step w (drop b) .event ≡ refused outOfTurn
+
+unfoldable pub UnsoundRefused : Type 0
+UnsoundRefused = (w : World) (b : Box) → BoxCalls.sound (w .box b) ≡ false → AllOutOfTurn w b

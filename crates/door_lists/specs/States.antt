@@ -4,7 +4,8 @@ use mathlib.Core.Path.{_≡_}
 use mathlib.Core.Bool.{true, false}
 use mathlib.Core.List.{List}
 use Prim.Native.Nat.{ℕ, _≤_}
-use lib.ListN.{getD}
+use lib.ListN.{getD, replicate}
+use Rattle.measure_table.specs.Measure.{mostElements}
 use Rattle.half_content.specs.declared.Set.{Set}
 use Rattle.half_content.specs.Content.{noSet}
 use Rattle.call_party.specs.declared.Party.{Party}
@@ -42,10 +43,14 @@ abbrev pub PastLength : Set → Type 0
 PastLength s = (i : ℕ) → s .terms .n ≤ i → (getD (s .mask) i 0 ≡ 0) × (getD (s .x) i 0 ≡ 0) × (getD (s .y) i 0 ≡ 0)
 
 -- "with no set open all of it is zero, code and L included, and array places past L are always zero", and so of the set
--- that waits: with none waiting all of it is zero, and none waits with none open [SPEC 12.10, 12.11]
+-- that waits: with none waiting all of it is zero, and none waits with none open [SPEC 12.8, 12.10, 12.11]
 pub record Tidy (s : Party) : Type 0 where
   pub none-open : s .check .phase ≡ idlePhase → (s .check ≡ noCheck) × (s .waiting ≡ noSet)
   pub none-waiting : waits s ≡ false → s .waiting ≡ noSet
+  -- what calls 2 and 3 bring is zero before them
+  pub unmasked : s .check .phase ≤ loadedPhase
+      → (s .check .masked ≡ replicate mostElements 0) × (s .check .own ≡ 0)
+  pub unworded : s .check .phase ≤ maskedPhase → s .check .word ≡ 0
   pub past-length : PastLength (s .check .set)
   pub past-masked : (i : ℕ) → s .check .set .terms .n ≤ i → getD (s .check .masked) i 0 ≡ 0
   pub past-waiting : PastLength (s .waiting)
