@@ -1,7 +1,7 @@
 //! The calls that are timed, accepted and refused: one list for all that looks at them.
 
 use crate::calls::{Calls, Said, Second, States, Step};
-use crate::door::{label, Door, Known, Parts, Sent, FLOOR, NUMBER, OTHER, PARTY, THRESHOLD};
+use crate::door::{label, Door, Known, Parts, Sent, FLOOR, FULL, NUMBER, OTHER, PARTY, THRESHOLD};
 use crate::foreign::ours::Ours;
 use crate::measure::{row, way, Row, Way};
 use second::message::{Label, MASKED_VECTOR, WORD};
@@ -18,13 +18,11 @@ enum Call {
     Deal {
         threshold: u32,
     },
-    /// A call on the timed box after so many of a check's four.
+    /// A call on the timed box after so many of a check's four, or with a set waiting (`FULL`).
     Box {
         phase: usize,
         step: MakeStep,
     },
-    /// A load at the timed box with a set open and one waiting.
-    LoadFull,
     Join {
         number: u64,
     },
@@ -86,11 +84,9 @@ pub const ACCEPTED: [Case; 9] = [
 /// A refusal of each call, where it can be had one that comes late among its tests.
 pub const REFUSED: [Case; 9] = [
     deal("deal, threshold out of range", 8, 1 << 31),
-    Case {
-        name: "load, a set waits",
-        why: 3,
-        call: Call::LoadFull,
-    },
+    on_box("load, a set waits", 3, FULL, |known, _| {
+        Step::Load(&known.ahead)
+    }),
     on_box("load, a spent number", 7, 0, |known, _| {
         Step::Load(&known.spent)
     }),
@@ -182,10 +178,6 @@ impl Call {
                 let next = &mut states.of(who)[PARTY];
                 let step = step(known, &mut sent.masked[PARTY]);
                 who.step_to(&parts.phases[phase], next, step)
-            }
-            Call::LoadFull => {
-                let next = &mut states.of(who)[PARTY];
-                who.step_to(&parts.full, next, Step::Load(&known.ahead))
             }
             Call::Join { number } => {
                 let word = known.join(who, number);

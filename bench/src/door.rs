@@ -20,6 +20,9 @@ const PADDED: &[u8; 16] = b"Hut 4\0\0\0\0\0\0\0\0\0\0\0";
 pub const FLOOR: u64 = 10;
 pub const NUMBER: u64 = FLOOR + 1;
 
+/// Where the timed box with a set waiting stands, behind those after so many calls.
+pub const FULL: usize = 4;
+
 /// The box whose calls are timed one by one: it adds one sum of products more.
 pub const PARTY: usize = 1;
 pub const OTHER: usize = 1 - PARTY;
@@ -221,10 +224,8 @@ impl Known {
 pub struct Parts<C: Calls> {
     pub dealer: C::Dealer,
     pub started: [C::Party; 2],
-    /// The timed box after so many of the four calls.
-    pub phases: [C::Party; 4],
-    /// The timed box with a set open and one waiting.
-    pub full: C::Party,
+    /// The timed box after so many of the four calls, and at `FULL` with a set open and one waiting.
+    pub phases: [C::Party; FULL + 1],
 }
 
 impl<C: Calls> Parts<C> {
@@ -232,21 +233,20 @@ impl<C: Calls> Parts<C> {
         let started = known.input.boxes(who);
         let mut party = started[PARTY].clone();
         let mut out = vec![0; known.input.length];
-        let phases = [0, 1, 2, 3].map(|phase| {
+        let [started_one, loaded, masked, taken] = [0, 1, 2, 3].map(|phase| {
             if phase > 0 {
                 let said = who.step(&mut party, known.step(phase - 1, &mut out));
                 assert_eq!(said.why, 0, "{:?}: a call on the way", who.who());
             }
             party.clone()
         });
-        let mut full = phases[1].clone();
+        let mut full = loaded.clone();
         let said = who.step(&mut full, Step::Load(&known.ahead));
         assert_eq!(said.why, 0, "{:?}: a load ahead", who.who());
         Parts {
             dealer: known.input.dealer(who),
             started,
-            phases,
-            full,
+            phases: [started_one, loaded, masked, taken, full],
         }
     }
 
@@ -255,10 +255,8 @@ impl<C: Calls> Parts<C> {
             dealer,
             started,
             phases,
-            full,
         } = other;
-        let begun = self.dealer == *dealer && self.started == *started;
-        begun && self.phases == *phases && self.full == *full
+        self.dealer == *dealer && self.started == *started && self.phases == *phases
     }
 
     /// A whole check, from the starts.
