@@ -8,7 +8,7 @@ use lib.Dec.{eqb, leb}
 use lib.ListN.{replicate}
 use Rattle.measure_table.specs.declared.Terms.{Terms}
 use Rattle.measure_table.specs.Measure.{mostElements, isCode, lengthFits}
-use Rattle.share_vectors.specs.Share.{share, boxWord}
+use Rattle.share_vectors.specs.Share.{share}
 use Rattle.half_content.specs.declared.Set.{Set}
 use Rattle.half_content.specs.Content.{noSet}
 use Rattle.base_messages.specs.declared.Identity.{Identity}

@@ -3,7 +3,6 @@
 // hands it back as it was, with the refusal's number, and leaves every lent buffer as it was.
 // [SPEC 12.1, 15.3, 16.3, 17.5, 18.5, 19.1, 22.4, 22.5]
 ghost use mathlib.Core.Path.{_≡_};
-ghost use mathlib.Core.Bool.{_&&_};
 ghost use Prim.Native.Nat.{_-_, _≤_};
 ghost use lib.Dec.{eqb, leb};
 ghost use lib.ListN.{length};

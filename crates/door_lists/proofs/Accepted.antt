@@ -1,25 +1,20 @@
 -- What acceptance tells: for each call, over any state and anything handed in, what its tests say where none refuses.
 -- Assumes nothing.
-use mathlib.Core.Path.{_≡_, refl, ap₂}
-use mathlib.Core.Bool.{Bool, true, false, not, cond, _&&_}
+use mathlib.Core.Path.{_≡_, refl}
+use mathlib.Core.Bool.{Bool, true, not}
 use mathlib.Core.List.{List}
 use Prim.Native.Nat.{ℕ, _-_, _<_, _≤_}
-use native.Mathlib.Omega.{arith}
-use borrow.Author.Tests.{leb-true, leb-false, ltb-true, eqb-true, eqb-false, ne-eqb, not-true, not-false}
-use lib.Dec.{eqb, leb, ltb}
-use lib.ListN.{length, getD}
+use borrow.Author.Tests.{leb-true, ltb-true, eqb-true, eqb-false, not-true}
+use lib.Dec.{eqb, ltb}
+use lib.ListN.{length}
 use Rattle.base_algebra.specs.Bit.{both}
 use Rattle.base_words.specs.List.{same, same-eq}
-use Rattle.measure_table.specs.Measure.{allInRange, isCode, lengthFits}
-use Rattle.measure_table.specs.Laws.{length-fits}
+use Rattle.measure_table.specs.Measure.{allInRange}
 use Rattle.base_messages.specs.declared.Label.{Label}
 use Rattle.base_messages.specs.Laws.{passed, fits-short}
 use Rattle.base_messages.specs.Messages.{unless, expected}
-use Rattle.half_content.specs.Content.{nameField, partyField, field, setIn, contentFits}
-use Rattle.half_seal.specs.Half.{whyNot, whyNotOpened, setNumber, openedSet}
 use Rattle.call_party.specs.declared.Party.{Party}
-use Rattle.call_party.specs.Party.{waits, sound, highWater}
-use Rattle.call_party.specs.Party.{inTurn, whyNotLoad, whyNotMask, whyNotMessage, whyNotTake, whyNotFinish, whyNotDrop}
+use Rattle.call_party.specs.Party.{inTurn, whyNotMask, whyNotMessage, whyNotTake, whyNotFinish, whyNotDrop}
 use Rattle.call_lock.specs.declared.Lock.{Lock}
 use Rattle.call_lock.specs.Lock.{whyNotLock, whyNotJoin}
 use Rattle.call_lock.specs.Laws.{accepted}

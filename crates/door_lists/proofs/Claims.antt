@@ -1,6 +1,6 @@
 -- Demand 3, whole: no wrong report, no reuse, always answered, never stuck, can be ended, can be dropped, not empty,
 -- and what the verdict is. Assumes nothing.
-use mathlib.Core.Path.{_≡_, sym, ap, subst, _∙_}
+use mathlib.Core.Path.{_≡_, sym, ap, subst}
 use mathlib.Core.Bool.{Bool, true, cond}
 use mathlib.Core.List.{List, [], _∷_}
 use Prim.Native.Nat.{ℕ, _<_}

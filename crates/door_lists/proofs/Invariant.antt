@@ -1,11 +1,14 @@
 -- The invariant of a door's list of calls: its events are right, each part's state is what they say, and each box's
 -- sets stand in its state. Assumes nothing.
 use mathlib.Core.Path.{_≡_, refl, ap, _∙_, fun-ext}
+use mathlib.Core.Bool.{true}
 use mathlib.Core.List.{List, [], _∷_, _++_}
 use Prim.Native.Nat.{ℕ, _*_, _-_, _<_, _≤_}
 use native.Mathlib.Omega.{arith}
 use borrow.Author.Tests.{ne-eqb}
 use lib.ListN.{length, replicate, length-append, length-replicate}
+use Rattle.measure_table.specs.Measure.{isCode, lengthFits}
+use Rattle.measure_table.specs.Laws.{length-fits}
 use Rattle.base_messages.specs.Messages.{padded}
 use Rattle.half_content.specs.declared.Set.{Set}
 use Rattle.half_content.specs.Content.{blockCount, noSet}
@@ -20,13 +23,15 @@ use Rattle.call_party.specs.Party.{noCheck, idle, startParty, opened, loaded, n
 use Rattle.call_lock.specs.declared.Lock.{Lock}
 use Rattle.call_lock.specs.Lock.{startLock}
 use Rattle.door_lists.specs.Lists.{Box, camera, office, partyOf, World, Starts, Started, beginning, written}
-use Rattle.door_lists.specs.Lists.{Event}
+use Rattle.door_lists.specs.Lists.{Event, dealt}
 use Rattle.door_lists.specs.Demand.{deals, vectors, lastDealt, lastLoaded, lastJoined}
 use Rattle.door_lists.proofs.Accepted.{lock-tells}
-use Rattle.door_lists.proofs.Dealt.{setOf, set-n, set-proper, Sound}
+use Rattle.door_lists.proofs.Boxes.{party-fits}
+use Rattle.door_lists.proofs.Goes.{OpenAt, Behind, none-behind, one-behind}
+use Rattle.door_lists.proofs.Dealt.{setOf, set-terms, set-n, set-proper, Sound}
 use Rattle.door_lists.proofs.Once.{All, Once, once-none, unique}
-use Rattle.door_lists.proofs.History.{door, halfOf, Good, Dealt, Vector, in-deals, in-vectors}
-use Rattle.door_lists.proofs.Slots.{Slot, fresh, masked, worded, setIn, Counted, Slots, all-load}
+use Rattle.door_lists.proofs.History.{door, halfOf, Good, Dealt, Vector, look, in-deals, in-vectors}
+use Rattle.door_lists.proofs.Slots.{Slot, fresh, masked, worded, setIn, SlotOk, Rising, Counted, Slots, all-load}
 use Rattle.door_lists.proofs.Written.{new, written-is}
 
 -- ---- how a box's state shows its sets: none, one at its phase, or such a one and a fresh one that waits
@@ -89,6 +94,23 @@ behind-load s (t ∷ ts) fr = all-load Fresh (fresh s) ts fr tt
 abbrev pub Long : Slot → Type 0
 Long t = 1 ≤ setIn t .terms .n
 
+-- a set that a load leaves
+abbrev pub Fitting : Slot → Type 0
+Fitting t = (isCode (setIn t .terms .code) ≡ true) × (lengthFits (setIn t .terms) ≡ true)
+
+pub fitting-long : (ts : List Slot) → All Fitting ts → All Long ts
+fitting-long [] f = tt
+fitting-long (t ∷ ts) f = (length-fits (setIn t .terms) (f .0 .1) .0, fitting-long ts (f .1))
+
+pub slot-phase : (t : Slot) → (1 ≤ phaseOf t) × (phaseOf t ≤ 3)
+slot-phase (fresh s) = (omega arith, omega arith)
+slot-phase (masked s m o) = (omega arith, omega arith)
+slot-phase (worded s m o w) = (omega arith, omega arith)
+
+behind-fits : (n last : ℕ) (ts : List Slot) → All Fitting ts → Rising n last ts → Behind n (firstIn ts)
+behind-fits n last [] f r = none-behind n
+behind-fits n last (t ∷ ts) f r = one-behind n (setIn t) (r .0) (f .0 .0) (f .0 .1)
+
 next-is : (s : Set) → 1 ≤ s .terms .n → nextCheck s ≡ opened s
 unfolding nextCheck
 next-is s l = rw (ne-eqb (s .terms .n) 0 (λ e. omega (arith, l, e))) refl
@@ -110,6 +132,43 @@ module _ (S : Starts) where
   closing b last t (masked s m o ∷ []) few fr k = absurd (fr .0)
   closing b last t (worded s m o w ∷ []) few fr k = absurd (fr .0)
   closing b last t (u ∷ r ∷ ts) few fr k = absurd (omega (arith, few))
+
+  -- sets that were dealt are such
+  slot-set : (h : List Event) (b : Box) (t : Slot) → SlotOk h b t
+      → (u : Dealt h (setIn t .number)) × (setIn t ≡ setOf (u .d) b)
+  slot-set h b (fresh s) k = (k .0, k .1)
+  slot-set h b (masked s m o) k = (k .0, k .1)
+  slot-set h b (worded s m o w) k = (k .0, k .1)
+
+  pub slots-fit : (h : List Event) → Good S h → (b : Box) (ts : List Slot) → All (SlotOk h b) ts → All Fitting ts
+  slots-fit h good b [] k = tt
+  slots-fit h good b (t ∷ ts) k =
+      let (u, e) = slot-set h b t (k .0) in
+      let D : Sound (u .d) = look S h (dealt (u .d) (u .f)) good (u .was) .0 in (
+        (rw (e, set-terms (u .d) b) (D .code-fits), rw (e, set-terms (u .d) b) (D .length-fits)),
+        slots-fit h good b ts (k .1),
+      )
+
+  -- with such sets, whose numbers rise, a box stands as 01's third refusal asks
+  pub opened-at : (b : Box) (low last : ℕ) (t : Slot) (ts : List Slot) → All Fitting (t ∷ ts)
+      → Rising low last (t ∷ ts) → OpenAt (phaseOf t) (showing b last (t ∷ ts))
+  opened-at b low last t ts f r =
+      record {
+        phase-is = refl;
+        some-phase = slot-phase t .0;
+        last-phase = slot-phase t .1;
+        party-fits = party-fits b;
+        code-fits = f .0 .0;
+        length-fits = f .0 .1;
+        waiting-fits = behind-fits (setIn t .number) last ts (f .1) (r .1) (phaseOf t) (slot-phase t .0);
+      }
+
+  -- with a set waiting a load is not taken
+  pub not-both : (b : Box) (last : ℕ) (ts : List Slot) → All Fitting ts → showing b last ts .waiting .terms .n ≡ 0
+      → length ts ≤ 1
+  not-both b last [] f e = omega arith
+  not-both b last (t ∷ []) f e = omega arith
+  not-both b last (t ∷ u ∷ ts) f e = absurd (omega (arith, length-fits (setIn u .terms) (f .1 .0 .1) .0, e))
 
   -- a load puts its set behind the open one
   pub loads : (b : Box) (last : ℕ) (s : Set) (ts : List Slot) → length ts ≤ 1

@@ -6,12 +6,10 @@ use mathlib.Core.List.{List, [], _∷_, _++_}
 use Prim.Native.Nat.{ℕ, _*_, _-_, _/_, _<_, _≤_}
 use native.Mathlib.Omega.{arith}
 use lib.ListN.{length, length-append}
-use Rattle.base_algebra.specs.Word.{add}
 use Rattle.measure_table.specs.Measure.{allInRange}
-use Rattle.measure_table.specs.Laws.{length-fits}
 use Rattle.share_vectors.specs.Share as Share
 use Rattle.half_content.specs.declared.Set.{Set}
-use Rattle.half_content.specs.Content.{blockCount, fill, noSet, Proper}
+use Rattle.half_content.specs.Content.{blockCount, fill, Proper}
 use Rattle.half_seal.specs.Claims.{length-half, half-number, half-opened, Wrote, only-whole}
 use Rattle.half_seal.specs.Half.{blockAt, setNumber, openedSet}
 use Rattle.half_deal.specs.Dealing.{Deal}
@@ -19,7 +17,7 @@ use Rattle.call_party.specs.declared.Party.{Party}
 use Rattle.call_party.specs.Party as BoxCalls
 use Rattle.call_party.specs.Party.{idle, whyNotLoad, whyNotMask, whyNotTake, whyNotFinish, whyNotDrop, maskedVector}
 use Rattle.call_party.specs.Laws.{waterOf, load-tells}
-use Rattle.door_lists.specs.Lists.{Box, camera, office, partyOf, other, World, Starts, Message, take, finish}
+use Rattle.door_lists.specs.Lists.{Box, camera, office, partyOf, other, World, Starts, Message, finish}
 use Rattle.door_lists.specs.Lists.{Event, dealt, loaded, sent, dropped, vector, word, answer, maskedBy, In}
 use Rattle.door_lists.specs.Lists.{Written, Sent, SentVector, SentWord}
 use Rattle.door_lists.proofs.Accepted.{Heard, mask-tells, take-tells, finish-tells}
@@ -30,8 +28,9 @@ use Rattle.door_lists.proofs.Slots.{SlotOk}
 use Rattle.door_lists.proofs.Slots.{Slot, fresh, masked, worded, Word, Slots, slots-away, slots-load, slots-mask}
 use Rattle.door_lists.proofs.Slots.{slots-take, slots-close, slots-drop}
 use Rattle.door_lists.proofs.Written.{new, masked-is}
-use Rattle.door_lists.proofs.Invariant.{Fresh, FreshBehind, Long, closing, loads, behind-next, behind-load}
-use Rattle.door_lists.proofs.Invariant.{showing, lastAt, BoxIs, Inv, one-deal, one-pair}
+use Rattle.door_lists.proofs.Invariant.{FreshBehind, Long, fitting-long, slots-fit, not-both, closing, loads}
+use Rattle.door_lists.proofs.Invariant.{behind-next, behind-load, showing, lastAt, BoxIs, Inv, one-deal}
+use Rattle.door_lists.proofs.Invariant.{one-pair}
 use Rattle.door_lists.proofs.Once.{All}
 use Rattle.door_lists.proofs.Boxes.{other-party, party-of}
 use Rattle.door_lists.proofs.Parts.{Away, last-away, Own, own-load, own-sent, own-drop, last-loaded}
@@ -168,17 +167,9 @@ module _ (S : Starts) where
 
     -- ---- call 4 and drop
 
-    -- a set that was dealt has elements
-    slot-long : (b : Box) (s : Set) → SlotOk h b (fresh s) → 1 ≤ s .terms .n
-    slot-long b s k =
-        let D = look S h (dealt (k .0 .d) (k .0 .f)) (I .good) (k .0 .was) .0 in
-        rw (k .1, set-terms (k .0 .d) b) (length-fits (k .0 .d .terms) (D .length-fits) .0)
-
-    slots-long : (b : Box) (ts : List Slot) → All Fresh ts → All (SlotOk h b) ts → All Long ts
-    slots-long b [] fr k = tt
-    slots-long b (fresh s ∷ ts) fr k = (slot-long b s (k .0), slots-long b ts (fr .1) (k .1))
-    slots-long b (masked s m o ∷ ts) fr k = absurd (fr .0)
-    slots-long b (worded s m o w ∷ ts) fr k = absurd (fr .0)
+    -- what waits behind the open set has elements
+    slots-long : (b : Box) (ts : List Slot) → All (SlotOk h b) ts → All Long ts
+    slots-long b ts k = fitting-long ts (slots-fit S h (I .good) b ts k)
 
     abbrev pub Finishing : Box → Message ℕ → Party → Type 0
     Finishing b m z =
@@ -219,7 +210,7 @@ module _ (S : Starts) where
             slots = ts;
             few = omega (arith, few);
             behind = behind-next ts fr;
-            shows = closing S b (lastAt S b h) (worded s a o u) ts few fr (slots-long b ts fr (k .holds .1));
+            shows = closing S b (lastAt S b h) (worded s a o u) ts few fr (slots-long b ts (k .holds .1));
             ok = slots-close h b (lastAt S b h) (worded s a o u) ts k (s .number) y;
           },
         )
@@ -238,7 +229,7 @@ module _ (S : Starts) where
         slots = ts;
         few = omega (arith, few);
         behind = behind-next ts fr;
-        shows = closing S b (lastAt S b h) t ts few fr (slots-long b ts fr (k .holds .1));
+        shows = closing S b (lastAt S b h) t ts few fr (slots-long b ts (k .holds .1));
         ok = slots-drop h b (lastAt S b h) t ts k;
       },
     )
@@ -286,23 +277,13 @@ module _ (S : Starts) where
       last-own : (n : ℕ) → lastAt S b (loaded b n ∷ h) ≡ n
       last-own n = last-loaded b h (S .boxFloor b) n
 
-      -- with a set waiting a load is not taken
-      not-both : (last : ℕ) (ts : List Slot) → FreshBehind ts → All (SlotOk h b) ts → length ts ≤ 2
-          → showing S b last ts .waiting .terms .n ≡ 0 → length ts ≤ 1
-      unfolding idle noSet
-      not-both last [] fr k few e = omega arith
-      not-both last (t ∷ []) fr k few e = omega arith
-      not-both last (t ∷ fresh s ∷ ts) fr k few e = absurd (omega (arith, slot-long b s (k .1 .0), e))
-      not-both last (t ∷ masked s m o ∷ ts) fr k few e = absurd (fr .0)
-      not-both last (t ∷ worded s m o u ∷ ts) fr k few e = absurd (fr .0)
-
       pub loading : (x : List ℕ) → ((i : ℕ) → i < length x / 512 → Written h b (blockAt x i))
           → (ts : List Slot) → length ts ≤ 2 → FreshBehind ts → Slots h b (lastAt S b h) ts
           → Loading b x (showing S b (lastAt S b h) ts)
       loading x ad ts two fr k e =
           let z : Party = showing S b (lastAt S b h) ts in
           let tells = load-tells z x e in
-          let few = not-both (lastAt S b h) ts fr (k .holds) two (tells .none-waits) in
+          let few = not-both S b (lastAt S b h) ts (slots-fit S h (I .good) b ts (k .holds)) (tells .none-waits) in
           let r = only-whole (S .key b) (door S) (partyOf b) long Mine mine-proper one-mine
           (waterOf z) x (λ i l. mine-block (blockAt x i) (ad i l)) (tells .examined) in
           let s : Set = r .0 in

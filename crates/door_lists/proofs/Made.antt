@@ -19,7 +19,6 @@ use Rattle.call_dealer.specs.Dealer.{halfSize}
 use Rattle.call_party.specs.declared.Party.{Party}
 use Rattle.call_party.specs.declared.PartyAnswer.{PartyAnswer}
 use Rattle.call_party.specs.Party as BoxCalls
-use Rattle.call_party.specs.Party.{idle}
 use Rattle.call_party.specs.Laws.{waterOf}
 use Rattle.call_lock.specs.declared.Lock.{Lock}
 use Rattle.call_lock.specs.Lock as LockCalls

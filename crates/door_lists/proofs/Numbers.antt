@@ -9,7 +9,7 @@ use borrow.Author.Tests.{eqb-true, eq-eqb, ne-eqb, le-ltb}
 use lib.Dec.{eqb}
 use lib.ListN.{length, length-append, length-map}
 use Rattle.base_algebra.specs.Bit.{both}
-use Rattle.measure_table.specs.Measure.{isCode, lengthFits, ownWord}
+use Rattle.measure_table.specs.Measure.{isCode, ownWord}
 use Rattle.measure_table.specs.Laws.{length-fits}
 use Rattle.base_messages.specs.declared.Label.{Label}
 use Rattle.base_messages.specs.Messages.{outOfTurn, wrongNumber, unless, ifTaken}
@@ -31,20 +31,21 @@ use Rattle.door_lists.specs.Lists.{Box, partyOf, other, put, World, Star
 use Rattle.door_lists.specs.Lists.{Call, deal, load, mask, take, finish, drop, join, step, after, history}
 use Rattle.door_lists.specs.Lists.{Event, loaded, sent, dropped, refused, vector, word, answer, eventOf}
 use Rattle.door_lists.specs.Demand.{dealsIn, loadsBy, joinsIn, collect}
-use Rattle.door_lists.specs.Demand.{lastDealt, lastLoaded, lastJoined, openSets, held}
+use Rattle.door_lists.specs.Demand.{lastDealt, lastJoined, openSets, held}
 use Rattle.door_lists.specs.Numbers.{Rise, NoTurn, numbersIn, NumbersKept}
 use Rattle.door_lists.proofs.Accepted.{mask-tells, take-tells, finish-tells}
 use Rattle.door_lists.proofs.Accepted.{drop-tells, join-tells}
 use Rattle.door_lists.proofs.Boxes.{own-box, party-fits, put-all}
-use Rattle.door_lists.proofs.Goes.{OpenAt, Behind, none-behind, one-behind, idle-sound, open-sound, drop-goes}
+use Rattle.door_lists.proofs.Goes.{OpenAt, idle-sound, open-sound, drop-goes}
 use Rattle.door_lists.proofs.History.{door}
-use Rattle.door_lists.proofs.Invariant.{phaseOf, firstIn, Fresh, FreshBehind, Long, behind-next, behind-load}
+use Rattle.door_lists.proofs.Invariant.{phaseOf, firstIn, FreshBehind, Fitting, fitting-long, slot-phase}
+use Rattle.door_lists.proofs.Invariant.{opened-at, not-both, behind-next, behind-load}
 use Rattle.door_lists.proofs.Invariant.{whoAt, showing, closing, loads, lastAt, none-yet}
 use Rattle.door_lists.proofs.Once.{All}
 use Rattle.door_lists.proofs.Parts.{Away, last-away, Own, own-load, own-sent, own-drop, last-loaded}
 use Rattle.door_lists.proofs.Parts.{other-away, dealt-away, joined-away, refused-away}
 use Rattle.door_lists.proofs.Parts.{Quiet, dealt-quiet, joined-quiet, refused-quiet, own-quiet}
-use Rattle.door_lists.proofs.Slots.{Slot, fresh, masked, worded, setIn, numberOf, Rising, Counted, all-load}
+use Rattle.door_lists.proofs.Slots.{Slot, fresh, masked, worded, setIn, numberOf, Counted, all-load}
 use Rattle.door_lists.proofs.Slots.{counted-away, counted-load, counted-mask, counted-take, counted-close}
 use Rattle.door_lists.proofs.Slots.{counted-drop}
 use Rattle.door_lists.proofs.Written.{new}
@@ -61,18 +62,6 @@ either P why e now was f r = go (eqb why 0) refl
     go false q = r
 
 -- ---- a box's state: it shows sets that a load leaves, whatever they hold
-
-abbrev Fitting : Slot → Type 0
-Fitting t = (isCode (setIn t .terms .code) ≡ true) × (lengthFits (setIn t .terms) ≡ true)
-
-fitting-long : (ts : List Slot) → All Fitting ts → All Long ts
-fitting-long [] f = tt
-fitting-long (t ∷ ts) f = (length-fits (setIn t .terms) (f .0 .1) .0, fitting-long ts (f .1))
-
-phase-some : (t : Slot) → (1 ≤ phaseOf t) × (phaseOf t ≤ 3)
-phase-some (fresh s) = (omega arith, omega arith)
-phase-some (masked s m o) = (omega arith, omega arith)
-phase-some (worded s m o w) = (omega arith, omega arith)
 
 -- a load at a box with a set waiting, and one of a number that is not above the last one
 waits-3 : (z : Party) (x : List ℕ) → 1 ≤ z .waiting .terms .n → whyNotLoad z x ≡ outOfTurn
@@ -117,13 +106,6 @@ module _ (S : Starts) where
         shows ∙ ap (λ z. showing S b z ts) l,
       )
 
-  -- with a set waiting a load is not taken
-  not-both : (b : Box) (last : ℕ) (ts : List Slot) → All Fitting ts → showing S b last ts .waiting .terms .n ≡ 0
-      → length ts ≤ 1
-  not-both b last [] f e = omega arith
-  not-both b last (t ∷ []) f e = omega arith
-  not-both b last (t ∷ u ∷ ts) f e = absurd (omega (arith, length-fits (setIn u .terms) (f .1 .0 .1) .0, e))
-
   module _ (b : Box) (h : List Event) where
     abbrev last : ℕ
     last = lastAt S b h
@@ -141,7 +123,7 @@ module _ (S : Starts) where
         let z : Party = showing S b last ts in
         let tells = load-tells z x e in
         let s : Set = openedSet (S .key b) x in
-        let few = not-both b last ts (k .fitting) (tells .none-waits) in
+        let few = not-both S b last ts (k .fitting) (tells .none-waits) in
         let fits = opened-fits (S .key b) (door S) (partyOf b) (waterOf z) x (tells .examined) in
         let own = last-loaded b h (S .boxFloor b) (setNumber x) in
         let after : List Slot = ts ++ (fresh s ∷ []) in (
@@ -234,23 +216,8 @@ module _ (S : Starts) where
       closes-to t ts k,
     )
 
-    -- such a state stands as 01's third refusal asks
-    behind-fits : (n : ℕ) (ts : List Slot) → All Fitting ts → Rising n last ts → Behind n (firstIn ts)
-    behind-fits n [] f r = none-behind n
-    behind-fits n (t ∷ ts) f r = one-behind n (setIn t) (r .0) (f .0 .0) (f .0 .1)
-
     opened : (t : Slot) (ts : List Slot) → Has b h (t ∷ ts) → OpenAt (phaseOf t) (showing S b last (t ∷ ts))
-    opened t ts k =
-        record {
-          phase-is = refl;
-          some-phase = phase-some t .0;
-          last-phase = phase-some t .1;
-          party-fits = party-fits b;
-          code-fits = k .fitting .0 .0;
-          length-fits = k .fitting .0 .1;
-          waiting-fits = behind-fits (setIn t .number) ts (k .fitting .1) (k .counted .rising .1) (phaseOf t)
-              (phase-some t .0);
-        }
+    opened t ts k = opened-at S b _ last t ts (k .fitting) (k .counted .rising)
 
     -- the same at any state of the box
     module _ (p : Party) (a : BoxAt b h p) where
@@ -289,7 +256,7 @@ module _ (S : Starts) where
         where
           go : (ts : List Slot) → Has b h ts → showing S b last ts .check .phase ≡ 0 → openSets b h ≡ 0
           go [] k e = sym (k .counted .count)
-          go (t ∷ ts) k e = absurd (omega (arith, e, phase-some t .0))
+          go (t ∷ ts) k e = absurd (omega (arith, e, slot-phase t .0))
 
       none-idle : openSets b h ≡ 0 → p .check .phase ≡ 0
       unfolding BoxCalls.noCheck

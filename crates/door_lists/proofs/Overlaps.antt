@@ -2,7 +2,6 @@
 use mathlib.Core.Path.{_≡_, refl, sym, ap, subst, _∙_}
 use mathlib.Core.Bool.{true, false, true≢false}
 use mathlib.Core.List.{List, [], _∷_, _++_, append-nil}
-use mathlib.Core.Logic.{_⊎_, inl, inr}
 use Prim.Native.Nat.{ℕ, zero, suc, _<_, _≤_}
 use native.Mathlib.Omega.{arith}
 use lib.ListN.{length}
@@ -20,7 +19,7 @@ use Rattle.door_lists.specs.Lists.{refused, put, onBox, maskedBy, step, 
 use Rattle.call_dealer.specs.Dealer.{halfSize}
 use Rattle.door_lists.specs.Demand.{lastDealt, lastJoined, madeOne, onward, InRange, Free}
 use Rattle.door_lists.specs.Overlap.{madeTo}
-use Rattle.door_lists.specs.Overlap.{Both, nothingYet, endedAt, UnderWay, FirstInOrder, SecondInOrder, FirstReady}
+use Rattle.door_lists.specs.Overlap.{Both, nothingYet, endedAt, UnderWay, FirstReady}
 use Rattle.door_lists.specs.Overlap.{SecondReady, Overlap, begin, of-first, of-second, first-dropped, still}
 use Rattle.door_lists.specs.Overlap.{turned-down}
 use Rattle.door_lists.proofs.Dealt.{setOf, set-number, set-terms, maskOf, wordBy, answerBy}

@@ -8,9 +8,9 @@ use lib.ListN.{length, replicate}
 use Rattle.measure_table.specs.Laws.{any-length}
 use Rattle.half_deal.specs.Dealing.{Deal}
 use Rattle.call_dealer.specs.Dealer.{halfSize}
-use Rattle.door_lists.specs.Lists.{Box, camera, office, World, Starts, Started, beginning, Call, deal, load, mask}
+use Rattle.door_lists.specs.Lists.{Box, camera, office, World, Starts, beginning, Call, deal, load, mask}
 use Rattle.door_lists.specs.Lists.{take, finish, join, Event, after, events, In, here, there, history, Admissible}
-use Rattle.door_lists.specs.Demand.{onward, Answered, InRange, Free}
+use Rattle.door_lists.specs.Demand.{onward, Answered, Free}
 use Rattle.door_lists.specs.Overlap.{Both, nothingYet, FirstReady, SecondReady, Overlap, begin, of-first}
 use Rattle.door_lists.specs.Overlap.{of-second, Two, BothAnswered, NeitherStuck, BothEnded, BothCanEnd, LoadAhead}
 use Rattle.door_lists.specs.Overlap.{TwoThereAre}

@@ -12,7 +12,7 @@ use Rattle.half_deal.specs.Dealing.{Deal}
 use Rattle.call_dealer.specs.Dealer.{halfSize}
 use Rattle.door_lists.specs.Lists.{Box, camera, office, other, World, Starts, Call, deal, load, mask, take}
 use Rattle.door_lists.specs.Lists.{finish, drop, join, Event, dealt, loaded, sent, dropped, joined, refused}
-use Rattle.door_lists.specs.Lists.{events, In, here, there, step, after}
+use Rattle.door_lists.specs.Lists.{events, In, here, there, after}
 use Rattle.door_lists.specs.Demand.{Progress, nothingMade, madeOne, onward, Ready, Whole, InRange}
 use Rattle.door_lists.specs.Overlap.{Both, nothingYet, endedAt, UnderWay, FirstInOrder, SecondInOrder, FirstReady}
 use Rattle.door_lists.specs.Overlap.{SecondReady, Overlap, begin, of-first, of-second, first-dropped, still}
@@ -20,7 +20,7 @@ use Rattle.door_lists.specs.Overlap.{turned-down}
 use Rattle.door_lists.proofs.Boxes.{each, put-all}
 use Rattle.door_lists.proofs.History.{door, halfOf}
 use Rattle.door_lists.proofs.Made.{said}
-use Rattle.door_lists.proofs.Overlaps.{At, Holds, running, first-goes, second-goes, drop-goes-on}
+use Rattle.door_lists.proofs.Overlaps.{At, running, first-goes, second-goes, drop-goes-on}
 use Rattle.door_lists.proofs.Stuck.{Has, has-later, has-next, goes-on, room, maskFrom, wordFrom}
 use Rattle.door_lists.proofs.Unmoved.{unmoved}
 

@@ -1,8 +1,8 @@
 -- A box's state is tidy after any list of calls: each call hands back the state that it got, or one of the four that a
 -- box is ever put into. Assumes nothing.
-use mathlib.Core.Path.{_≡_, refl, ap, _∙_}
+use mathlib.Core.Path.{_≡_, refl, _∙_}
 use mathlib.Core.Bool.{Bool, true, false, cond, not}
-use mathlib.Core.List.{List, [], _∷_, _++_}
+use mathlib.Core.List.{List, [], _∷_}
 use Prim.Native.Nat.{ℕ, zero, suc, _+_, _-_, _≤_}
 use native.Mathlib.Omega.{arith}
 use borrow.Author.Tests.{eqb-true, eqb-false, not-false}
@@ -21,8 +21,8 @@ use Rattle.call_party.specs.declared.Party.{Party}
 use Rattle.call_party.specs.Party as BoxCalls
 use Rattle.call_party.specs.Party.{noCheck, idle, noParty, startParty, opened, loaded, masked, maskedVector, worded}
 use Rattle.call_party.specs.Party.{closed, nextCheck, whyNotLoad}
-use Rattle.call_party.specs.Laws.{opened-fits, opened-long}
-use Rattle.door_lists.specs.Lists.{Box, camera, office, put, World, Starts, beginning, Call, deal, load, mask}
+use Rattle.call_party.specs.Laws.{opened-long}
+use Rattle.door_lists.specs.Lists.{Box, camera, office, put, World, beginning, Call, deal, load, mask}
 use Rattle.door_lists.specs.Lists.{take, finish, drop, join, step, after}
 use Rattle.door_lists.specs.States.{PastLength, Tidy, AlwaysTidy}
 
