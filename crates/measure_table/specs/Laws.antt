@@ -1,6 +1,6 @@
 -- What a caller uses of the measures: how long a vector may be; their words are the residues of the whole numbers; what
--- two boxes open fits a signed word (01, "Measures"), and the word's sign says whether the threshold is reached; and
--- that by the table's signs all this is 01's, word for word. Assumes nothing. [SPEC 3.5]
+-- two boxes open fits a signed word (01, "Measures"), by either sign, and the word's sign says whether the threshold is
+-- reached; and that by the table's signs this is the papers' rule, word for word. Assumes nothing. [SPEC 3.5, 3.6]
 use mathlib.Core.Path.{_≡_, refl, sym, ap, ap₂, _∙_, subst}
 use mathlib.Core.Bool.{Bool, true, false, cond, _&&_}
 use mathlib.Core.List.{List, [], _∷_}
@@ -420,32 +420,54 @@ reached-sign terms t w x y hn hx hy ht lw h =
     let from : Le (negℤ (pos (2 ^ 31))) d = le-trans lower (of-test _ _ (b .0)) in
     word-sign w d lw (to-test from) (b .1) h
 
--- ---- 01's own words: every sign of the table is 1, and a vector is carried as it is
+-- ---- the rule, in the words of the papers: "scalar product keeps measure ≥ T", and "For squared Euclid and Hamming the
+-- lock's 1 means measure ≤ T" [SPEC 3.6]
 
-pub sign-plain : (terms : Terms) → sign terms ≡ pos 1
-unfolding sign row scalarProduct squaredEuclid hamming
-sign-plain terms = go (terms .code)
-  where
-    go : (code : ℕ) → row code .sign ≡ pos 1
-    go zero = refl
-    go (suc zero) = refl
-    go (suc (suc code)) = refl
+pub scalar-sign : (terms : Terms) → terms .code ≡ 0 → sign terms ≡ pos 1
+unfolding sign row scalarProduct
+scalar-sign terms e = ap (λ (c : ℕ). row c .sign) e
 
-pub signWord-plain : (terms : Terms) → signWord terms ≡ 1
-unfolding signWord word
-signWord-plain terms = ap word (sign-plain terms)
+pub euclid-sign : (terms : Terms) → terms .code ≡ 1 → sign terms ≡ negℤ (pos 1)
+unfolding sign row squaredEuclid
+euclid-sign terms e = ap (λ (c : ℕ). row c .sign) e
 
-pub difference-plain : (terms : Terms) (m t : ℤ) → difference terms m t ≡ m -ℤ t
-unfolding difference
-difference-plain terms m t = ap (λ (s : ℤ). s *ℤ (m -ℤ t)) (sign-plain terms) ∙ once (m -ℤ t)
-  where
-    once : (d : ℤ) → pos 1 *ℤ d ≡ d
-    once d = ringℤ (d ∷ []) (search reifyℤ depth 20 fits 5000) refl
+pub hamming-sign : (terms : Terms) → terms .code ≡ 2 → sign terms ≡ negℤ (pos 1)
+unfolding sign row hamming
+hamming-sign terms e = ap (λ (c : ℕ). row c .sign) e
 
--- "Reached means measure ≥ T, for all three" [SPEC 3.6]
-pub reached-plain : (terms : Terms) (m t : ℤ) → reached terms m t ≡ leZ t m
-unfolding reached
-reached-plain terms m t = ap (leZ (pos 0)) (difference-plain terms m t) ∙ above-zero m t
+-- where the sign is plain, all is as 01 has it ..
+module _ (terms : Terms) (plain : sign terms ≡ pos 1) where
+  pub signWord-plain : signWord terms ≡ 1
+  unfolding signWord word
+  signWord-plain = ap word plain
+
+  pub difference-plain : (m t : ℤ) → difference terms m t ≡ m -ℤ t
+  unfolding difference
+  difference-plain m t = ap (λ (s : ℤ). s *ℤ (m -ℤ t)) plain ∙ once (m -ℤ t)
+    where
+      once : (d : ℤ) → pos 1 *ℤ d ≡ d
+      once d = ringℤ (d ∷ []) (search reifyℤ depth 20 fits 5000) refl
+
+  pub reached-plain : (m t : ℤ) → reached terms m t ≡ leZ t m
+  unfolding reached
+  reached-plain m t = ap (leZ (pos 0)) (difference-plain m t) ∙ above-zero m t
+
+-- .. and where it is -1, as 02, §2, has it
+module _ (terms : Terms) (close : sign terms ≡ negℤ (pos 1)) where
+  pub signWord-close : signWord terms ≡ neg 1
+  unfolding signWord word
+  signWord-close = ap word close
+
+  pub difference-close : (m t : ℤ) → difference terms m t ≡ t -ℤ m
+  unfolding difference
+  difference-close m t = ap (λ (s : ℤ). s *ℤ (m -ℤ t)) close ∙ turned m t
+    where
+      turned : (m t : ℤ) → negℤ (pos 1) *ℤ (m -ℤ t) ≡ t -ℤ m
+      turned m t = ringℤ (m ∷ t ∷ []) (search reifyℤ depth 20 fits 5000) refl
+
+  pub reached-close : (m t : ℤ) → reached terms m t ≡ leZ m t
+  unfolding reached
+  reached-close m t = ap (leZ (pos 0)) (difference-close m t) ∙ above-zero t m
 
 -- call 2: "Mask its own vector"
 pub carried-plain : (terms : Terms) (party : ℕ) (v : List ℕ) → carried terms party v ≡ v

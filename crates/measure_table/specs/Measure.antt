@@ -1,7 +1,7 @@
--- The three measures (01, "Measures"): the table, the whole number that a set's terms and two vectors have, and the
--- words that a box computes. Elements and thresholds are words: a negative number stands for itself plus 2^32. The
--- terms are what both boxes know of a set: its measure's code, and L as `n`. Assumes nothing.
--- [SPEC 2.3, 2.4, 3.1 to 3.3]
+-- The three measures (01, "Measures"; 02, §2, "Distances mean close"): the table, the whole number that a set's terms
+-- and two vectors have, when that number meets the threshold, and the words that a box computes. Elements and
+-- thresholds are words: a negative number stands for itself plus 2^32. The terms are what both boxes know of a set: its
+-- measure's code, and L as `n`. Assumes nothing. [SPEC 2.3, 2.4, 3.1 to 3.3, 3.6]
 use mathlib.Core.Bool.{Bool, true, false, cond, _&&_}
 use mathlib.Core.List.{List, [], _∷_}
 use Prim.Native.Nat.{ℕ, zero, suc, _*_, _-_, _%_, _^_}
@@ -19,7 +19,7 @@ mostElements = 512
 
 -- 01's table, a row for each code. `squares`: own is the sum of squares, else 0. An element lies from `low` to `high`,
 -- a threshold from `least` to `most`. Two columns more: a vector has at most `longest` elements; `sign` is 1 where a
--- set opens measure - T, and would be -1 where it opened T - measure. [SPEC 3.3]
+-- set opens measure - T, and -1 where it opens T - measure. [SPEC 3.3, 3.6]
 pub record Row : Type 0 where
   pub squares : Bool
   pub k : ℤ
@@ -44,15 +44,18 @@ columns squares k low high least most longest sign =
       sign = sign;
     }
 
+-- "scalar product keeps measure ≥ T"
 unfoldable pub scalarProduct : Row
 scalarProduct =
     columns false (pos 1) (negℤ (pos 1024)) (pos 1023) (negℤ (pos (2 ^ 30))) (pos (2 ^ 30)) mostElements (pos 1)
 
+-- 02, §2: "The opened sum for those two codes is T - measure + r"
 unfoldable pub squaredEuclid : Row
-squaredEuclid = columns true (negℤ (pos 2)) (negℤ (pos 1024)) (pos 1023) (pos 0) (pos (2 ^ 31 - 1)) mostElements (pos 1)
+squaredEuclid =
+    columns true (negℤ (pos 2)) (negℤ (pos 1024)) (pos 1023) (pos 0) (pos (2 ^ 31 - 1)) mostElements (negℤ (pos 1))
 
 unfoldable pub hamming : Row
-hamming = columns true (negℤ (pos 2)) (pos 0) (pos 1) (pos 0) (pos 513) mostElements (pos 1)
+hamming = columns true (negℤ (pos 2)) (pos 0) (pos 1) (pos 0) (pos 513) mostElements (negℤ (pos 1))
 
 -- 01's table, column "code". A code above 2 reads as 2: no accepted
 -- call has one (01, "When a call is turned down", 2, 3 and 11). [SPEC 3.3, 3.10, 23.2]
@@ -89,12 +92,12 @@ measure terms x y = own terms x +ℤ own terms y +ℤ row (terms .code) .k *ℤ 
 unfoldable pub sign : Terms → ℤ
 sign terms = row (terms .code) .sign
 
--- what the two boxes open, under r: measure - T, or T - measure where the sign is -1. Terms, measure, T
+-- what the two boxes open, under r: measure - T, and T - measure where the sign is -1. Terms, measure, T [SPEC 17.6]
 unfoldable pub difference : Terms → ℤ → ℤ → ℤ
 difference terms m t = sign terms *ℤ (m -ℤ t)
 
--- whether the threshold is reached: what they open is not below 0. By the sign 1 that is "Reached means measure ≥ T,
--- for all three" (Laws.`reached-plain`). Terms, measure, T
+-- whether the threshold is reached: what they open is not below 0. By the sign 1 that is "measure ≥ T"
+-- (Laws.`reached-plain`), by -1 it is "measure ≤ T" (`reached-close`). Terms, measure, T [SPEC 3.6]
 unfoldable pub reached : Terms → ℤ → ℤ → Bool
 reached terms m t = leZ (pos 0) (difference terms m t)
 

@@ -1,4 +1,4 @@
-// The three measures (01, "Measures"): what the table says of each code, as words. Elements and
+// The three measures (01, "Measures"; 02, §2): what the table says of each code, as words. Elements and
 // thresholds are words; a negative number stands for itself plus 2^32. No public function asks
 // anything of its caller. (1073741824 is 2^30, and 2147483648 is 2^31.) `measure_own` has the own term.
 // [SPEC 2.3, 2.4, 3.3, 3.7]
@@ -22,7 +22,9 @@ pub struct Terms {
 // 0 to this if the threshold is reached.
 pub const ORDINARY_WIDTH: u32 = 2147483647;
 
-// -2, -1024 and -2^30
+// -1, -2, -1024 and -2^30
+const MINUS_1: u32 = 4294967295;
+
 const MINUS_2: u32 = 4294967294;
 
 const MINUS_1024: u32 = 4294966272;
@@ -81,9 +83,9 @@ pub fn row_of(code: u32) -> Row
     if code == 0 {
         Row::new(false, 1, MINUS_1024, 1023, MINUS_2_30, 1073741824, 512, 1)
     } else if code == 1 {
-        Row::new(true, MINUS_2, MINUS_1024, 1023, 0, 2147483647, 512, 1)
+        Row::new(true, MINUS_2, MINUS_1024, 1023, 0, 2147483647, 512, MINUS_1)
     } else {
-        Row::new(true, MINUS_2, 0, 1, 0, 513, 512, 1)
+        Row::new(true, MINUS_2, 0, 1, 0, 513, 512, MINUS_1)
     }
 }
 

@@ -1,18 +1,18 @@
--- Claim opened-sum: whatever the masks, the two boxes' words sum to measure - T, by the sign, + r. Claim join law:
--- whatever the key seeds, their answers sum to 1 if the threshold is reached, else to 0. Both over free words: where
--- they come from is another layer's matter; and over either sign. And that by the table's signs the formulas are 01's,
+-- Claim opened-sum: whatever the masks, the two boxes' words sum to measure - T, or to T - measure by the sign -1, + r.
+-- Claim join law: whatever the key seeds, their answers sum to 1 if the threshold is reached, else to 0. Both over free
+-- words: where they come from is another layer's matter; and over either sign. And that the formulas are the papers',
 -- word for word. Assumes nothing.
 use mathlib.Core.Path.{_≡_, refl, ap, ap₂, _∙_}
 use mathlib.Core.Bool.{true}
 use mathlib.Core.List.{List, [], _∷_}
 use Prim.Native.Nat.{ℕ, zero, suc, _+_, _-_, _^_, _<_, _≤_}
 use native.Mathlib.Omega.{arith}
-use lib.IntN.{ℤ, _-ℤ_, _*ℤ_}
+use lib.IntN.{ℤ, pos, negℤ, _-ℤ_, _*ℤ_}
 use lib.ListN.{getD}
 use Rattle.base_algebra.specs.Mod.{m-eq}
 use Rattle.base_algebra.specs.Integer.{residue}
 use Rattle.base_algebra.specs.Ring.{ring}
-use Rattle.base_algebra.specs.Word.{words, add, sub, mul, signed, _≈_, signed≈, add-lt, sub-lt, same-word}
+use Rattle.base_algebra.specs.Word.{words, add, sub, neg, mul, signed, _≈_, signed≈, add-lt, sub-lt, same-word}
 use Rattle.base_algebra.specs.Bit.{only, less, odd}
 use Rattle.base_algebra.specs.Sum.{sum, sum-ext}
 use Rattle.base_words.specs.List.{getD-tab}
@@ -23,30 +23,54 @@ use Rattle.dcf_node.specs.declared.Key.{Key}
 use Rattle.measure_table.specs.declared.Terms.{Terms}
 use Rattle.measure_table.specs.Measure.{lengthFits, allInRange, thresholdFits, measure, sign, difference, reached}
 use Rattle.measure_table.specs.Measure.{kWord, signWord, ownWord, carried, ordinaryWidth}
-use Rattle.measure_table.specs.Laws.{measure≈, signWord≈, signWord-plain, reached-sign}
+use Rattle.measure_table.specs.Laws.{measure≈, signWord≈, signWord-plain, signWord-close, reached-sign}
 use Rattle.share_vectors.specs.Share.{plus, inner, otherC, otherR, share, boxWord, answer, idealGate}
 
--- ---- 01's own words
+-- ---- the papers' own words. Where the sign is plain they are 01's ..
 
--- "its word: k × (share) + own + its r" [SPEC 17.4]
-pub word-plain : (terms : Terms) (s own r : ℕ) → boxWord terms s own r ≡ add (add (mul (kWord terms) s) own) r
-unfolding boxWord
-word-plain terms s own r =
-    ap (λ (g : ℕ). add (mul g (add (mul (kWord terms) s) own)) r) (signWord-plain terms)
-    ∙ same-word (once (kWord terms) s own r) (add-lt _ _) (add-lt _ _)
-  where
-    once : (k s o r : ℕ) → add (mul 1 (add (mul k s) o)) r ≈ add (add (mul k s) o) r
-    once k s o r = ring (k ∷ s ∷ o ∷ r ∷ []) (search words depth 40 fits 5000) refl
+module _ (terms : Terms) (plain : sign terms ≡ pos 1) where
+  -- "its word: k × (share) + own + its r" [SPEC 17.4]
+  pub word-plain : (s own r : ℕ) → boxWord terms s own r ≡ add (add (mul (kWord terms) s) own) r
+  unfolding boxWord
+  word-plain s own r =
+      ap (λ (g : ℕ). add (mul g (add (mul (kWord terms) s) own)) r) (signWord-plain terms plain)
+      ∙ same-word (once (kWord terms) s own r) (add-lt _ _) (add-lt _ _)
+    where
+      once : (k s o r : ℕ) → add (mul 1 (add (mul k s) o)) r ≈ add (add (mul k s) o) r
+      once k s o r = ring (k ∷ s ∷ o ∷ r ∷ []) (search words depth 40 fits 5000) refl
 
--- "r1 = r - T - r0" [SPEC 5.8]
-pub other-r-plain : (terms : Terms) (r t r0 : ℕ) → otherR terms r t r0 ≡ sub (sub r t) r0
-unfolding otherR
-other-r-plain terms r t r0 =
-    ap (λ (g : ℕ). sub (sub r (mul g t)) r0) (signWord-plain terms)
-    ∙ same-word (once r t r0) (sub-lt _ _) (sub-lt _ _)
-  where
-    once : (r t r0 : ℕ) → sub (sub r (mul 1 t)) r0 ≈ sub (sub r t) r0
-    once r t r0 = ring (r ∷ t ∷ r0 ∷ []) (search words depth 40 fits 5000) refl
+  -- "r1 = r - T - r0" [SPEC 5.8]
+  pub other-r-plain : (r t r0 : ℕ) → otherR terms r t r0 ≡ sub (sub r t) r0
+  unfolding otherR
+  other-r-plain r t r0 =
+      ap (λ (g : ℕ). sub (sub r (mul g t)) r0) (signWord-plain terms plain)
+      ∙ same-word (once r t r0) (sub-lt _ _) (sub-lt _ _)
+    where
+      once : (r t r0 : ℕ) → sub (sub r (mul 1 t)) r0 ≈ sub (sub r t) r0
+      once r t r0 = ring (r ∷ t ∷ r0 ∷ []) (search words depth 40 fits 5000) refl
+
+-- .. and where it is -1, 02's, §2
+
+module _ (terms : Terms) (close : sign terms ≡ negℤ (pos 1)) where
+  -- "a box's word is its r minus (k × (share) + own)" [SPEC 17.4]
+  pub word-close : (s own r : ℕ) → boxWord terms s own r ≡ sub r (add (mul (kWord terms) s) own)
+  unfolding boxWord
+  word-close s own r =
+      ap (λ (g : ℕ). add (mul g (add (mul (kWord terms) s) own)) r) (signWord-close terms close)
+      ∙ same-word (turned (kWord terms) s own r) (add-lt _ _) (sub-lt _ _)
+    where
+      turned : (k s o r : ℕ) → add (mul (neg 1) (add (mul k s) o)) r ≈ sub r (add (mul k s) o)
+      turned k s o r = ring (k ∷ s ∷ o ∷ r ∷ []) (search words depth 40 fits 5000) refl
+
+  -- "r1 = r + T - r0" [SPEC 5.8]
+  pub other-r-close : (r t r0 : ℕ) → otherR terms r t r0 ≡ sub (add r t) r0
+  unfolding otherR
+  other-r-close r t r0 =
+      ap (λ (g : ℕ). sub (sub r (mul g t)) r0) (signWord-close terms close)
+      ∙ same-word (turned r t r0) (sub-lt _ _) (sub-lt _ _)
+    where
+      turned : (r t r0 : ℕ) → sub (sub r (mul (neg 1) t)) r0 ≈ sub (add r t) r0
+      turned r t r0 = ring (r ∷ t ∷ r0 ∷ []) (search words depth 40 fits 5000) refl
 
 half : (z : ℕ) → sub z (2 ^ 31) ≡ add z (2 ^ 31)
 unfolding add sub
