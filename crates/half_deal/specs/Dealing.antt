@@ -69,21 +69,25 @@ rOf d w party =
     let n : ℕ = d .terms .n in
     cond (eqb party 0) (r0 n w) (otherR (d .terms) (r n w) (d .t) (r0 n w))
 
--- the set that a party gets from them
-unfoldable pub setFrom : Deal → List ℕ → ℕ → Set
-setFrom d w party =
-    let n : ℕ = d .terms .n in
+-- a party's set of this number and these terms, from the words that were drawn and its r word: T stands nowhere else
+abbrev pub setWith : ℕ → Terms → List ℕ → ℕ → ℕ → Set
+setWith number terms w party its-r =
+    let n : ℕ = terms .n in
     record {
-      number = d .number;
-      terms = d .terms;
+      number = number;
+      terms = terms;
       mask = fill (ownMask n w party);
       x = fill (x n w party);
       y = fill (y n w party);
       c = cOf n w party;
-      r = rOf d w party;
+      r = its-r;
       seed = keySeed n w party;
       key = keyFor (keySeed n w 0) (keySeed n w 1) (r n w);
     }
+
+-- the set that a party gets from them
+unfoldable pub setFrom : Deal → List ℕ → ℕ → Set
+setFrom d w party = setWith (d .number) (d .terms) w party (rOf d w party)
 
 -- what a deal gives a party
 unfoldable pub dealtSet : Deal → ℕ → Set

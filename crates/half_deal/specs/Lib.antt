@@ -1,2 +1,3 @@
 pub mod Dealing
 pub mod Laws
+pub mod Close
