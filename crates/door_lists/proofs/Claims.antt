@@ -7,7 +7,7 @@ use Prim.Native.Nat.{ℕ, _<_}
 use borrow.Author.Tests.{lt-ltb}
 use Rattle.measure_table.specs.declared.Terms.{Terms}
 use Rattle.measure_table.specs.Measure.{isCode}
-use Rattle.measure_table.specs.Laws.{any-length, reached-plain}
+use Rattle.measure_table.specs.Laws.{any-length, scalar-sign, euclid-sign, hamming-sign, reached-plain, reached-close}
 use Rattle.half_deal.specs.Dealing.{Deal}
 use Rattle.door_lists.specs.Lists.{Box, Starts, Started, beginning, Call, camera, office, joined, after, events}
 use Rattle.door_lists.specs.Lists.{history, Admissible}
@@ -21,7 +21,7 @@ use Rattle.door_lists.proofs.Runs.{At, ready, run-goes, answered}
 use Rattle.door_lists.proofs.Stuck.{never}
 use Rattle.door_lists.proofs.Ends.{ended}
 use Rattle.door_lists.proofs.Drops.{dropped-then}
-use Rattle.door_lists.proofs.NotEmpty.{examples, some-starts}
+use Rattle.door_lists.proofs.NotEmpty.{sample-1, sample-0, example, some-starts}
 
 pub always : (s : Starts) → Started s → (cs : List Call) → Admissible s cs
     → Inv s (history s cs) (after (beginning s) cs)
@@ -85,13 +85,23 @@ not-empty : NotEmpty
 unfolding NotEmpty
 not-empty = (
   λ s f cs a n terms small c some most F.
-      examples n terms small (coded terms c) (any-length terms some most) can-end s f cs a F,
+      let fits = any-length terms some most in (
+        example n terms small (coded terms c) fits 1 (sample-1 terms) can-end s f cs a F,
+        example n terms small (coded terms c) fits 0 (sample-0 terms c some) can-end s f cs a F,
+      ),
   some-starts,
 )
 
 verdict-is : VerdictIs
 unfolding VerdictIs
-verdict-is d x y = ap (λ (b : Bool). cond b 1 0) (reached-plain (d .terms) _ _)
+verdict-is d x y = (
+  λ e. ap bit (reached-plain (d .terms) (scalar-sign (d .terms) e) _ _),
+  λ e. ap bit (reached-close (d .terms) (euclid-sign (d .terms) e) _ _),
+  λ e. ap bit (reached-close (d .terms) (hamming-sign (d .terms) e) _ _),
+)
+  where
+    bit : Bool → ℕ
+    bit b = cond b 1 0
 
 pub demand-3 : Demand3
 unfolding Demand3

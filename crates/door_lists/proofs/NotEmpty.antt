@@ -1,18 +1,20 @@
 -- The claims are not empty: at every measure and length both reports can be had, and there are accepted starts.
 -- Assumes nothing.
-use mathlib.Core.Path.{_≡_, refl, ap₂}
-use mathlib.Core.Bool.{true, _&&_}
+use mathlib.Core.Path.{_≡_, refl, ap, ap₂, _∙_}
+use mathlib.Core.Bool.{true, cond, _&&_}
 use mathlib.Core.List.{List, [], _∷_}
-use Prim.Native.Nat.{ℕ, zero, suc, _^_, _<_}
+use Prim.Native.Nat.{ℕ, zero, suc, _^_, _<_, _≤_}
 use native.Mathlib.Omega.{arith}
 use lib.IntN.{ℤ, pos, _+ℤ_, _*ℤ_}
-use lib.ListN.{replicate, length-replicate}
+use lib.ListN.{length, replicate, length-replicate}
+use Rattle.base_algebra.specs.Integer.{ringℤ, reifyℤ}
 use Rattle.base_algebra.specs.Word.{signed}
 use Rattle.base_algebra.specs.Sum.{sumℤ}
-use Rattle.measure_table.specs.Measure.{row, scalarProduct, squaredEuclid, hamming, element, measure, isCode}
-use Rattle.measure_table.specs.Measure.{lengthFits, within, inRange, allInRange, thresholdFits}
+use Rattle.measure_table.specs.Measure.{row, scalarProduct, squaredEuclid, hamming, element, measure, reached}
+use Rattle.measure_table.specs.Measure.{isCode, lengthFits, within, inRange, allInRange, thresholdFits}
 use Rattle.measure_table.specs.declared.Terms.{Terms}
-use Rattle.measure_table.specs.Laws.{reached-plain}
+use Rattle.measure_table.specs.Laws.{scalar-sign, euclid-sign, hamming-sign, reached-plain, reached-close}
+use Rattle.measure_table.specs.Laws.{reached-equal}
 use Rattle.measure_table.specs.Measure as Measure
 use Rattle.base_words.specs.List.{same}
 use Rattle.base_messages.specs.Messages.{unless, nameFits, printable, isKey}
@@ -20,11 +22,11 @@ use Rattle.call_party.specs.Party.{startParty, whyNotParty}
 use Rattle.call_lock.specs.Lock.{startLock, whyNotLock}
 use Rattle.half_deal.specs.Dealing.{Deal, dealFrom}
 use Rattle.call_dealer.specs.Dealer.{startDealer, whyNotDealer}
-use Rattle.door_lists.specs.Lists.{partyOf, Starts, Started, Call, history, Admissible}
-use Rattle.door_lists.specs.Demand.{verdict, InRange, Free, Ended, CanEnd, Example}
+use Rattle.door_lists.specs.Lists.{Box, camera, office, partyOf, Starts, Started, Call, history, Admissible}
+use Rattle.door_lists.specs.Demand.{InRange, Free, CanEnd, Example}
 use Rattle.door_lists.proofs.Boxes.{both}
 
--- ---- vectors of zeros: at every measure, T = 0 is reached and T = 1 is not
+-- ---- two vectors of zeros: their measure is 0 under every code, and T = 0 is reached
 
 abbrev zeros : ℕ → List ℕ
 zeros l = replicate l 0
@@ -40,80 +42,171 @@ unfolding sumℤ
 no-sum f z zero = refl
 no-sum f z (suc n) = ap₂ _+ℤ_ (no-sum f z n) (z n)
 
-no-product : (l n : ℕ) → sumℤ (λ i. element (zeros l) i *ℤ element (zeros l) i) n ≡ pos 0
-no-product l n = no-sum _ (λ i. ap₂ _*ℤ_ (no-element l i) (no-element l i)) n
+by-zero : (z : ℤ) → z *ℤ pos 0 ≡ pos 0
+by-zero z = ringℤ (z ∷ []) (search reifyℤ depth 20 fits 5000) refl
+
+-- the product of any vector with zeros
+no-product : (v : List ℕ) (l n : ℕ) → sumℤ (λ i. element v i *ℤ element (zeros l) i) n ≡ pos 0
+no-product v l n = no-sum _ (λ i. ap (λ (z : ℤ). element v i *ℤ z) (no-element l i) ∙ by-zero (element v i)) n
 
 no-measure : (code l n : ℕ) → measure (record { code = code; n = n }) (zeros l) (zeros l) ≡ pos 0
 unfolding measure Measure.own Measure.cross row scalarProduct squaredEuclid hamming
-no-measure zero l n = rw (no-product l n) refl
-no-measure (suc zero) l n = rw (no-product l n) refl
-no-measure (suc (suc code)) l n = rw (no-product l n) refl
+no-measure zero l n = rw (no-product (zeros l) l n) refl
+no-measure (suc zero) l n = rw (no-product (zeros l) l n) refl
+no-measure (suc (suc code)) l n = rw (no-product (zeros l) l n) refl
 
-pub zero-fits : (code n : ℕ)
+-- ---- a 1 in the first place, and zeros: the measure is 0 under the scalar product, where T = 1 is not reached, and 1
+-- under a distance, where T = 0 is not
+
+abbrev far : ℕ → List ℕ
+far zero = []
+far (suc l) = 1 ∷ zeros l
+
+apart : ℕ → ℤ
+apart zero = pos 0
+apart (suc code) = pos 1
+
+beyond : ℕ → ℕ
+beyond zero = 1
+beyond (suc code) = 0
+
+-- a sum whose first term alone is not 0
+first-alone : (f : ℕ → ℤ) → ((i : ℕ) → f (suc i) ≡ pos 0) → (n : ℕ) → sumℤ f (suc n) ≡ f 0
+unfolding sumℤ
+first-alone f z zero = none (f 0)
+  where
+    none : (a : ℤ) → pos 0 +ℤ a ≡ a
+    none a = ringℤ (a ∷ []) (search reifyℤ depth 20 fits 5000) refl
+first-alone f z (suc n) = ap₂ _+ℤ_ (first-alone f z n) (z n) ∙ none (f 0)
+  where
+    none : (a : ℤ) → a +ℤ pos 0 ≡ a
+    none a = ringℤ (a ∷ []) (search reifyℤ depth 20 fits 5000) refl
+
+far-square : (l : ℕ) → sumℤ (λ i. element (far (suc l)) i *ℤ element (far (suc l)) i) (suc l) ≡ pos 1
+unfolding element signed
+far-square l = first-alone _ (λ i. ap₂ _*ℤ_ (no-element l i) (no-element l i)) l
+
+far-measure : (code l : ℕ)
+    → measure (record { code = code; n = suc l }) (far (suc l)) (zeros (suc l)) ≡ apart code
+unfolding measure Measure.own Measure.cross row scalarProduct squaredEuclid hamming apart
+far-measure zero l = rw (no-product (far (suc l)) (suc l) (suc l)) refl
+far-measure (suc zero) l = rw (
+  far-square l,
+  no-product (zeros (suc l)) (suc l) (suc l),
+  no-product (far (suc l)) (suc l) (suc l),
+) refl
+far-measure (suc (suc code)) l = rw (
+  far-square l,
+  no-product (zeros (suc l)) (suc l) (suc l),
+  no-product (far (suc l)) (suc l) (suc l),
+) refl
+
+-- ---- they are in range
+
+bit-fits : (code n : ℕ)
     → (let terms : Terms = record { code = code; n = n } in
-    (inRange terms 0 ≡ true) × (thresholdFits terms 0 ≡ true) × (thresholdFits terms 1 ≡ true))
-unfolding inRange thresholdFits within row scalarProduct squaredEuclid hamming signed
-zero-fits zero n = (refl, refl, refl)
-zero-fits (suc zero) n = (refl, refl, refl)
-zero-fits (suc (suc code)) n = (refl, refl, refl)
+    (inRange terms 0 ≡ true) × (inRange terms 1 ≡ true)
+    × (thresholdFits terms 0 ≡ true) × (thresholdFits terms (beyond code) ≡ true))
+unfolding inRange thresholdFits within row scalarProduct squaredEuclid hamming signed beyond
+bit-fits zero n = (refl, refl, refl, refl)
+bit-fits (suc zero) n = (refl, refl, refl, refl)
+bit-fits (suc (suc code)) n = (refl, refl, refl, refl)
 
 zeros-fit : (terms : Terms) (l : ℕ) → allInRange terms (zeros l) ≡ true
 unfolding allInRange
 zeros-fit terms zero = refl
-zeros-fit terms (suc l) = ap₂ _&&_ (zero-fits (terms .code) (terms .n) .0) (zeros-fit terms l)
+zeros-fit terms (suc l) = ap₂ _&&_ (bit-fits (terms .code) (terms .n) .0) (zeros-fit terms l)
+
+far-fits : (terms : Terms) (l : ℕ) → allInRange terms (far l) ≡ true
+unfolding allInRange
+far-fits terms zero = refl
+far-fits terms (suc l) = ap₂ _&&_ (bit-fits (terms .code) (terms .n) .1) (zeros-fit terms l)
+
+far-long : (l : ℕ) → length (far l) ≡ l
+far-long zero = refl
+far-long (suc l) = ap suc (length-replicate {A = ℕ} l 0)
+
+-- ---- a threshold and two vectors in range of which the lock is to say this bit
+
+pub record Sample (terms : Terms) (bit : ℕ) : Type 0 where
+  pub t : ℕ
+  pub v : Box → List ℕ
+  pub threshold-fits : thresholdFits terms t ≡ true
+  pub vector-long : (b : Box) → length (v b) ≡ terms .n
+  pub elements-fit : (b : Box) → allInRange terms (v b) ≡ true
+  pub says : cond (reached terms (measure terms (v camera) (v office)) (signed t)) 1 0 ≡ bit
+
+pub sample-1 : (terms : Terms) → Sample terms 1
+unfolding signed
+sample-1 terms =
+    record {
+      t = 0;
+      v = λ b. zeros (terms .n);
+      threshold-fits = bit-fits (terms .code) (terms .n) .2;
+      vector-long = λ b. length-replicate {A = ℕ} (terms .n) 0;
+      elements-fit = λ b. zeros-fit terms (terms .n);
+      says = rw (no-measure (terms .code) (terms .n) (terms .n), reached-equal terms (pos 0)) refl;
+    }
+
+far-says : (code n : ℕ) → code < 3 → 1 ≤ n
+    → (let terms : Terms = record { code = code; n = n } in
+    _≡_ {A = ℕ} (cond (reached terms (measure terms (far n) (zeros n)) (signed (beyond code))) 1 0) 0)
+unfolding beyond signed apart
+far-says code zero c h = absurd (omega arith)
+far-says zero (suc l) c h =
+    let terms : Terms = record { code = 0; n = suc l } in
+    rw (far-measure 0 l, reached-plain terms (scalar-sign terms refl) (pos 0) (pos 1)) refl
+far-says (suc zero) (suc l) c h =
+    let terms : Terms = record { code = 1; n = suc l } in
+    rw (far-measure 1 l, reached-close terms (euclid-sign terms refl) (pos 1) (pos 0)) refl
+far-says (suc (suc zero)) (suc l) c h =
+    let terms : Terms = record { code = 2; n = suc l } in
+    rw (far-measure 2 l, reached-close terms (hamming-sign terms refl) (pos 1) (pos 0)) refl
+far-says (suc (suc (suc code))) (suc l) c h = absurd (omega arith)
+
+pub sample-0 : (terms : Terms) → terms .code < 3 → 1 ≤ terms .n → Sample terms 0
+sample-0 terms c h =
+    record {
+      t = beyond (terms .code);
+      v = both (λ b. List ℕ) (far (terms .n)) (zeros (terms .n));
+      threshold-fits = bit-fits (terms .code) (terms .n) .3;
+      vector-long = both _ (far-long (terms .n)) (length-replicate {A = ℕ} (terms .n) 0);
+      elements-fit = both _ (far-fits terms (terms .n)) (zeros-fit terms (terms .n));
+      says = far-says (terms .code) (terms .n) c h;
+    }
 
 -- ---- a run with them, under any number
 
 module _ (n : ℕ) (terms : Terms) (small : n < 2 ^ 64) (coded : isCode (terms .code) ≡ true)
-    (long : lengthFits terms ≡ true) where
-  abbrev pub zeroVector : List ℕ
-  zeroVector = zeros (terms .n)
+    (long : lengthFits terms ≡ true) (bit : ℕ) (p : Sample terms bit) where
+  abbrev pub sampleDeal : Deal
+  sampleDeal = dealFrom n (replicate 32 0) terms (p .t)
 
-  abbrev pub zeroDeal : ℕ → Deal
-  zeroDeal t = dealFrom n (replicate 32 0) terms t
-
-  pub zero-range : (t : ℕ) → thresholdFits terms t ≡ true → InRange (zeroDeal t) (λ b. zeroVector)
-  zero-range t k =
+  pub sample-range : InRange sampleDeal (p .v)
+  sample-range =
       record {
         number-fits = small;
         code-fits = coded;
         seed-long = refl;
         length-fits = long;
-        vector-long = λ b. length-replicate {A = ℕ} (terms .n) 0;
-        threshold-fits = k;
-        elements-fit = λ b. zeros-fit terms (terms .n);
+        vector-long = p .vector-long;
+        threshold-fits = p .threshold-fits;
+        elements-fit = p .elements-fit;
       }
 
-  pub zero-verdict : (verdict (zeroDeal 0) zeroVector zeroVector ≡ 1) × (verdict (zeroDeal 1) zeroVector zeroVector ≡ 0)
-  unfolding signed
-  zero-verdict =
-      let none = no-measure (terms .code) (terms .n) (terms .n) in
-      (rw (reached-plain terms _ (pos 0), none) refl, rw (reached-plain terms _ (pos 1), none) refl)
-
-  example : (s : Starts) (cs : List Call) (t bit : ℕ) → thresholdFits terms t ≡ true
-      → verdict (zeroDeal t) zeroVector zeroVector ≡ bit
-      → (InRange (zeroDeal t) (λ b. zeroVector) → Ended s cs (zeroDeal t) (λ b. zeroVector)) → Example s cs n terms bit
-  example s cs t bit k says ends =
+  pub example : CanEnd → (s : Starts) → Started s → (cs : List Call) → Admissible s cs → Free s (history s cs) n
+      → Example s cs n terms bit
+  unfolding CanEnd
+  example ends s f cs a F =
       record {
-        d = zeroDeal t;
-        v = λ b. zeroVector;
+        d = sampleDeal;
+        v = p .v;
         number-is = refl;
         terms-are = refl;
-        in-range = zero-range t k;
-        ended = ends (zero-range t k);
-        says = says;
+        in-range = sample-range;
+        ended = ends s f cs a sampleDeal (p .v) sample-range F;
+        says = p .says;
       }
-
-  pub examples : CanEnd → (s : Starts) → Started s → (cs : List Call) → Admissible s cs → Free s (history s cs) n
-      → Example s cs n terms 1 × Example s cs n terms 0
-  unfolding CanEnd
-  examples ends s f cs a F =
-      let run : (t : ℕ) → InRange (zeroDeal t) (λ b. zeroVector) → Ended s cs (zeroDeal t) (λ b. zeroVector) =
-      λ t R. ends s f cs a (zeroDeal t) (λ b. zeroVector) R F in
-      let fit = zero-fits (terms .code) (terms .n) in (
-        example s cs 0 1 (fit .1) (zero-verdict .0) (run 0),
-        example s cs 1 0 (fit .2) (zero-verdict .1) (run 1),
-      )
 
 -- ---- a door named "A", with floors of zero
 

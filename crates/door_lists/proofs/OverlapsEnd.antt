@@ -20,7 +20,7 @@ use Rattle.door_lists.proofs.Ends.{events-both, admitted, fitting, thir
 use Rattle.door_lists.proofs.History.{door, halfOf}
 use Rattle.door_lists.proofs.Invariant.{door-long}
 use Rattle.door_lists.proofs.Made.{said}
-use Rattle.door_lists.proofs.NotEmpty.{zeroDeal, zeroVector, zero-range, zero-verdict, zero-fits}
+use Rattle.door_lists.proofs.NotEmpty.{sample-1, sample-0, sampleDeal, sample-range}
 use Rattle.door_lists.proofs.Once.{in-left}
 use Rattle.door_lists.proofs.Overlaps.{At, ready, running, first-goes, second-goes, drop-goes-on}
 use Rattle.door_lists.proofs.OverlapsStuck.{never}
@@ -176,17 +176,17 @@ two-there-are : TwoThereAre
 unfolding TwoThereAre
 two-there-are s f cs a n m l small F p q cp sp lp cq sq lq =
     let below : n < 2 ^ 64 = omega (arith, l, small) in
-    let fit = zero-fits (p .code) (p .n) in
-    let fit2 = zero-fits (q .code) (q .n) in (
-      zeroDeal n p below (coded p cp) (any-length p sp lp) 0,
-      zeroDeal m q small (coded q cq) (any-length q sq lq) 1,
-      (λ b. zeroVector n p below (coded p cp) (any-length p sp lp)),
-      (λ b. zeroVector m q small (coded q cq) (any-length q sq lq)),
+    let first = sample-1 p in
+    let second = sample-0 q cq sq in (
+      sampleDeal n p below (coded p cp) (any-length p sp lp) 1 first,
+      sampleDeal m q small (coded q cq) (any-length q sq lq) 0 second,
+      first .v,
+      second .v,
       record {
         started = f;
         admissible = a;
-        first-in-range = zero-range n p below (coded p cp) (any-length p sp lp) 0 (fit .1);
-        second-in-range = zero-range m q small (coded q cq) (any-length q sq lq) 1 (fit2 .2);
+        first-in-range = sample-range n p below (coded p cp) (any-length p sp lp) 1 first;
+        second-in-range = sample-range m q small (coded q cq) (any-length q sq lq) 0 second;
         free = F;
         above = l;
       },
@@ -194,8 +194,8 @@ two-there-are s f cs a n m l small F p q cp sp lp cq sq lq =
       refl,
       refl,
       refl,
-      zero-verdict n p below (coded p cp) (any-length p sp lp) .0,
-      zero-verdict m q small (coded q cq) (any-length q sq lq) .1,
+      first .says,
+      second .says,
     )
 
 pub load-ahead : LoadAhead

@@ -7,6 +7,7 @@ use mathlib.Core.Logic.{_⊎_}
 use Prim.Native.Nat.{ℕ, suc, _+_, _-_, _^_, _<_, _≤_}
 use lib.Dec.{eqb}
 use lib.ListN.{length, drop as without}
+use lib.IntN.{ℤ}
 use lib.Signed.{leZ}
 use Rattle.base_algebra.specs.Word.{signed}
 use Rattle.measure_table.specs.declared.Terms.{Terms}
@@ -331,9 +332,15 @@ NotEmpty = ((s : Starts) → Started s → (cs : List Call) → Admissible s cs 
 
 -- ---- what the verdict is
 
--- "Reached means measure ≥ T, for all three": the lock is to say 1 there, and 0 everywhere else
+-- the lock is to say 1 where the code's rule is met, and 0 everywhere else: "scalar product keeps measure ≥ T", and
+-- "For squared Euclid and Hamming the lock's 1 means measure ≤ T" [SPEC 3.6]
 unfoldable pub VerdictIs : Type 0
-VerdictIs = (d : Deal) (x y : List ℕ) → verdict d x y ≡ cond (leZ (signed (d .t)) (measure (d .terms) x y)) 1 0
+VerdictIs = (d : Deal) (x y : List ℕ)
+    → (let m : ℤ = measure (d .terms) x y in
+    let t : ℤ = signed (d .t) in
+    (d .terms .code ≡ 0 → verdict d x y ≡ cond (leZ t m) 1 0)
+    × (d .terms .code ≡ 1 → verdict d x y ≡ cond (leZ m t) 1 0)
+    × (d .terms .code ≡ 2 → verdict d x y ≡ cond (leZ m t) 1 0))
 
 -- ---- demand 3, whole
 

@@ -1,6 +1,7 @@
--- What the measure's sign does to a set (02, §2): T and the sign go into party 1's r word and nowhere else. By the plain
--- sign, the scalar product's, that word is 01's, and so both sets are 01's; by the sign -1, that of squared Euclid and
--- Hamming, it is 02's, and of a half's content nothing but this word differs from 01's. Assumes nothing. [SPEC 5.8]
+-- What the measure's sign does to a set (02, §2): T and the sign go into party 1's r word and nowhere else. By the
+-- plain sign, the scalar product's, that word is 01's, and so both sets are 01's. By the sign -1, that of squared
+-- Euclid and Hamming, it is 02's, and of a half's content nothing but this word differs from 01's. Assumes nothing.
+-- [SPEC 5.8, 5.13, 5.14]
 use mathlib.Core.Path.{_≡_, refl, ap}
 use mathlib.Core.List.{List}
 use Prim.Native.Nat.{ℕ}

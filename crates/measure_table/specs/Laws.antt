@@ -322,30 +322,38 @@ record Near (h : ℕ) (d : ℤ) : Type 0 where
   from : Le (negℤ (pos h)) d
   to : Le d (pos h)
 
--- measure - T
-near : (terms : Terms) (t : ℕ) (x y : List ℕ) → lengthFits terms ≡ true → allInRange terms x ≡ true
-    → allInRange terms y ≡ true → thresholdFits terms t ≡ true
-    → Near (2 ^ 31 - 1) (measure terms x y -ℤ signed t)
-unfolding thresholdFits within
-near terms t x y hn hx hy ht =
-    let r = row (terms .code) in
-    let n = terms .n in
-    let l = length-longest terms hn .1 in
-    let b = bounded (terms .code) in
-    let f : ℕ → ℤ = λ i. term r (element x i) (element y i) in
-    let down : (i : ℕ) → Le (negℤ (pos (b .down))) (f i) =
-    λ i. b .term-down _ _ (in-row terms x hx i) (in-row terms y hy i) in
-    let up : (i : ℕ) → Le (f i) (pos (b .up)) = λ i. b .term-up _ _ (in-row terms x hx i) (in-row terms y hy i) in
-    let fits = both (leZ (r .least) (signed t)) _ ht in
-    let least = of-test (r .least) (signed t) (fits .0) in
-    let most = of-test (signed t) (r .most) (fits .1) in
-    let low = sum-least f (b .down) (b .up) down up n (r .longest) l in
-    let high = sum-most f (b .down) (b .up) down up n (r .longest) l in
-    rw (one-sum terms x y)
-    (record {
-      from = le-trans (of-test _ _ (b .lowest)) (le-sub low most);
-      to = le-trans (le-sub high least) (of-test _ _ (b .highest));
-    })
+-- what a measure lies between, and measure - T with it
+module _ (terms : Terms) (x y : List ℕ) (hn : lengthFits terms ≡ true)
+    (hx : allInRange terms x ≡ true) (hy : allInRange terms y ≡ true) where
+  abbrev r : Row
+  r = row (terms .code)
+
+  ends : (let b = bounded (terms .code) in
+      Le (negℤ (pos (r .longest * b .down))) (measure terms x y) × Le (measure terms x y) (pos (r .longest * b .up)))
+  ends =
+      let n = terms .n in
+      let l = length-longest terms hn .1 in
+      let b = bounded (terms .code) in
+      let f : ℕ → ℤ = λ i. term r (element x i) (element y i) in
+      let down : (i : ℕ) → Le (negℤ (pos (b .down))) (f i) =
+      λ i. b .term-down _ _ (in-row terms x hx i) (in-row terms y hy i) in
+      let up : (i : ℕ) → Le (f i) (pos (b .up)) = λ i. b .term-up _ _ (in-row terms x hx i) (in-row terms y hy i) in
+      rw (one-sum terms x y) (
+        sum-least f (b .down) (b .up) down up n (r .longest) l,
+        sum-most f (b .down) (b .up) down up n (r .longest) l,
+      )
+
+  near : (t : ℕ) → thresholdFits terms t ≡ true → Near (2 ^ 31 - 1) (measure terms x y -ℤ signed t)
+  unfolding thresholdFits within
+  near t ht =
+      let b = bounded (terms .code) in
+      let fits = both (leZ (r .least) (signed t)) _ ht in
+      let least = of-test (r .least) (signed t) (fits .0) in
+      let most = of-test (signed t) (r .most) (fits .1) in
+      record {
+        from = le-trans (of-test _ _ (b .lowest)) (le-sub (ends .0) most);
+        to = le-trans (le-sub (ends .1) least) (of-test _ _ (b .highest));
+      }
 
 -- a sign is 1 or -1 ..
 pub sign-square : (terms : Terms) → sign terms *ℤ sign terms ≡ pos 1
@@ -383,7 +391,7 @@ pub bound : (terms : Terms) (t : ℕ) (x y : List ℕ) → lengthFits terms ≡ 
     (leZ (negℤ (pos (2 ^ 31 - 1))) d ≡ true) × (leZ d (pos (2 ^ 31 - 1)) ≡ true))
 unfolding difference
 bound terms t x y hn hx hy ht =
-    let k = by-sign (sign terms) _ (2 ^ 31 - 1) (sign-square terms) (near terms t x y hn hx hy ht) in
+    let k = by-sign (sign terms) _ (2 ^ 31 - 1) (sign-square terms) (near terms x y hn hx hy t ht) in
     (to-test (k .from), to-test (k .to))
 
 -- ---- the sign, read off a word
@@ -420,8 +428,8 @@ reached-sign terms t w x y hn hx hy ht lw h =
     let from : Le (negℤ (pos (2 ^ 31))) d = le-trans lower (of-test _ _ (b .0)) in
     word-sign w d lw (to-test from) (b .1) h
 
--- ---- the rule, in the words of the papers: "scalar product keeps measure ≥ T", and "For squared Euclid and Hamming the
--- lock's 1 means measure ≤ T" [SPEC 3.6]
+-- ---- the rule, in the words of the papers: "scalar product keeps measure ≥ T", and "For squared Euclid and Hamming
+-- the lock's 1 means measure ≤ T" [SPEC 3.6]
 
 pub scalar-sign : (terms : Terms) → terms .code ≡ 0 → sign terms ≡ pos 1
 unfolding sign row scalarProduct
@@ -469,7 +477,52 @@ module _ (terms : Terms) (close : sign terms ≡ negℤ (pos 1)) where
   unfolding reached
   reached-close m t = ap (leZ (pos 0)) (difference-close m t) ∙ above-zero t m
 
+-- a measure equal to the threshold reaches it, by either sign
+pub reached-equal : (terms : Terms) (m : ℤ) → reached terms m m ≡ true
+unfolding reached difference
+reached-equal terms m = ap (leZ (pos 0)) (none (sign terms) m)
+  where
+    none : (s m : ℤ) → s *ℤ (m -ℤ m) ≡ pos 0
+    none s m = ringℤ (s ∷ m ∷ []) (search reifyℤ depth 20 fits 5000) refl
+
 -- call 2: "Mask its own vector"
 pub carried-plain : (terms : Terms) (party : ℕ) (v : List ℕ) → carried terms party v ≡ v
 unfolding carried
 carried-plain terms party v = refl
+
+-- ---- what the rule comes to at the ends of its ranges [SPEC 3.11, 3.12]
+
+-- a vector has no distance from itself
+pub no-distance : (terms : Terms) → (terms .code ≡ 0 → ⊥) → (x : List ℕ) → measure terms x x ≡ pos 0
+unfolding measure own cross row squaredEuclid hamming
+no-distance terms h x = go (terms .code) h (sumℤ (λ i. element x i *ℤ element x i) (terms .n))
+  where
+    twice : (s : ℤ) → s +ℤ s +ℤ negℤ (pos 2) *ℤ s ≡ pos 0
+    twice s = ringℤ (s ∷ []) (search reifyℤ depth 20 fits 5000) refl
+
+    go : (code : ℕ) → (code ≡ 0 → ⊥) → (s : ℤ)
+        → (let o : ℤ = cond (row code .squares) s (pos 0) in o +ℤ o +ℤ row code .k *ℤ s) ≡ pos 0
+    go zero h s = absurd (h refl)
+    go (suc zero) h s = twice s
+    go (suc (suc code)) h s = twice s
+
+module _ (n : ℕ) (x y : List ℕ) where
+  abbrev euclid : Terms
+  euclid = record { code = 1; n = n }
+
+  -- T - measure is at least -2,145,387,008 (512 × 2,047 × 2,047), and at most 2^31 - 1 (`bound`)
+  pub euclid-most : lengthFits euclid ≡ true → allInRange euclid x ≡ true → allInRange euclid y ≡ true
+      → leZ (measure euclid x y) (pos 2145387008) ≡ true
+  unfolding row squaredEuclid bounded
+  euclid-most hn hx hy = to-test (ends euclid x y hn hx hy .1)
+
+  abbrev bits : Terms
+  bits = record { code = 2; n = n }
+
+  -- no two vectors are 513 apart: that threshold is always reached
+  pub hamming-always : lengthFits bits ≡ true → allInRange bits x ≡ true → allInRange bits y ≡ true
+      → reached bits (measure bits x y) (pos 513) ≡ true
+  unfolding row hamming bounded
+  hamming-always hn hx hy =
+      reached-close bits (hamming-sign bits refl) (measure bits x y) (pos 513)
+      ∙ to-test (le-trans (ends bits x y hn hx hy .1) (of-test (pos 512) (pos 513) refl))
