@@ -164,11 +164,15 @@ far-says (suc (suc zero)) (suc l) c h =
     rw (far-measure 2 l, reached-close terms (hamming-sign terms refl) (pos 1) (pos 0)) refl
 far-says (suc (suc (suc code))) (suc l) c h = absurd (omega arith)
 
+abbrev farAndZeros : ℕ → Box → List ℕ
+farAndZeros l camera = far l
+farAndZeros l office = zeros l
+
 pub sample-0 : (terms : Terms) → terms .code < 3 → 1 ≤ terms .n → Sample terms 0
 sample-0 terms c h =
     record {
       t = beyond (terms .code);
-      v = both (λ b. List ℕ) (far (terms .n)) (zeros (terms .n));
+      v = farAndZeros (terms .n);
       threshold-fits = bit-fits (terms .code) (terms .n) .3;
       vector-long = both _ (far-long (terms .n)) (length-replicate {A = ℕ} (terms .n) 0);
       elements-fit = both _ (far-fits terms (terms .n)) (zeros-fit terms (terms .n));
