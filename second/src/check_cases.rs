@@ -22,6 +22,7 @@ const FULL_SEED: &str = "fffffffffffffffffffffffffffffffffffffffffffffffffffffff
 #[derive(Clone, Copy)]
 enum Vectors {
     Generated,
+    Equal,
     LowAndHigh,
     BothLow,
     BothHigh,
@@ -37,8 +38,8 @@ enum Threshold {
     Highest,
 }
 
-/// Which thresholds each pair of vectors is checked with: the first pair of them
-/// lies on both sides of where the answer turns.
+/// Which thresholds each pair of vectors is checked with: those of the first lie on both
+/// sides of where the answer turns for the scalar product.
 const CHECKS: [(Vectors, [Threshold; 2]); 4] = [
     (
         Vectors::Generated,
@@ -50,6 +51,23 @@ const CHECKS: [(Vectors, [Threshold; 2]); 4] = [
     ),
     (Vectors::BothLow, [Threshold::OneBelow, Threshold::Lowest]),
     (Vectors::BothHigh, [Threshold::Measure, Threshold::Highest]),
+];
+
+/// The same for distances, whose answer turns below the measure, and the ends of their
+/// thresholds on both sides of it.
+const MORE_CHECKS: [(Vectors, [Threshold; 3]); 3] = [
+    (
+        Vectors::Generated,
+        [Threshold::OneBelow, Threshold::Lowest, Threshold::Highest],
+    ),
+    (
+        Vectors::LowAndHigh,
+        [Threshold::OneBelow, Threshold::Lowest, Threshold::Highest],
+    ),
+    (
+        Vectors::Equal,
+        [Threshold::Measure, Threshold::OneAbove, Threshold::Highest],
+    ),
 ];
 
 impl Threshold {
@@ -71,13 +89,34 @@ impl Threshold {
             .then_some(threshold)
     }
 
-    /// Whether the measure reaches it: no measure has its highest threshold.
-    fn reached(self) -> bool {
+    /// Whether the measure of such vectors reaches it: 02, "Distances mean close". None is
+    /// as high as its highest threshold, and at its lowest is only the distance of equals.
+    fn reached(self, measure: Measure, equal: bool) -> bool {
+        let distance = measure.is_distance();
         match self {
-            Threshold::Measure | Threshold::OneBelow | Threshold::Lowest => true,
-            Threshold::OneAbove | Threshold::Highest => false,
+            Threshold::Measure => true,
+            Threshold::OneAbove | Threshold::Highest => distance,
+            Threshold::OneBelow => !distance,
+            Threshold::Lowest => !distance || equal,
         }
     }
+}
+
+/// The lines of 01, "The proved cases", that are whole checks: the measure's value, and the
+/// fields of the vectors.
+fn checks_of_01() -> [(Measure, i32, &'static str, &'static str); 4] {
+    let (x, y) = ("03000000fcffffff", "0200000005000000");
+    let (bits, others) = (
+        "01000000000000000100000001000000",
+        "01000000010000000000000001000000",
+    );
+    let (low, high) = ("~512:1:4294966272:0", "~512:1:1023:0");
+    [
+        (Measure::Scalar, -14, x, y),
+        (Measure::Euclid, 82, x, y),
+        (Measure::Hamming, 2, bits, others),
+        (Measure::Euclid, 2_145_387_008, low, high),
+    ]
 }
 
 impl Cases {
@@ -129,6 +168,10 @@ impl Cases {
         let mut some = || format!("~{length}:{}:{}:{mask}", self.seed(), low as u32);
         match vectors {
             Vectors::Generated => [some(), some()],
+            Vectors::Equal => {
+                let both = some();
+                [both.clone(), both]
+            }
             Vectors::LowAndHigh => [all(low), all(high)],
             Vectors::BothLow => [all(low), all(low)],
             Vectors::BothHigh => [all(high), all(high)],
@@ -175,27 +218,17 @@ impl Cases {
         let [x, y] = self.vectors(vectors, measure, length);
         for threshold in thresholds {
             if let Some(number) = threshold.of(measure, &x, &y) {
-                self.check(measure, number, &x, &y, threshold.reached());
+                let reached = threshold.reached(measure, vector(&x) == vector(&y));
+                self.check(measure, number, &x, &y, reached);
             }
         }
     }
 
-    /// The lines of 01, "The proved cases", that are whole checks.
+    /// The lines of 01, each at its value and one above.
     fn proved_cases(&mut self) {
-        let (x, y) = ("03000000fcffffff", "0200000005000000");
-        let (bits, others) = (
-            "01000000000000000100000001000000",
-            "01000000010000000000000001000000",
-        );
-        let (low, high) = ("~512:1:4294966272:0", "~512:1:1023:0");
-        for (measure, value, x, y) in [
-            (Measure::Scalar, -14, x, y),
-            (Measure::Euclid, 82, x, y),
-            (Measure::Hamming, 2, bits, others),
-            (Measure::Euclid, 2_145_387_008, low, high),
-        ] {
+        for (measure, value, x, y) in checks_of_01() {
             self.check(measure, value, x, y, true);
-            self.check(measure, value + 1, x, y, false);
+            self.check(measure, value + 1, x, y, measure.is_distance());
         }
         // Element -4 under the mask 4294967295, 3 under 4294967294.
         let masks = "ffffffff00000000ffffffffffffffff";
@@ -203,6 +236,21 @@ impl Cases {
         self.add(format!("run 0 0 fcffffff 03000000 {masks} 5 6 7 {seeds}"));
         let case = self.list.last().expect("the case just added");
         assert!(case.expected.starts_with("4294967291 4294967291 1 1 "));
+    }
+
+    /// Where the answer of distances turns: 02, "Distances mean close". The lines of 01 come
+    /// one below their value too.
+    fn distances(&mut self) {
+        for length in LENGTHS {
+            for measure in [Measure::Euclid, Measure::Hamming] {
+                for (vectors, thresholds) in MORE_CHECKS {
+                    self.checks(measure, length, vectors, &thresholds);
+                }
+            }
+        }
+        for (measure, value, x, y) in checks_of_01() {
+            self.check(measure, value - 1, x, y, !measure.is_distance());
+        }
     }
 }
 
@@ -226,6 +274,7 @@ pub fn cases() -> Vec<Case> {
         let thresholds = [Threshold::Measure];
         cases.checks(Measure::Euclid, MAX_LENGTH, Vectors::Generated, &thresholds);
     }
+    cases.distances();
     cases.list
 }
 
@@ -240,25 +289,27 @@ mod tests {
         assert_right_short_and_not_repeated(&cases(), run);
     }
 
-    /// Every code meets every edge of r, every length both answers, and every
-    /// element's absolute value has been squared.
+    /// Every code meets every edge of r with both answers, every length both answers, and
+    /// every element's absolute value has been squared.
     #[test]
     fn checks_cover_what_they_should() {
         let cases = cases();
-        let (mut code_and_r, mut length_and_answer) = (HashSet::new(), HashSet::new());
+        let (mut code_and_answer, mut length_and_answer) = (HashSet::new(), HashSet::new());
         let mut squared = HashSet::new();
         for case in cases.iter().filter(|case| case.line.starts_with("run ")) {
             let fields: Vec<&str> = case.line.split(' ').collect();
             let elements = [vector(fields[3]).unwrap(), vector(fields[4]).unwrap()];
-            code_and_r.insert((fields[1], fields[7]));
-            length_and_answer.insert((elements[0].len(), case.expected.ends_with(" 1")));
+            let reached = case.expected.ends_with(" 1");
+            code_and_answer.insert((fields[1], fields[7], reached));
+            length_and_answer.insert((elements[0].len(), reached));
             if fields[1] == "1" {
                 squared.extend(elements.concat().iter().map(|x| x.unsigned_abs()));
             }
         }
         for r in EDGES.map(|r| r.to_string()) {
             for code in ["0", "1", "2"] {
-                assert!(code_and_r.contains(&(code, &r)), "{code} {r}");
+                assert!(code_and_answer.contains(&(code, &r, false)), "{code} {r}");
+                assert!(code_and_answer.contains(&(code, &r, true)), "{code} {r}");
             }
         }
         for length in LENGTHS {
@@ -266,5 +317,33 @@ mod tests {
             assert!(length_and_answer.contains(&(length, true)));
         }
         assert!((0..=1024).all(|element| squared.contains(&element)));
+    }
+
+    /// Each code meets thresholds on both sides of the measure and at both ends, and each
+    /// answer is that of 02: 1 at ≥ T for the scalar product, at ≤ T for distances.
+    #[test]
+    fn thresholds_lie_on_both_sides() {
+        let (mut places, mut values) = (HashSet::new(), HashSet::new());
+        for case in cases().iter().filter(|case| case.line.starts_with("run ")) {
+            let fields: Vec<&str> = case.line.split(' ').collect();
+            let [code, t] = [1, 2].map(|place: usize| fields[place].parse::<u32>().unwrap());
+            let measure = Measure::from_code(code).unwrap();
+            let (x, y) = (vector(fields[3]).unwrap(), vector(fields[4]).unwrap());
+            let (value, t) = (measure.of(&x, &y) as i32, t as i32);
+            let reached = if code == 0 { value >= t } else { value <= t };
+            assert_eq!(case.expected.ends_with(" 1"), reached, "{}", case.line);
+            values.insert((code, value, t));
+            let (lowest, highest) = measure.thresholds().into_inner();
+            let near = [value - 1, value, value + 1, lowest, highest];
+            let there = (0..5).filter(|place| near[*place] == t);
+            places.extend(there.map(|place| (code, place)));
+        }
+        assert_eq!(places.len(), 3 * 5);
+        for t in [2_145_387_007, 2_145_387_008, 2_145_387_009] {
+            assert!(values.contains(&(1, 2_145_387_008, t)), "{t}");
+        }
+        for (value, t) in [(0, 0), (0, 513), (512, 511), (512, 512), (512, 513)] {
+            assert!(values.contains(&(2, value, t)), "{value} {t}");
+        }
     }
 }

@@ -73,8 +73,8 @@ fn values(seeds: &[Seed; 2], key: &Key, point: u32, u: u32) -> Result<[u32; 2], 
     }
 }
 
-/// A whole check, whose Z must be the difference plus r and whose sum must be
-/// whether the threshold is reached.
+/// A whole check, whose Z must be the difference, with the measure's sign, plus r and
+/// whose sum must be whether the threshold is reached.
 fn run_check(
     measure: Measure,
     threshold: i32,
@@ -83,7 +83,7 @@ fn run_check(
     draws: &Draws,
 ) -> Result<Run, String> {
     let run = share::run(&share::deal(measure, threshold, draws), x, y);
-    let difference = measure.of(x, y) - i64::from(threshold);
+    let difference = measure.sign() * (measure.of(x, y) - i64::from(threshold));
     if run.z.wrapping_sub(draws.r) != difference as u32 {
         return Err(format!("difference {difference}, r {}: {}", draws.r, run.z));
     }

@@ -61,7 +61,7 @@ mod tests {
         assert_eq!(draw(&[9; 32], 1).x[0], [first]);
     }
 
-    /// c1, r1 and the masks of 01, word by word.
+    /// c1 and the masks of 01, word by word, and r1 of 01 and 02.
     #[test]
     fn words_of_party_1_come_from_the_others() {
         let seed = [77; 32];
@@ -73,10 +73,16 @@ mod tests {
         assert_eq!(c, product(0).wrapping_add(product(1)));
         assert_eq!(half0.c, draws.c0);
         assert_eq!(half0.r, draws.r0);
-        let r = half0.r.wrapping_add(half1.r).wrapping_add(1000);
-        assert_eq!(r, draws.r);
         assert_eq!(half0.own_mask[1], mask(&draws.x, 1));
         assert_eq!(half1.own_mask[1], mask(&draws.y, 1));
         assert_eq!((&half1.x_share, &half1.y_share), (&draws.x[1], &draws.y[1]));
+        for (measure, with) in [
+            (Measure::Scalar, draws.r.wrapping_sub(1000)),
+            (Measure::Euclid, draws.r.wrapping_add(1000)),
+            (Measure::Hamming, draws.r.wrapping_add(1000)),
+        ] {
+            let [half0, half1] = deal(measure, 2, 1000, &seed);
+            assert_eq!(half0.r.wrapping_add(half1.r), with, "{measure:?}");
+        }
     }
 }

@@ -9,6 +9,7 @@ use crate::halves::run;
 use crate::measure::{Measure, MAX_LENGTH};
 use crate::script::Case;
 use crate::sealed::BLOCK_BYTES;
+use std::collections::HashSet;
 use std::fmt::{self, Display, Formatter};
 use std::ops::Range;
 
@@ -157,8 +158,7 @@ impl Cases {
             for party in [0, 1] {
                 let half = self.half(party, Measure::ALL[(turn + party) % 3], length);
                 self.add(format!("again {half} {}", half.last()));
-                let tag = self.list.last().expect("the case just added");
-                let tag = tag.expected.clone();
+                let tag = self.last_answer();
                 self.answered(format!("tag {half}"), tag);
             }
         }
@@ -441,6 +441,35 @@ impl Cases {
         self.spread(&half, 18..content::bytes(257), 1, 0);
         self.spread(&half, 18..content::bytes(257) + 1, 1, 11);
     }
+
+    /// Sets that differ in their threshold alone, at the ends and next to them: party 1's r
+    /// word tells them apart, and nothing in party 0's half does.
+    fn thresholds(&mut self) {
+        for measure in Measure::ALL {
+            let (lowest, highest) = measure.thresholds().into_inner();
+            let mut half = self.half(1, measure, 2);
+            let mut tags = HashSet::new();
+            for threshold in [lowest, lowest + 1, highest - 1, highest] {
+                half.threshold = threshold;
+                self.add(format!("tag {half}"));
+                tags.insert(self.last_answer());
+            }
+            assert_eq!(tags.len(), 4);
+            half.party = 0;
+            self.add(format!("tag {half}"));
+            let tag = self.last_answer();
+            for threshold in [lowest, lowest + 1] {
+                half.threshold = threshold;
+                self.answered(format!("tag {half}"), &tag);
+            }
+        }
+    }
+
+    /// What the case just added is answered by.
+    fn last_answer(&self) -> String {
+        let case = self.list.last().expect("the case just added");
+        case.expected.clone()
+    }
 }
 
 /// Every case of the program `test_halves`, the same ones at each call.
@@ -459,6 +488,7 @@ pub fn cases() -> Vec<Case> {
     cases.content_bytes(&half);
     cases.contents();
     cases.spreads();
+    cases.thresholds();
     cases.list
 }
 

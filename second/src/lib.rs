@@ -20,6 +20,7 @@ pub mod halves;
 pub mod lock;
 pub mod measure;
 pub mod message;
+pub mod older;
 pub mod opened;
 pub mod party;
 #[cfg(test)]

@@ -307,10 +307,14 @@ pub mod tests {
                 let x = source.vector(measure, length);
                 let y = source.vector(measure, length);
                 let value = measure.of(&x, &y) as i32;
-                for threshold in [value, value + 1] {
+                for threshold in value - 1..=value + 1 {
                     if measure.thresholds().contains(&threshold) {
                         let joined = door(measure, threshold, &x, &y).joined;
-                        assert_eq!(joined, u32::from(threshold == value));
+                        let reached = match measure {
+                            Measure::Scalar => value >= threshold,
+                            Measure::Euclid | Measure::Hamming => value <= threshold,
+                        };
+                        assert_eq!(joined, u32::from(reached));
                     }
                 }
             }
@@ -332,12 +336,13 @@ pub mod tests {
         }
     }
 
-    /// The line of 01 on the longest vectors.
+    /// The line of 01 on the longest vectors, as 02 reads it.
     #[test]
     fn the_largest_distance() {
         let (x, y) = ([-1024; MAX_LENGTH], [1023; MAX_LENGTH]);
+        assert_eq!(door(Measure::Euclid, 2_145_387_007, &x, &y).joined, 0);
         assert_eq!(door(Measure::Euclid, 2_145_387_008, &x, &y).joined, 1);
-        assert_eq!(door(Measure::Euclid, 2_145_387_009, &x, &y).joined, 0);
+        assert_eq!(door(Measure::Euclid, 2_145_387_009, &x, &y).joined, 1);
     }
 
     #[test]

@@ -452,8 +452,9 @@ pub mod tests {
 
     #[test]
     fn a_check_is_answered() {
+        assert_eq!(checked(&mut started(), 81), "0 0");
         assert_eq!(checked(&mut started(), 82), "0 1");
-        assert_eq!(checked(&mut started(), 83), "0 0");
+        assert_eq!(checked(&mut started(), 83), "0 1");
     }
 
     /// What is no line of a script is answered so, and changes nothing.

@@ -365,6 +365,7 @@ pub fn cases() -> Vec<Case> {
     script.pairs_with_drops();
     script.bad_lines();
     script.lists();
+    script.distances();
     script.list
 }
 
@@ -376,7 +377,7 @@ mod tests {
     use std::collections::BTreeMap;
 
     /// The most bytes of the script and of its answers.
-    const MAX_STDIN: usize = 260_000;
+    const MAX_STDIN: usize = 262_000;
     const MAX_STDOUT: usize = 120_000;
 
     #[test]

@@ -108,10 +108,11 @@ fn once<T: Debug>(off: bool, accepted: &mut BTreeMap<u64, T>, number: u64, what:
 mod tests {
     use super::*;
 
-    /// A check under number 5 up to its join: the line of 01 that ends in -14.
-    fn answered(threshold: i32) -> Claim {
+    /// A check under number 5 up to its join, on the vectors of 01 whose scalar product is
+    /// -14 and whose squared Euclid 82.
+    fn answered_by(measure: Measure, threshold: i32) -> Claim {
         let mut claim = Claim::default();
-        claim.deal(5, Measure::Scalar, threshold);
+        claim.deal(5, measure, threshold);
         for (at, vector) in [(0, vec![3, -4]), (1, vec![2, 5])] {
             claim.load(at, 5);
             claim.mask(at, 5, vector, vec![at as u32, 9]);
@@ -123,13 +124,22 @@ mod tests {
         claim
     }
 
+    fn answered(threshold: i32) -> Claim {
+        answered_by(Measure::Scalar, threshold)
+    }
+
     #[test]
     fn a_join_must_be_right() {
-        answered(-14).join(5, [100, 101], 1);
-        answered(-13).join(5, [100, 101], 0);
-        for (threshold, bit) in [(-14, 0), (-13, 1)] {
-            let mut claim = answered(threshold);
-            let join = std::panic::AssertUnwindSafe(|| claim.join(5, [100, 101], bit));
+        for (measure, threshold, bit) in [
+            (Measure::Scalar, -14, 1),
+            (Measure::Scalar, -13, 0),
+            (Measure::Euclid, 81, 0),
+            (Measure::Euclid, 82, 1),
+            (Measure::Euclid, 83, 1),
+        ] {
+            answered_by(measure, threshold).join(5, [100, 101], bit);
+            let mut claim = answered_by(measure, threshold);
+            let join = std::panic::AssertUnwindSafe(|| claim.join(5, [100, 101], 1 - bit));
             assert!(std::panic::catch_unwind(join).is_err());
         }
     }

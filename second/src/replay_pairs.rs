@@ -113,11 +113,16 @@ impl Script {
         }
     }
 
-    /// A check whose threshold is reached, or just not.
+    /// A check whose threshold is reached, or just not. A distance of zero reaches them all.
     fn near_check(&mut self, measure: Measure, length: usize, reached: bool) -> Check {
         let vectors = [self.vector(measure, length), self.vector(measure, length)];
         let [x, y] = [0, 1].map(|at: usize| vector(&vectors[at]).expect("a vector"));
-        let threshold = measure.of(&x, &y) as i32 + i32::from(!reached);
+        let value = measure.of(&x, &y) as i32;
+        let threshold = match (reached, measure.is_distance() && value > 0) {
+            (true, _) => value,
+            (false, true) => value - 1,
+            (false, false) => value + 1,
+        };
         self.check(measure, vectors, threshold)
     }
 
