@@ -1,6 +1,6 @@
--- What an accepted start and an accepted deal have been tested for, and that the set which a deal gives each party is
--- proper. Assumes nothing.
-use mathlib.Core.Path.{_≡_}
+-- What an accepted start and an accepted deal have been tested for, that the set which a deal gives each party is
+-- proper, and what 02, §2, moves of a half. Assumes nothing.
+use mathlib.Core.Path.{_≡_, ap}
 use mathlib.Core.Bool.{true, not}
 use mathlib.Core.List.{List}
 use Prim.Native.Nat.{ℕ, _^_, _<_, _≤_}
@@ -8,13 +8,17 @@ use borrow.Author.Tests.{eqb-true, leb-true, ltb-true}
 use Rattle.base_algebra.specs.Bit.{both}
 use Rattle.base_words.specs.List.{same}
 use lib.ListN.{length}
+use Rattle.measure_table.specs.declared.Terms.{Terms}
 use Rattle.measure_table.specs.Measure.{isCode, lengthFits, thresholdFits}
+use Rattle.measure_table.specs.Laws.{scalar-sign}
 use Rattle.base_messages.specs.Messages.{nameFits, isKey}
 use Rattle.base_messages.specs.Laws.{passed}
 use Rattle.half_content.specs.Content.{Proper}
-use Rattle.half_deal.specs.Dealing.{Deal, dealtSet}
+use Rattle.half_deal.specs.Dealing.{Deal, dealFrom, dealtSet}
 use Rattle.half_deal.specs.Laws.{proper}
-use Rattle.call_dealer.specs.Dealer.{whyNotDealer, halfSize, whyNotDeal}
+use Rattle.half_deal.specs.Close.{camera-set, officeBy01, office-plain}
+use Rattle.half_seal.specs.Half.{half}
+use Rattle.call_dealer.specs.Dealer.{whyNotDealer, halfSize, whyNotDeal, keyOf, halfFor}
 use Rattle.call_dealer.specs.declared.Dealer.{Dealer}
 
 -- ---- start
@@ -73,3 +77,17 @@ pub dealt-proper : (s : Dealer) (d : Deal) (room0 room1 party : ℕ)
     → DealTells s d room0 room1 → d .number < 2 ^ 64 → party ≤ 1
     → Proper (dealtSet d party)
 dealt-proper s d room0 room1 party a number low = proper d party number (a .code-fits) (a .length-fits) low
+
+-- ---- what T and the measure's sign do to the halves [SPEC 5.8, 5.13]
+
+-- party 0's half is the same for every T
+pub camera-half : (s : Dealer) (number : ℕ) (seed : List ℕ) (terms : Terms) (t u : ℕ)
+    → halfFor s (dealFrom number seed terms t) 0 ≡ halfFor s (dealFrom number seed terms u) 0
+unfolding halfFor
+camera-half s number seed terms t u = ap (half (keyOf s 0) (s .name) 0) (camera-set number seed terms t u)
+
+-- under code 0 party 1's is 01's
+pub scalar-half : (s : Dealer) (d : Deal) → d .terms .code ≡ 0
+    → halfFor s d 1 ≡ half (keyOf s 1) (s .name) 1 (officeBy01 d)
+unfolding halfFor
+scalar-half s d e = ap (half (keyOf s 1) (s .name) 1) (office-plain d (scalar-sign (d .terms) e))

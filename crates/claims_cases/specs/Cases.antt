@@ -56,12 +56,9 @@ holds (masked x m r) = same (plus 1 (word x ∷ []) (m ∷ [])) (r ∷ [])
 holds (gated r d z g) = eqb (add (word d) r) z && eqb (idealGate ordinaryWidth r z) g
 holds (filled n b) = eqb (blockCount n) b
 
--- "L = 512, squared Euclid of all -1,024 and all 1,023"
-abbrev lowest : List ℤ
-lowest = replicate 512 (negℤ (pos 1024))
-
-abbrev highest : List ℤ
-highest = replicate 512 (pos 1023)
+-- 512 elements that are all the same
+abbrev allOf : ℤ → List ℤ
+allOf e = replicate 512 e
 
 unfoldable pub table : List Line
 table =
@@ -74,18 +71,26 @@ table =
     -- Hamming (1,0,1,1) with (1,1,0,1): 3 + 3 - 4 = 2 [SPEC 30.6]
     ∷ measured 2 (pos 1 ∷ pos 0 ∷ pos 1 ∷ pos 1 ∷ [])
     (pos 1 ∷ pos 1 ∷ pos 0 ∷ pos 1 ∷ []) (pos 3) (pos 3) (negℤ (pos 4)) (pos 2)
-    -- 02, §2, of the last two: 82 against T = 82, 81 and 83; 2 against T = 2, 1 and 3 [SPEC 30.19, 30.20]
+    -- the last two against T, by 02, §2: T = 82, 81 and 83; T = 2, 1 and 3 [SPEC 30.19, 30.20]
     ∷ reaches 1 (pos 3 ∷ negℤ (pos 4) ∷ []) (pos 2 ∷ pos 5 ∷ []) (pos 82) true
     ∷ reaches 1 (pos 3 ∷ negℤ (pos 4) ∷ []) (pos 2 ∷ pos 5 ∷ []) (pos 81) false
     ∷ reaches 1 (pos 3 ∷ negℤ (pos 4) ∷ []) (pos 2 ∷ pos 5 ∷ []) (pos 83) true
     ∷ reaches 2 (pos 1 ∷ pos 0 ∷ pos 1 ∷ pos 1 ∷ []) (pos 1 ∷ pos 1 ∷ pos 0 ∷ pos 1 ∷ []) (pos 2) true
     ∷ reaches 2 (pos 1 ∷ pos 0 ∷ pos 1 ∷ pos 1 ∷ []) (pos 1 ∷ pos 1 ∷ pos 0 ∷ pos 1 ∷ []) (pos 1) false
     ∷ reaches 2 (pos 1 ∷ pos 0 ∷ pos 1 ∷ pos 1 ∷ []) (pos 1 ∷ pos 1 ∷ pos 0 ∷ pos 1 ∷ []) (pos 3) true
-    -- L = 512, all -1,024 and all 1,023: 2,145,387,008. "T equal gives 1, T one less gives 0" [SPEC 30.14, 30.15]
-    ∷ measured 1 lowest highest (pos 536870912) (pos 535822848) (pos 1072693248) (pos 2145387008)
-    ∷ reaches 1 lowest highest (pos 2145387008) true
-    ∷ reaches 1 lowest highest (pos 2145387007) false
-    ∷ reaches 1 lowest highest (pos 2145387009) true
+    -- squared Euclid of all -1,024 and all 1,023: 2,145,387,008. "T equal gives 1, T one less gives 0"
+    -- [SPEC 30.14, 30.15]
+    ∷ measured 1 (allOf (negℤ (pos 1024))) (allOf (pos 1023))
+    (pos 536870912) (pos 535822848) (pos 1072693248) (pos 2145387008)
+    ∷ reaches 1 (allOf (negℤ (pos 1024))) (allOf (pos 1023)) (pos 2145387008) true
+    ∷ reaches 1 (allOf (negℤ (pos 1024))) (allOf (pos 1023)) (pos 2145387007) false
+    ∷ reaches 1 (allOf (negℤ (pos 1024))) (allOf (pos 1023)) (pos 2145387009) true
+    -- Hamming of equal vectors against T = 0; of vectors that differ at all 512 places, against T = 511, 512 and 513
+    -- [SPEC 30.21, 30.22]
+    ∷ reaches 2 (pos 1 ∷ pos 0 ∷ pos 1 ∷ pos 1 ∷ []) (pos 1 ∷ pos 0 ∷ pos 1 ∷ pos 1 ∷ []) (pos 0) true
+    ∷ reaches 2 (allOf (pos 0)) (allOf (pos 1)) (pos 511) false
+    ∷ reaches 2 (allOf (pos 0)) (allOf (pos 1)) (pos 512) true
+    ∷ reaches 2 (allOf (pos 0)) (allOf (pos 1)) (pos 513) true
     -- element -4, mask 4,294,967,295: 4,294,967,291; element 3, mask 4,294,967,294: 1 [SPEC 30.7, 30.8]
     ∷ masked (negℤ (pos 4)) 4294967295 4294967291
     ∷ masked (pos 3) 4294967294 1

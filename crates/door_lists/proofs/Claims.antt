@@ -7,7 +7,7 @@ use Prim.Native.Nat.{ℕ, _<_}
 use borrow.Author.Tests.{lt-ltb}
 use Rattle.measure_table.specs.declared.Terms.{Terms}
 use Rattle.measure_table.specs.Measure.{isCode}
-use Rattle.measure_table.specs.Laws.{any-length, scalar-sign, euclid-sign, hamming-sign, reached-plain, reached-close}
+use Rattle.measure_table.specs.Laws.{any-length, scalar-sign, distance-sign, reached-plain, reached-close}
 use Rattle.half_deal.specs.Dealing.{Deal}
 use Rattle.door_lists.specs.Lists.{Box, Starts, Started, beginning, Call, camera, office, joined, after, events}
 use Rattle.door_lists.specs.Lists.{history, Admissible}
@@ -87,7 +87,7 @@ not-empty = (
   λ s f cs a n terms small c some most F.
       let fits = any-length terms some most in (
         example n terms small (coded terms c) fits 1 (sample-1 terms) can-end s f cs a F,
-        example n terms small (coded terms c) fits 0 (sample-0 terms c some) can-end s f cs a F,
+        example n terms small (coded terms c) fits 0 (sample-0 terms some) can-end s f cs a F,
       ),
   some-starts,
 )
@@ -96,8 +96,7 @@ verdict-is : VerdictIs
 unfolding VerdictIs
 verdict-is d x y = (
   λ e. ap bit (reached-plain (d .terms) (scalar-sign (d .terms) e) _ _),
-  λ e. ap bit (reached-close (d .terms) (euclid-sign (d .terms) e) _ _),
-  λ e. ap bit (reached-close (d .terms) (hamming-sign (d .terms) e) _ _),
+  λ h. ap bit (reached-close (d .terms) (distance-sign (d .terms) h) _ _),
 )
   where
     bit : Bool → ℕ

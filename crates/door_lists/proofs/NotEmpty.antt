@@ -13,8 +13,7 @@ use Rattle.base_algebra.specs.Sum.{sumℤ}
 use Rattle.measure_table.specs.Measure.{row, scalarProduct, squaredEuclid, hamming, element, measure, reached}
 use Rattle.measure_table.specs.Measure.{isCode, lengthFits, within, inRange, allInRange, thresholdFits}
 use Rattle.measure_table.specs.declared.Terms.{Terms}
-use Rattle.measure_table.specs.Laws.{scalar-sign, euclid-sign, hamming-sign, reached-plain, reached-close}
-use Rattle.measure_table.specs.Laws.{reached-equal}
+use Rattle.measure_table.specs.Laws.{scalar-sign, distance-sign, reached-plain, reached-close, reached-equal}
 use Rattle.measure_table.specs.Measure as Measure
 use Rattle.base_words.specs.List.{same}
 use Rattle.base_messages.specs.Messages.{unless, nameFits, printable, isKey}
@@ -148,35 +147,32 @@ sample-1 terms =
       says = rw (no-measure (terms .code) (terms .n) (terms .n), reached-equal terms (pos 0)) refl;
     }
 
-far-says : (code n : ℕ) → code < 3 → 1 ≤ n
+far-says : (code n : ℕ) → 1 ≤ n
     → (let terms : Terms = record { code = code; n = n } in
     _≡_ {A = ℕ} (cond (reached terms (measure terms (far n) (zeros n)) (signed (beyond code))) 1 0) 0)
 unfolding beyond signed apart
-far-says code zero c h = absurd (omega arith)
-far-says zero (suc l) c h =
+far-says code zero h = absurd (omega arith)
+far-says zero (suc l) h =
     let terms : Terms = record { code = 0; n = suc l } in
     rw (far-measure 0 l, reached-plain terms (scalar-sign terms refl) (pos 0) (pos 1)) refl
-far-says (suc zero) (suc l) c h =
-    let terms : Terms = record { code = 1; n = suc l } in
-    rw (far-measure 1 l, reached-close terms (euclid-sign terms refl) (pos 1) (pos 0)) refl
-far-says (suc (suc zero)) (suc l) c h =
-    let terms : Terms = record { code = 2; n = suc l } in
-    rw (far-measure 2 l, reached-close terms (hamming-sign terms refl) (pos 1) (pos 0)) refl
-far-says (suc (suc (suc code))) (suc l) c h = absurd (omega arith)
+far-says (suc code) (suc l) h =
+    let terms : Terms = record { code = suc code; n = suc l } in
+    let distance : suc code ≡ 0 → ⊥ = λ e. absurd (omega (arith, e)) in
+    rw (far-measure (suc code) l, reached-close terms (distance-sign terms distance) (pos 1) (pos 0)) refl
 
 abbrev farAndZeros : ℕ → Box → List ℕ
 farAndZeros l camera = far l
 farAndZeros l office = zeros l
 
-pub sample-0 : (terms : Terms) → terms .code < 3 → 1 ≤ terms .n → Sample terms 0
-sample-0 terms c h =
+pub sample-0 : (terms : Terms) → 1 ≤ terms .n → Sample terms 0
+sample-0 terms h =
     record {
       t = beyond (terms .code);
       v = farAndZeros (terms .n);
       threshold-fits = bit-fits (terms .code) (terms .n) .3;
       vector-long = both _ (far-long (terms .n)) (length-replicate {A = ℕ} (terms .n) 0);
       elements-fit = both _ (far-fits terms (terms .n)) (zeros-fit terms (terms .n));
-      says = far-says (terms .code) (terms .n) c h;
+      says = far-says (terms .code) (terms .n) h;
     }
 
 -- ---- a run with them, under any number

@@ -177,7 +177,7 @@ unfolding TwoThereAre
 two-there-are s f cs a n m l small F p q cp sp lp cq sq lq =
     let below : n < 2 ^ 64 = omega (arith, l, small) in
     let first = sample-1 p in
-    let second = sample-0 q cq sq in (
+    let second = sample-0 q sq in (
       sampleDeal n p below (coded p cp) (any-length p sp lp) 1 first,
       sampleDeal m q small (coded q cq) (any-length q sq lq) 0 second,
       first .v,

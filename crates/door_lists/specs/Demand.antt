@@ -1,5 +1,6 @@
--- Demand 3 (01, "A door's list of calls"): what a list's accepted calls were, and the eight claims: over every list,
--- and what the verdict is. No proof stands here. Assumes nothing. [SPEC 25.6 to 25.8, 27.1 to 27.5, 28.1 to 28.13]
+-- Demand 3 (01, "A door's list of calls"): what a list's accepted calls were, and eight claims: seven over every list,
+-- and one of what the verdict is. No proof stands here. Assumes nothing.
+-- [SPEC 3.6, 25.6 to 25.8, 27.1 to 27.5, 28.1 to 28.13]
 use mathlib.Core.Path.{_≡_}
 use mathlib.Core.Bool.{Bool, true, false, cond}
 use mathlib.Core.List.{List, [], _∷_, _++_, map}
@@ -333,14 +334,13 @@ NotEmpty = ((s : Starts) → Started s → (cs : List Call) → Admissible s cs 
 -- ---- what the verdict is
 
 -- the lock is to say 1 where the code's rule is met, and 0 everywhere else: "scalar product keeps measure ≥ T", and
--- "For squared Euclid and Hamming the lock's 1 means measure ≤ T" [SPEC 3.6]
+-- "For squared Euclid and Hamming", the codes above 0, "the lock's 1 means measure ≤ T" [SPEC 3.6]
 unfoldable pub VerdictIs : Type 0
 VerdictIs = (d : Deal) (x y : List ℕ)
     → (let m : ℤ = measure (d .terms) x y in
     let t : ℤ = signed (d .t) in
     (d .terms .code ≡ 0 → verdict d x y ≡ cond (leZ t m) 1 0)
-    × (d .terms .code ≡ 1 → verdict d x y ≡ cond (leZ m t) 1 0)
-    × (d .terms .code ≡ 2 → verdict d x y ≡ cond (leZ m t) 1 0))
+    × ((d .terms .code ≡ 0 → ⊥) → verdict d x y ≡ cond (leZ m t) 1 0))
 
 -- ---- demand 3, whole
 

@@ -1,6 +1,6 @@
--- What the measure's sign does to a set (02, §2): T and the sign go into party 1's r word and nowhere else. By the
--- plain sign, the scalar product's, that word is 01's, and so both sets are 01's. By the sign -1, that of squared
--- Euclid and Hamming, it is 02's, and of a half's content nothing but this word differs from 01's. Assumes nothing.
+-- What T and the measure's sign do to a set (02, §2): they go into party 1's r word and nowhere else. With the plain
+-- sign, the scalar product's, that word is 01's, and so both sets are 01's. With the sign -1, that of squared Euclid
+-- and Hamming, it is 02's, and of a half's content nothing but this word differs from 01's. Assumes nothing.
 -- [SPEC 5.8, 5.13, 5.14]
 use mathlib.Core.Path.{_≡_, refl, ap}
 use mathlib.Core.List.{List}
@@ -9,11 +9,18 @@ use lib.IntN.{pos, negℤ}
 use lib.ListN.{set}
 use Rattle.base_algebra.specs.Word.{add, sub}
 use Rattle.base_words.specs.Bytes.{le32}
+use Rattle.measure_table.specs.declared.Terms.{Terms}
 use Rattle.measure_table.specs.Measure.{sign}
 use Rattle.share_vectors.specs.Claims.{other-r-plain, other-r-close}
 use Rattle.half_content.specs.declared.Set.{Set}
 use Rattle.half_content.specs.Content.{rField, fields}
-use Rattle.half_deal.specs.Dealing.{setWords, r, r0, Deal, rOf, setWith, setFrom, dealtSet}
+use Rattle.half_deal.specs.Dealing.{setWords, r, r0, Deal, dealFrom, rOf, setWith, setFrom, dealtSet}
+
+-- party 0's set is the same for every T
+pub camera-set : (number : ℕ) (seed : List ℕ) (terms : Terms) (t u : ℕ)
+    → dealtSet (dealFrom number seed terms t) 0 ≡ dealtSet (dealFrom number seed terms u) 0
+unfolding dealtSet setFrom rOf
+camera-set number seed terms t u = refl
 
 module _ (d : Deal) where
   abbrev n : ℕ
@@ -22,27 +29,25 @@ module _ (d : Deal) where
   abbrev w : List ℕ
   w = setWords (d .seed) n
 
-  -- a party's set of this deal, with this r word
-  abbrev pub dealtWith : ℕ → ℕ → Set
-  dealtWith party its-r = setWith (d .number) (d .terms) w party its-r
+  -- party 1's set of this deal, with this r word
+  abbrev officeWith : ℕ → Set
+  officeWith its-r = setWith (d .number) (d .terms) w 1 its-r
 
-  -- party 0's set has neither T nor sign in it
-  pub camera-set : dealtSet d 0 ≡ dealtWith 0 (r0 n w)
-  unfolding dealtSet setFrom rOf
-  camera-set = refl
+  -- the same with 01's, "r1 = r - T - r0"
+  abbrev pub officeBy01 : Set
+  officeBy01 = officeWith (sub (sub (r n w) (d .t)) (r0 n w))
 
-  -- "r1 = r - T - r0"
-  pub office-plain : sign (d .terms) ≡ pos 1 → dealtSet d 1 ≡ dealtWith 1 (sub (sub (r n w) (d .t)) (r0 n w))
+  pub office-plain : sign (d .terms) ≡ pos 1 → dealtSet d 1 ≡ officeBy01
   unfolding dealtSet setFrom rOf
-  office-plain plain = ap (dealtWith 1) (other-r-plain (d .terms) plain (r n w) (d .t) (r0 n w))
+  office-plain plain = ap officeWith (other-r-plain (d .terms) plain (r n w) (d .t) (r0 n w))
 
   -- "r1 = r + T - r0"
-  pub office-close : sign (d .terms) ≡ negℤ (pos 1) → dealtSet d 1 ≡ dealtWith 1 (sub (add (r n w) (d .t)) (r0 n w))
+  pub office-close : sign (d .terms) ≡ negℤ (pos 1) → dealtSet d 1 ≡ officeWith (sub (add (r n w) (d .t)) (r0 n w))
   unfolding dealtSet setFrom rOf
-  office-close close = ap (dealtWith 1) (other-r-close (d .terms) close (r n w) (d .t) (r0 n w))
+  office-close close = ap officeWith (other-r-close (d .terms) close (r n w) (d .t) (r0 n w))
 
--- with another r word the fields of the content are the same, byte for byte, but for that one
-pub only-r : (d : Deal) (name : List ℕ) (party one other : ℕ)
-    → fields name party (dealtWith d party one) ≡ set (fields name party (dealtWith d party other)) rField (le32 one)
-unfolding fields
-only-r d name party one other = refl
+  -- field by field its content is then 01's, but for this word
+  pub office-moved : sign (d .terms) ≡ negℤ (pos 1) → (name : List ℕ)
+      → fields name 1 (dealtSet d 1) ≡ set (fields name 1 officeBy01) rField (le32 (sub (add (r n w) (d .t)) (r0 n w)))
+  unfolding fields
+  office-moved close name = ap (fields name 1) (office-close close)

@@ -1,5 +1,5 @@
--- Dealing a set (01, "Dealing a set"): the words that the dealer draws, and the set that each party gets. A party is
--- its number. Assumes nothing. [SPEC 5.1, 5.9 to 5.11]
+-- Dealing a set (01, "Dealing a set"; 02, §2): the words that the dealer draws, and the set that each party gets. A
+-- party is its number. Assumes nothing. [SPEC 5.1, 5.9 to 5.11, 5.13]
 use mathlib.Core.Bool.{cond}
 use mathlib.Core.List.{List, [], _∷_}
 use Prim.Native.Nat.{ℕ, _+_, _*_}
@@ -63,13 +63,13 @@ pub record Deal : Type 0 where
 abbrev pub dealFrom : ℕ → List ℕ → Terms → ℕ → Deal
 dealFrom number seed terms t = record { number = number; seed = seed; terms = terms; t = t }
 
--- r0 at party 0, r1 at party 1, from the words that were drawn
+-- r0 at party 0, r1 at party 1, from the words that were drawn [SPEC 5.8, 5.9]
 unfoldable pub rOf : Deal → List ℕ → ℕ → ℕ
 rOf d w party =
     let n : ℕ = d .terms .n in
     cond (eqb party 0) (r0 n w) (otherR (d .terms) (r n w) (d .t) (r0 n w))
 
--- a party's set of this number and these terms, from the words that were drawn and its r word: T stands nowhere else
+-- a party's set of this number and these terms, from the words that were drawn and its r word: T is in no other word
 abbrev pub setWith : ℕ → Terms → List ℕ → ℕ → ℕ → Set
 setWith number terms w party its-r =
     let n : ℕ = terms .n in

@@ -1,6 +1,7 @@
--- What a caller uses of the measures: how long a vector may be; their words are the residues of the whole numbers; what
--- two boxes open fits a signed word (01, "Measures"), by either sign, and the word's sign says whether the threshold is
--- reached; and that by the table's signs this is the papers' rule, word for word. Assumes nothing. [SPEC 3.5, 3.6]
+-- What a caller uses of the measures: how long a vector may be; their words are the residues of the whole numbers; the
+-- difference of measure and threshold fits a signed word (01, "Measures"), with either sign of a row, and the word's
+-- highest bit says whether the threshold is reached; and that this is the papers' rule for each code. Assumes nothing.
+-- [SPEC 2.3, 2.4, 3.5, 3.6, 3.11, 3.12]
 use mathlib.Core.Path.{_≡_, refl, sym, ap, ap₂, _∙_, subst}
 use mathlib.Core.Bool.{Bool, true, false, cond, _&&_}
 use mathlib.Core.List.{List, [], _∷_}
@@ -145,6 +146,11 @@ ownWord-lt terms v = go (row (terms .code) .squares)
     go : (b : Bool) → cond b (sum (λ i. mul (getD v i 0) (getD v i 0)) (terms .n)) 0 < 2 ^ 32
     go true = sum-lt (λ i. mul (getD v i 0) (getD v i 0)) (terms .n)
     go false = omega arith
+
+-- call 2: "Mask its own vector", as it is
+pub carried-whole : (terms : Terms) (party : ℕ) (v : List ℕ) → carried terms party v ≡ v
+unfolding carried
+carried-whole terms party v = refl
 
 -- what the two parties carry has the product that the measure asks for
 pub cross≈ : (terms : Terms) (x y : List ℕ)
@@ -365,7 +371,7 @@ sign-square terms = go (terms .code)
     go (suc zero) = refl
     go (suc (suc code)) = refl
 
--- .. so what lies from -h to h does by either
+-- .. so what lies from -h to h still does when it is multiplied by one
 by-sign : (s d : ℤ) (h : ℕ) → s *ℤ s ≡ pos 1 → Near h d → Near h (s *ℤ d)
 by-sign (pos zero) d h e k = absurd (omega (arith, ap natAbs e))
 by-sign (pos (suc zero)) d h e k = rw (once d) k
@@ -384,7 +390,16 @@ by-sign (negsuc zero) d h e k =
     back z = ringℤ (z ∷ []) (search reifyℤ depth 20 fits 5000) refl
 by-sign (negsuc (suc a)) d h e k = absurd (omega (arith, ap natAbs e))
 
--- what the two boxes open fits a signed word, by either sign
+-- measure - T ..
+pub bound-plain : (terms : Terms) (t : ℕ) (x y : List ℕ) → lengthFits terms ≡ true → allInRange terms x ≡ true
+    → allInRange terms y ≡ true → thresholdFits terms t ≡ true
+    → (let d : ℤ = measure terms x y -ℤ signed t in
+    (leZ (negℤ (pos (2 ^ 31 - 1))) d ≡ true) × (leZ d (pos (2 ^ 31 - 1)) ≡ true))
+bound-plain terms t x y hn hx hy ht =
+    let k = near terms x y hn hx hy t ht in
+    (to-test (k .from), to-test (k .to))
+
+-- .. and the difference, with either sign
 pub bound : (terms : Terms) (t : ℕ) (x y : List ℕ) → lengthFits terms ≡ true → allInRange terms x ≡ true
     → allInRange terms y ≡ true → thresholdFits terms t ≡ true
     → (let d : ℤ = difference terms (measure terms x y) (signed t) in
@@ -394,7 +409,7 @@ bound terms t x y hn hx hy ht =
     let k = by-sign (sign terms) _ (2 ^ 31 - 1) (sign-square terms) (near terms x y hn hx hy t ht) in
     (to-test (k .from), to-test (k .to))
 
--- ---- the sign, read off a word
+-- ---- the difference's sign, read off its word
 
 sign-bit : (w : ℕ) → w < 2 ^ 32 → less w (2 ^ 31) ≡ only (leZ (pos 0) (signed w)) 1
 unfolding only
@@ -415,7 +430,7 @@ word-sign w d l from to h =
     let same : w ≡ word d = same-word (m-trans h (m-sym (word≈ d))) l (word-lt d) in
     sign-bit w l ∙ ap (λ (z : ℤ). only (leZ (pos 0) z) 1) (ap signed same ∙ signed-word d from to)
 
--- the word of what the two boxes open is below 2^31 exactly if the threshold is reached
+-- the difference's word is below 2^31 exactly if the threshold is reached
 pub reached-sign : (terms : Terms) (t w : ℕ) (x y : List ℕ) → lengthFits terms ≡ true → allInRange terms x ≡ true
     → allInRange terms y ≡ true → thresholdFits terms t ≡ true → w < 2 ^ 32
     → w ≈ residue (2 ^ 32) (difference terms (measure terms x y) (signed t))
@@ -435,13 +450,15 @@ pub scalar-sign : (terms : Terms) → terms .code ≡ 0 → sign terms ≡ pos 1
 unfolding sign row scalarProduct
 scalar-sign terms e = ap (λ (c : ℕ). row c .sign) e
 
-pub euclid-sign : (terms : Terms) → terms .code ≡ 1 → sign terms ≡ negℤ (pos 1)
-unfolding sign row squaredEuclid
-euclid-sign terms e = ap (λ (c : ℕ). row c .sign) e
-
-pub hamming-sign : (terms : Terms) → terms .code ≡ 2 → sign terms ≡ negℤ (pos 1)
-unfolding sign row hamming
-hamming-sign terms e = ap (λ (c : ℕ). row c .sign) e
+-- every other code is a distance
+pub distance-sign : (terms : Terms) → (terms .code ≡ 0 → ⊥) → sign terms ≡ negℤ (pos 1)
+unfolding sign row squaredEuclid hamming
+distance-sign terms h = go (terms .code) h
+  where
+    go : (code : ℕ) → (code ≡ 0 → ⊥) → row code .sign ≡ negℤ (pos 1)
+    go zero h = absurd (h refl)
+    go (suc zero) h = refl
+    go (suc (suc code)) h = refl
 
 -- where the sign is plain, all is as 01 has it ..
 module _ (terms : Terms) (plain : sign terms ≡ pos 1) where
@@ -485,14 +502,9 @@ reached-equal terms m = ap (leZ (pos 0)) (none (sign terms) m)
     none : (s m : ℤ) → s *ℤ (m -ℤ m) ≡ pos 0
     none s m = ringℤ (s ∷ m ∷ []) (search reifyℤ depth 20 fits 5000) refl
 
--- call 2: "Mask its own vector"
-pub carried-plain : (terms : Terms) (party : ℕ) (v : List ℕ) → carried terms party v ≡ v
-unfolding carried
-carried-plain terms party v = refl
-
 -- ---- what the rule comes to at the ends of its ranges [SPEC 3.11, 3.12]
 
--- a vector has no distance from itself
+-- a vector's distance from itself is 0 ..
 pub no-distance : (terms : Terms) → (terms .code ≡ 0 → ⊥) → (x : List ℕ) → measure terms x x ≡ pos 0
 unfolding measure own cross row squaredEuclid hamming
 no-distance terms h x = go (terms .code) h (sumℤ (λ i. element x i *ℤ element x i) (terms .n))
@@ -506,23 +518,48 @@ no-distance terms h x = go (terms .code) h (sumℤ (λ i. element x i *ℤ eleme
     go (suc zero) h s = twice s
     go (suc (suc code)) h s = twice s
 
+-- .. which reaches every threshold that a deal takes, 0 included
+pub equal-reached : (terms : Terms) → (terms .code ≡ 0 → ⊥) → (t : ℕ) → thresholdFits terms t ≡ true → (x : List ℕ)
+    → reached terms (measure terms x x) (signed t) ≡ true
+unfolding thresholdFits within row squaredEuclid hamming
+equal-reached terms h t fits x =
+    reached-close terms (distance-sign terms h) (measure terms x x) (signed t)
+    ∙ ap (λ (m : ℤ). leZ m (signed t)) (no-distance terms h x) ∙ go (terms .code) h fits
+  where
+    go : (code : ℕ) → (code ≡ 0 → ⊥)
+        → leZ (row code .least) (signed t) && leZ (signed t) (row code .most) ≡ true → leZ (pos 0) (signed t) ≡ true
+    go zero h f = absurd (h refl)
+    go (suc zero) h f = both _ _ f .0
+    go (suc (suc code)) h f = both _ _ f .0
+
 module _ (n : ℕ) (x y : List ℕ) where
   abbrev euclid : Terms
   euclid = record { code = 1; n = n }
 
-  -- T - measure is at least -2,145,387,008 (512 × 2,047 × 2,047), and at most 2^31 - 1 (`bound`)
-  pub euclid-most : lengthFits euclid ≡ true → allInRange euclid x ≡ true → allInRange euclid y ≡ true
-      → leZ (measure euclid x y) (pos 2145387008) ≡ true
-  unfolding row squaredEuclid bounded
-  euclid-most hn hx hy = to-test (ends euclid x y hn hx hy .1)
+  -- a squared distance is at most 512 × 2,047 × 2,047, so that T - measure lies from -2,145,387,008 to 2^31 - 1
+  pub euclid-range : (t : ℕ) → lengthFits euclid ≡ true → allInRange euclid x ≡ true → allInRange euclid y ≡ true
+      → thresholdFits euclid t ≡ true
+      → within (negℤ (pos 2145387008)) (pos (2 ^ 31 - 1)) (signed t -ℤ measure euclid x y) ≡ true
+  unfolding row squaredEuclid bounded within thresholdFits
+  euclid-range t hn hx hy ht =
+      let m = ends euclid x y hn hx hy in
+      let fits = both _ _ ht in
+      ap₂ _&&_ (to-test (le-sub (of-test (pos 0) (signed t) (fits .0)) (m .1)))
+      (to-test (le-sub (of-test (signed t) (pos (2 ^ 31 - 1)) (fits .1)) (m .0)))
 
   abbrev bits : Terms
   bits = record { code = 2; n = n }
 
-  -- no two vectors are 513 apart: that threshold is always reached
+  -- two vectors differ in 512 places at most ..
+  pub hamming-most : lengthFits bits ≡ true → allInRange bits x ≡ true → allInRange bits y ≡ true
+      → leZ (measure bits x y) (pos 512) ≡ true
+  unfolding row hamming bounded
+  hamming-most hn hx hy = to-test (ends bits x y hn hx hy .1)
+
+  -- .. so that the threshold 513 is always reached
   pub hamming-always : lengthFits bits ≡ true → allInRange bits x ≡ true → allInRange bits y ≡ true
       → reached bits (measure bits x y) (pos 513) ≡ true
-  unfolding row hamming bounded
   hamming-always hn hx hy =
-      reached-close bits (hamming-sign bits refl) (measure bits x y) (pos 513)
-      ∙ to-test (le-trans (ends bits x y hn hx hy .1) (of-test (pos 512) (pos 513) refl))
+      reached-close bits (distance-sign bits (λ e. absurd (omega (arith, e)))) (measure bits x y) (pos 513)
+      ∙ to-test
+      (le-trans (of-test (measure bits x y) (pos 512) (hamming-most hn hx hy)) (of-test (pos 512) (pos 513) refl))

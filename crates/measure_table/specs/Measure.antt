@@ -18,8 +18,8 @@ abbrev pub mostElements : ℕ
 mostElements = 512
 
 -- 01's table, a row for each code. `squares`: own is the sum of squares, else 0. An element lies from `low` to `high`,
--- a threshold from `least` to `most`. Two columns more: a vector has at most `longest` elements; `sign` is 1 where a
--- set opens measure - T, and -1 where it opens T - measure. [SPEC 3.3, 3.6]
+-- a threshold from `least` to `most`. Two columns more: a vector has at most `longest` elements; `sign` is 1 where more
+-- means the same person, and -1 where less does. [SPEC 3.3, 3.6]
 pub record Row : Type 0 where
   pub squares : Bool
   pub k : ℤ
@@ -49,7 +49,7 @@ unfoldable pub scalarProduct : Row
 scalarProduct =
     columns false (pos 1) (negℤ (pos 1024)) (pos 1023) (negℤ (pos (2 ^ 30))) (pos (2 ^ 30)) mostElements (pos 1)
 
--- 02, §2: "The opened sum for those two codes is T - measure + r"
+-- "For squared Euclid and Hamming the lock's 1 means measure ≤ T"
 unfoldable pub squaredEuclid : Row
 squaredEuclid =
     columns true (negℤ (pos 2)) (negℤ (pos 1024)) (pos 1023) (pos 0) (pos (2 ^ 31 - 1)) mostElements (negℤ (pos 1))
@@ -88,16 +88,16 @@ cross terms x y = sumℤ (λ i. element x i *ℤ element y i) (terms .n)
 unfoldable pub measure : Terms → List ℕ → List ℕ → ℤ
 measure terms x y = own terms x +ℤ own terms y +ℤ row (terms .code) .k *ℤ cross terms x y
 
--- the sign that a set's sum is opened by
+-- the sign in a set's row
 unfoldable pub sign : Terms → ℤ
 sign terms = row (terms .code) .sign
 
--- what the two boxes open, under r: measure - T, and T - measure where the sign is -1. Terms, measure, T [SPEC 17.6]
+-- what the two boxes open, less r: measure - T, and T - measure where the sign is -1. Terms, measure, T [SPEC 17.6]
 unfoldable pub difference : Terms → ℤ → ℤ → ℤ
 difference terms m t = sign terms *ℤ (m -ℤ t)
 
--- whether the threshold is reached: what they open is not below 0. By the sign 1 that is "measure ≥ T"
--- (Laws.`reached-plain`), by -1 it is "measure ≤ T" (`reached-close`). Terms, measure, T [SPEC 3.6]
+-- whether the threshold is reached: the difference is not below 0. With sign 1 that is "measure ≥ T"
+-- (Laws.`reached-plain`), with sign -1 it is "measure ≤ T" (`reached-close`). Terms, measure, T [SPEC 3.6]
 unfoldable pub reached : Terms → ℤ → ℤ → Bool
 reached terms m t = leZ (pos 0) (difference terms m t)
 
@@ -138,7 +138,7 @@ ownWord terms v = cond (row (terms .code) .squares) (sum (λ i. mul (getD v i 0)
 unfoldable pub carried : Terms → ℕ → List ℕ → List ℕ
 carried terms party v = v
 
--- the width of the interval that a set answers for: what it opens lies from 0 to this just if the threshold is reached
+-- the width of the interval that a set answers for: its difference lies from 0 to this just if the threshold is reached
 abbrev pub ordinaryWidth : ℕ
 ordinaryWidth = 2 ^ 31 - 1
 

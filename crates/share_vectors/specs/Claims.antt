@@ -1,8 +1,8 @@
--- Claim opened-sum: whatever the masks, the two boxes' words sum to measure - T, or to T - measure by the sign -1, + r.
--- Claim join law: whatever the key seeds, their answers sum to 1 if the threshold is reached, else to 0. Both over free
--- words: where they come from is another layer's matter; and over either sign. And that the formulas are the papers',
--- word for word. Assumes nothing.
-use mathlib.Core.Path.{_≡_, refl, ap, ap₂, _∙_}
+-- Claim opened-sum: whatever the masks, the two boxes' words sum to measure - T + r, and with sign -1 to
+-- T - measure + r. Claim join law: whatever the key seeds, their answers sum to 1 if the threshold is reached, else to
+-- 0. Both over free words: where they come from is another layer's matter; and over either sign. And that the formulas
+-- are equal to the papers'. Assumes nothing.
+use mathlib.Core.Path.{_≡_, refl, sym, ap, ap₂, _∙_}
 use mathlib.Core.Bool.{true}
 use mathlib.Core.List.{List, [], _∷_}
 use Prim.Native.Nat.{ℕ, zero, suc, _+_, _-_, _^_, _<_, _≤_}
@@ -24,9 +24,10 @@ use Rattle.measure_table.specs.declared.Terms.{Terms}
 use Rattle.measure_table.specs.Measure.{lengthFits, allInRange, thresholdFits, measure, sign, difference, reached}
 use Rattle.measure_table.specs.Measure.{kWord, signWord, ownWord, carried, ordinaryWidth}
 use Rattle.measure_table.specs.Laws.{measure≈, signWord≈, signWord-plain, signWord-close, reached-sign}
+use Rattle.measure_table.specs.Laws.{difference-plain, difference-close}
 use Rattle.share_vectors.specs.Share.{plus, inner, otherC, otherR, share, boxWord, answer, idealGate}
 
--- ---- the papers' own words. Where the sign is plain they are 01's ..
+-- ---- the papers' own formulas. With sign 1 they are 01's ..
 
 module _ (terms : Terms) (plain : sign terms ≡ pos 1) where
   -- "its word: k × (share) + own + its r" [SPEC 17.4]
@@ -49,7 +50,7 @@ module _ (terms : Terms) (plain : sign terms ≡ pos 1) where
       once : (r t r0 : ℕ) → sub (sub r (mul 1 t)) r0 ≈ sub (sub r t) r0
       once r t r0 = ring (r ∷ t ∷ r0 ∷ []) (search words depth 40 fits 5000) refl
 
--- .. and where it is -1, 02's, §2
+-- .. and with sign -1 those of 02, §2
 
 module _ (terms : Terms) (close : sign terms ≡ negℤ (pos 1)) where
   -- "a box's word is its r minus (k × (share) + own)" [SPEC 17.4]
@@ -237,6 +238,16 @@ module _ (terms : Terms) (t : ℕ) (x y x0 x1 y0 y1 : List ℕ) (c0 r r0 : ℕ) 
           → m ≈ residue (2 ^ 32) M → residue (2 ^ 32) S ≈ t → z ≈ residue (2 ^ 32) (G *ℤ (M -ℤ S)) + r
       last G M S z g m r t ez eg em es =
           ring (residue (2 ^ 32) G ∷ residue (2 ^ 32) M ∷ r ∷ t ∷ []) (search words depth 40 fits 5000) refl
+
+  -- "measure - T + r" ..
+  pub opened-plain : sign terms ≡ pos 1
+      → add word0 word1 ≈ residue (2 ^ 32) (measure terms x y -ℤ signed t) + r
+  opened-plain plain = rw (sym (difference-plain terms plain (measure terms x y) (signed t))) opened-sum
+
+  -- .. and 02, §2: "The opened sum for those two codes is T - measure + r" [SPEC 17.6]
+  pub opened-close : sign terms ≡ negℤ (pos 1)
+      → add word0 word1 ≈ residue (2 ^ 32) (signed t -ℤ measure terms x y) + r
+  opened-close close = rw (sym (difference-close terms close (measure terms x y) (signed t))) opened-sum
 
 -- ---- the join law
 

@@ -1,7 +1,7 @@
 -- What a box computes in one check, and what the dealer computes for it, over free words (01, "Dealing a set" and "One
--- check at a box"; 02, §2). A party is its number: 0 the camera box, 1 the office box. By the measure's sign, 1 or -1,
--- the formulas are 01's or 02's, word for word (Claims.`word-plain`, `word-close`, `other-r-plain`, `other-r-close`);
--- an ordinary set's width is 2^31 - 1 (`answer-ordinary`). Assumes nothing.
+-- check at a box"; 02, §2). A party is its number: 0 the camera box, 1 the office box. With a row's sign 1 the
+-- formulas are equal to 01's, with -1 to 02's (Claims.`word-plain`, `other-r-plain`, `word-close`, `other-r-close`). An
+-- ordinary set's width is 2^31 - 1 (`answer-ordinary`). Assumes nothing.
 -- [SPEC 5.7, 5.8, 16.2, 17.3, 17.4, 18.3, 18.4]
 use mathlib.Core.List.{List}
 use Prim.Native.Nat.{ℕ}
@@ -28,7 +28,7 @@ inner n a b = sum (λ i. mul (getD a i 0) (getD b i 0)) n
 unfoldable pub otherC : ℕ → List ℕ → List ℕ → ℕ → ℕ
 otherC n maskX maskY c0 = sub (inner n maskX maskY) c0
 
--- "r1 = r - T - r0", and by the sign -1 "r1 = r + T - r0" [SPEC 5.8]
+-- "r1 = r - T - r0", and with sign -1 "r1 = r + T - r0" [SPEC 5.8]
 unfoldable pub otherR : Terms → ℕ → ℕ → ℕ → ℕ
 otherR terms r t r0 = sub (sub r (mul (signWord terms) t)) r0
 
@@ -37,7 +37,7 @@ unfoldable pub share : ℕ → ℕ → ℕ → List ℕ → List ℕ → List �
 share party n c maskedX maskedY shareX shareY =
     add (sub (sub c (inner n maskedX shareY)) (inner n maskedY shareX)) (only (odd party) (inner n maskedX maskedY))
 
--- call 3: "its word: k × (share) + own + its r", and by the sign -1 "its r minus (k × (share) + own)" [SPEC 17.4]
+-- call 3: "its word: k × (share) + own + its r", and with sign -1 "its r minus (k × (share) + own)" [SPEC 17.4]
 unfoldable pub boxWord : Terms → ℕ → ℕ → ℕ → ℕ
 boxWord terms s own r = add (mul (signWord terms) (add (mul (kWord terms) s) own)) r
 
