@@ -368,6 +368,34 @@ static bool cut_twice(unsigned first)
     return true;
 }
 
+/* A part that was set up as far as its last number must not pass for one of an older version, nor
+   after a power cut. */
+static void inspect_set_up(const char *folder, enum part part)
+{
+    char last[2 * PATH_ROOM], version[2 * PATH_ROOM], unforced[2 * PATH_ROOM];
+    snprintf(last, sizeof last, "%s/%s/last", folder, PART[part].command);
+    snprintf(version, sizeof version, "%s/%s/version", folder, PART[part].command);
+    snprintf(unforced, sizeof unforced, "%s/%s/version%s", folder, PART[part].command, MARK_NEW);
+    EXPECT(access(last, F_OK) != 0
+            || (access(version, F_OK) == 0 && access(unforced, F_OK) != 0),
+        "%s is set up with a last number before its version", last);
+}
+
+/* Whether the set-up came to this step and was cut short there. */
+static bool cut_set_up(unsigned step)
+{
+    char folder[PATH_ROOM];
+    char *const arguments[] = {
+        "door-host", "setup", folder, "Another door", "1", "2", "3", NULL};
+    EXPECT(step < MOMENTS_MOST, "a set-up comes to no end");
+    snprintf(folder, sizeof folder, "another-%u", step);
+    bool was_cut = run_cut_short(arguments, BEFORE_STEP, step);
+    for (enum part part = CAMERA; part <= LOCK; part++)
+        inspect_set_up(folder, part);
+    upgrade_tally.set_ups += was_cut;
+    return was_cut;
+}
+
 static void start_again(void)
 {
     for (enum part part = CAMERA; part <= LOCK; part++)
@@ -395,6 +423,8 @@ void versions(void)
         not_while_running(part);
         not_with_damaged_last(part);
     }
+    for (unsigned step = 1; cut_set_up(step);)
+        step++;
     changes_nothing_twice();
     cut_at_steps(false);
     cut_at_steps(true);
