@@ -26,6 +26,12 @@
  * just been loaded. Messages go out under the open set's number, check.set.number, and are compared
  * with it. While a set waits, `last` is the waiting set's number: do not send under `last`.
  *
+ * Older sets. There was a version in which the lock's 1 meant measure >= T for every code. Its sets
+ * for DOOR_EUCLID and DOOR_HAMMING must be scrapped. No call can tell such a half from a new one:
+ * it would load, and the lock would report a wrong bit. A host scraps them best when it starts the
+ * boxes anew: with the dealer's last number as the floor, where the box's own is lower, door_load
+ * refuses every older half by 7, wherever it has been.
+ *
  * Refusals. `why` is 0 for an accepted call, else the number of the first test that failed, lowest
  * first (enum door_refusal). A refused call changes nothing: the answer holds the state that was
  * handed in, its word is 0, and every buffer is as it was. So `box = a.party` is right either way.
@@ -104,11 +110,12 @@ enum door_refusal {
     DOOR_BAD_SUM = 12
 };
 
-/* Measures, with the ranges of elements and of the threshold T. The lock's 1 means measure >= T. */
+/* Measures, with the ranges of elements and of the threshold T, and what the lock's 1 means: a
+   product is large enough, a distance small enough. Where the measure is just T it is always 1. */
 enum door_code {
-    DOOR_SCALAR = 0, /* scalar product: -1024 to 1023, T from -2^30 to 2^30 */
-    DOOR_EUCLID = 1, /* squared Euclid: -1024 to 1023, T from 0 to 2^31 - 1 */
-    DOOR_HAMMING = 2 /* Hamming: 0 or 1, T from 0 to 513 */
+    DOOR_SCALAR = 0, /* scalar product: -1024 to 1023, T from -2^30 to 2^30; 1: measure >= T */
+    DOOR_EUCLID = 1, /* squared Euclid: -1024 to 1023, T from 0 to 2^31 - 1; 1: measure <= T */
+    DOOR_HAMMING = 2 /* Hamming: 0 or 1, T from 0 to 513; 1: measure <= T */
 };
 
 /* How far a box's check is. In every phase but the first, door_drop is in turn as well, and in
@@ -210,7 +217,8 @@ struct door_lock {
 struct door_lock_answer {
     uint32_t why;
     struct door_lock lock;
-    uint32_t bit; /* what an accepted join reports: 1 means measure >= T */
+    uint32_t bit; /* what an accepted join reports: 1 means measure >= T for DOOR_SCALAR, and
+                     measure <= T for DOOR_EUCLID and DOOR_HAMMING; a refused one has 0 */
 };
 
 /*
@@ -226,7 +234,8 @@ struct door_dealer_answer door_start_dealer(
 /*
  * Deals set `number`, above the last one, for vectors of length terms.n: DOOR_HALF(terms.n) bytes to
  * out0, for the camera box, and as many to out1, for the office box. The seed is 32 random bytes
- * that are used for this set alone, and t is the threshold. Refusals: 2, 4, 5, 7, 8.
+ * that are used for this set alone. t is the threshold T: for DOOR_SCALAR the least measure for
+ * which the lock reports 1, for DOOR_EUCLID and DOOR_HAMMING the greatest. Refusals: 2, 4, 5, 7, 8.
  */
 struct door_dealer_answer door_deal(
     struct door_dealer dealer,

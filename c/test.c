@@ -155,6 +155,19 @@ static long measure(const struct check *k)
     return sum;
 }
 
+/* Whether the lock must say 1: a product has to reach T, a distance must not be above it. */
+static bool meets(const struct check *k)
+{
+    return k->terms.code == DOOR_SCALAR ? measure(k) >= k->t : measure(k) <= k->t;
+}
+
+/* Whether T is in its measure's range. */
+static bool may_be_dealt(const struct check *k)
+{
+    static const long least[] = {-0x40000000, 0, 0}, most[] = {0x40000000, 0x7fffffff, 513};
+    return least[k->terms.code] <= k->t && k->t <= most[k->terms.code];
+}
+
 static long own(const struct check *k, int party)
 {
     long sum = 0;
@@ -261,6 +274,25 @@ static void fit(const struct door_set *s0, const struct door_set *s1)
         EXPECT(s0->key.corrections[level].flags < 4);
 }
 
+/* r, which no half has whole: the two r words of a set with the same seed and T = 0 sum to it. The
+   seed is that of the last deal. */
+static uint32_t r_of(uint64_t number, const struct check *k)
+{
+    static struct halves h;
+    struct check at_zero = *k;
+    uint32_t sum = 0;
+    at_zero.t = 0;
+    struct door_dealer dealer = dealer_of(BARE, sizeof BARE, number - 1);
+    EXPECT(deal(dealer, number, &at_zero, &h).why == DOOR_ACCEPTED);
+    for (int party = 0; party < 2; party++) {
+        struct door_party_answer a =
+            door_load(idle(party, number - 1), h.half[party], half_size(k->terms.n));
+        EXPECT(a.why == DOOR_ACCEPTED);
+        sum += a.party.check.set.r;
+    }
+    return sum;
+}
+
 /* A box's masked vector, with words behind it that must stay. */
 struct vector {
     uint32_t at[MOST + BEYOND];
@@ -288,12 +320,15 @@ static void masks(struct door *d, const struct check *k, struct vector sent[2])
     }
 }
 
-/* The sum of the words is measure - T + r, and the two r words sum to r - T. */
+/* For a product the sum of the words is measure - T + r, and the two r words sum to r - T; for a
+   distance they are T - measure + r, and r + T. */
 static void takes(
     struct door *d, uint64_t number, const struct check *k, struct vector sent[2],
     uint32_t words[2])
 {
-    uint32_t z = 0, r = 0;
+    const uint32_t r = r_of(number, k);
+    const long sign = k->terms.code == DOOR_SCALAR ? 1 : -1;
+    uint32_t z = 0, r_words = 0;
     for (int party = 0; party < 2; party++) {
         uint32_t other = 1 - party;
         struct door_party next = d->box[party];
@@ -306,9 +341,10 @@ static void takes(
         d->box[party] = a.party;
         words[party] = a.word;
         z += a.word;
-        r += next.check.set.r;
+        r_words += next.check.set.r;
     }
-    EXPECT(z == word(measure(k)) + r);
+    EXPECT(r_words == r - word(sign * k->t));
+    EXPECT(z == r + word(sign * (measure(k) - k->t)));
 }
 
 static void finishes(struct door *d, uint64_t number, const uint32_t words[2], uint32_t answers[2])
@@ -378,8 +414,8 @@ static uint32_t join(uint64_t last, const struct join *j, uint64_t next)
     return said;
 }
 
-/* From deal to join: the lock must say whether the measure reaches T. */
-static void whole(struct door *d, uint64_t number, const struct check *k)
+/* From deal to join: what the lock says, which must be whether the measure meets T. */
+static uint32_t whole(struct door *d, uint64_t number, const struct check *k)
 {
     static struct halves h;
     struct vector sent[2];
@@ -391,8 +427,21 @@ static void whole(struct door *d, uint64_t number, const struct check *k)
     takes(d, number, k, sent, words);
     finishes(d, number, words, answers);
     struct join j = join_of(number, answers[0], answers[1]);
-    EXPECT(join(d->last, &j, number) == (measure(k) >= k->t));
+    uint32_t said = join(d->last, &j, number);
+    EXPECT(said == meets(k));
     d->last = number;
+    return said;
+}
+
+/* At the threshold where the answer turns, and on both sides of it. */
+static void around_the_turn(struct door *d, uint64_t *number, struct check *k)
+{
+    const long found = measure(k);
+    for (k->t = found - 1; k->t <= found + 1; k->t++)
+        if (may_be_dealt(k)) {
+            *number += 1 + draw() % 1000;
+            whole(d, *number, k);
+        }
 }
 
 static void whole_checks(void)
@@ -403,42 +452,83 @@ static void whole_checks(void)
     for (uint32_t code = 0; code < 3; code++)
         for (size_t i = 0; i < sizeof lengths / sizeof *lengths; i++) {
             struct check k = drawn_check(code, lengths[i]);
-            number += 1 + draw() % 1000;
-            whole(&d, number, &k); /* reached */
-            k.t++;
-            number += 1 + draw() % 1000;
-            whole(&d, number, &k); /* not reached */
+            around_the_turn(&d, &number, &k);
+            memcpy(k.v[1], k.v[0], sizeof k.v[1]); /* at distance 0 no T is below it */
+            around_the_turn(&d, &number, &k);
         }
+}
+
+/* A whole check under the next number, with this threshold, of which the answer is written out. */
+static void says(struct door *d, struct check k, long t, uint32_t said)
+{
+    k.t = t;
+    EXPECT(whole(d, d->last + 1, &k) == said);
+}
+
+static void short_ones(void)
+{
+    struct door d = open_door(0);
+    struct check k = {.terms = {DOOR_SCALAR, 2}, .v = {{3, -4}, {2, 5}}};
+    says(&d, k, -15, 1);
+    says(&d, k, -14, 1);
+    says(&d, k, -13, 0);
+    k.terms.code = DOOR_EUCLID;
+    says(&d, k, 81, 0);
+    says(&d, k, 82, 1);
+    says(&d, k, 83, 1);
+    struct check bits = {.terms = {DOOR_HAMMING, 4}, .v = {{1, 0, 1, 1}, {1, 1, 0, 1}}};
+    says(&d, bits, 1, 0);
+    says(&d, bits, 2, 1);
+    says(&d, bits, 3, 1);
+}
+
+/* Equal vectors: nothing is closer. */
+static void equal_ones(struct door *d)
+{
+    struct check k = drawn_check(DOOR_EUCLID, MOST), bits = drawn_check(DOOR_HAMMING, MOST);
+    memcpy(k.v[1], k.v[0], sizeof k.v[1]);
+    memcpy(bits.v[1], bits.v[0], sizeof bits.v[1]);
+    says(d, k, 0, 1);
+    says(d, k, 1, 1);
+    says(d, k, 0x7fffffff, 1);
+    says(d, bits, 0, 1);
+    says(d, bits, 1, 1);
+    says(d, bits, 513, 1);
+}
+
+/* Vectors as far apart as can be. */
+static void opposite_ones(struct door *d)
+{
+    struct check k = {.terms = {DOOR_EUCLID, MOST}}, bits = {.terms = {DOOR_HAMMING, MOST}};
+    for (size_t i = 0; i < MOST; i++) {
+        k.v[0][i] = -1024;
+        k.v[1][i] = 1023;
+        bits.v[i % 2][i] = 1;
+    }
+    EXPECT(measure(&k) == 2145387008 && measure(&bits) == 512);
+    says(d, k, 2145387008, 1);
+    says(d, k, 2145387007, 0);
+    says(d, k, 2145387009, 1);
+    says(d, k, 0x7fffffff, 1);
+    says(d, k, 0, 0);
+    k.terms.code = DOOR_SCALAR;
+    says(d, k, -0x40000000, 1);
+    says(d, k, 0x40000000, 0);
+    says(d, bits, 513, 1);
+    says(d, bits, 512, 1);
+    says(d, bits, 511, 0);
+    says(d, bits, 0, 0);
 }
 
 /* The ends of the ranges: every number that fits is taken. */
 static void ends(void)
 {
     struct door d = open_door(0);
-    struct check k = {.terms = {DOOR_EUCLID, MOST}};
-    for (size_t i = 0; i < MOST; i++) {
-        k.v[0][i] = -1024;
-        k.v[1][i] = 1023;
-    }
-    k.t = 2145387008;
-    EXPECT(measure(&k) == k.t);
-    whole(&d, 1, &k);
-    k.t = 2145387009;
-    whole(&d, 2, &k);
-    k.t = 0x7fffffff;
-    whole(&d, 3, &k);
-    k.t = 0;
-    whole(&d, 4, &k);
-    k.terms.code = DOOR_SCALAR;
-    k.t = -0x40000000;
-    whole(&d, 5, &k);
-    k.t = 0x40000000;
-    whole(&d, 6, &k);
-    struct check bits = drawn_check(DOOR_HAMMING, MOST);
-    bits.t = 0;
-    whole(&d, 7, &bits);
-    bits.t = 513;
-    whole(&d, UINT64_MAX, &bits);
+    struct check k = drawn_check(DOOR_HAMMING, MOST);
+    equal_ones(&d);
+    opposite_ones(&d);
+    k.t = 513;
+    EXPECT(whole(&d, UINT64_MAX, &k) == 1);
 }
 
 /* Refusals. Those of a call are met one after the other: first all is wrong, and then the lowest is
@@ -1365,6 +1455,15 @@ static void set_goals(struct overlap *o, int set, uint32_t goal0, uint32_t goal1
     o->goal[1][set] = goal1;
 }
 
+/* From a threshold that the measure just meets to one that it does not, if there is one. */
+static void turn(struct check *k)
+{
+    const struct check met = *k;
+    k->t += k->terms.code == DOOR_SCALAR ? 1 : -1;
+    if (!may_be_dealt(k))
+        *k = met;
+}
+
 static void begin_overlap(struct overlap *o)
 {
     static const size_t lengths[] = {1, 18, 128, 512};
@@ -1372,7 +1471,8 @@ static void begin_overlap(struct overlap *o)
     memset(o, 0, sizeof *o);
     for (int set = 0; set < 2; set++) {
         o->k[set] = drawn_check(draw() % 3, lengths[draw() % 4]);
-        o->k[set].t += set == 0 ? draw() % 2 : 0;
+        if (draw() % 2 == 0)
+            turn(&o->k[set]);
         deals(&d, overlap_number(set), &o->k[set], &o->halves[set]);
         o->box[set] = d.box[set];
     }
@@ -1384,7 +1484,7 @@ static void joined_right(const struct overlap *o, int set, uint64_t last)
 {
     const struct check *k = &o->k[set];
     struct join j = join_of(overlap_number(set), o->answers[0][set], o->answers[1][set]);
-    EXPECT(join(last, &j, overlap_number(set)) == (measure(k) >= k->t));
+    EXPECT(join(last, &j, overlap_number(set)) == meets(k));
 }
 
 static void nothing_left(const struct overlap *o)
@@ -1447,6 +1547,7 @@ int main(int count, char **arguments)
     draw_bytes(keys[0], sizeof keys);
     draw_bytes(seed, sizeof seed);
     whole_checks();
+    short_ones();
     ends();
     starts();
     deal_in_turn(dealer_of(BARE, sizeof BARE, 40));

@@ -68,7 +68,7 @@ static bool start_box(struct box *box, enum part self)
         say_refused("the start", last, why, "the box does not start");
         return false;
     }
-    remove_spent_halves(self, last);
+    remove_halves(self, last);
     return true;
 }
 
@@ -128,7 +128,7 @@ static bool load(struct box *box, uint64_t number, const uint8_t *half, size_t s
         drop_open_set(box, because);
         return false;
     }
-    remove_spent_halves(box->party.who.party, box->party.last);
+    remove_halves(box->party.who.party, box->party.last);
     return true;
 }
 

@@ -63,6 +63,34 @@ int run_to_end(char *const arguments[])
     return end_of(start_program(arguments));
 }
 
+int run_and_hear(char *const arguments[], char said[SAID_ROOM])
+{
+    FILE *log = fopen("log", "r");
+    EXPECT(log != NULL && fseek(log, 0, SEEK_END) == 0, "no log");
+    int status = run_to_end(arguments);
+    said[fread(said, 1, SAID_ROOM - 1, log)] = '\0';
+    fclose(log);
+    return status;
+}
+
+bool run_cut_short(char *const arguments[], const char *moment, unsigned at)
+{
+    char number[16];
+    snprintf(number, sizeof number, "%u", at);
+    EXPECT(setenv(moment, number, 1) == 0, "setenv: %s", strerror(errno));
+    int status = run_to_end(arguments);
+    EXPECT(unsetenv(moment) == 0, "unsetenv: %s", strerror(errno));
+    EXPECT(status == 0 || status == 128 + SIGKILL, "the program ended with status %d", status);
+    return status != 0;
+}
+
+void put_file(const char *path, const void *bytes, size_t size)
+{
+    int file = open(path, O_WRONLY | O_CREAT | O_TRUNC, 0600);
+    EXPECT(file >= 0 && write(file, bytes, size) == (ssize_t)size && close(file) == 0,
+        "cannot write %s", path);
+}
+
 void start_child(enum part part)
 {
     char *command = (char *)PART[part].command, *via = (char *)PART[WATCH].socket;

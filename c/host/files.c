@@ -176,6 +176,39 @@ bool write_last(const char *folder, uint64_t last)
     return write_durably(folder, "last", text, LAST_SIZE);
 }
 
+#define VERSION_MOST 21 /* bytes of a version's file: a 64-bit number and the line's end */
+
+static int version_text(uint64_t version, char text[VERSION_MOST + 1])
+{
+    return snprintf(text, VERSION_MOST + 1, "%" PRIu64 "\n", version);
+}
+
+bool read_version(const char *folder, uint64_t *version)
+{
+    char path[PATH_ROOM], found[VERSION_MOST + 2] = "", right[VERSION_MOST + 1];
+    size_t size;
+    snprintf(path, sizeof path, "%s/version", folder);
+    *version = 1;
+    if (access(path, F_OK) != 0 && errno == ENOENT)
+        return true;
+    if (!read_file(path, found, VERSION_MOST + 1, &size))
+        return false;
+    *version = strtoull(found, NULL, 10);
+    if ((size_t)version_text(*version, right) == size && memcmp(found, right, size) == 0)
+        return true;
+    say("%s is torn or damaged: of which version this folder is, is not known; set the door up in "
+        "a new folder",
+        path);
+    return false;
+}
+
+bool write_version(const char *folder)
+{
+    char text[VERSION_MOST + 1];
+    int size = version_text(SETS_VERSION, text);
+    return write_durably(folder, "version", text, (size_t)size);
+}
+
 bool read_key(const char *folder, const char *file, uint8_t key[DOOR_KEY])
 {
     char path[PATH_ROOM];
@@ -290,8 +323,9 @@ bool read_half(uint32_t party, uint64_t number, uint8_t half[DOOR_HALF_MOST + 1]
     return read_file(path, half, DOOR_HALF_MOST + 1, size);
 }
 
-/* Whether a file on the stick is a half, or what a power cut left of one, of a spent set. */
-static bool is_spent_half(const char *file, uint64_t last)
+/* Whether a file on the stick is a half, or what a power cut left of one, of a set up to this
+   number. */
+static bool is_half(const char *file, uint64_t last)
 {
     char *end;
     errno = 0;
@@ -301,23 +335,30 @@ static bool is_spent_half(const char *file, uint64_t last)
     return strcmp(end, ".half") == 0 || strcmp(end, ".half.tmp") == 0;
 }
 
-/* A half that cannot be removed is reported and no more: its number is spent, and a load refuses
-   it. Removing it keeps its masks from whoever finds the stick and the key later. */
-void remove_spent_halves(uint32_t party, uint64_t last)
+/* Removing a half keeps its masks from whoever finds the stick and the key later. */
+bool remove_halves(uint32_t party, uint64_t last)
 {
     char folder[PATH_ROOM];
+    bool all = true;
     stick_of(party, folder);
     DIR *stick = opendir(folder);
     if (stick == NULL) {
         say_trouble("cannot look through", folder);
-        return;
+        return false;
     }
-    for (struct dirent *entry; (entry = readdir(stick)) != NULL;) {
+    errno = 0;
+    for (struct dirent *entry; (entry = readdir(stick)) != NULL; errno = 0) {
         char path[PATH_ROOM + sizeof entry->d_name];
         snprintf(path, sizeof path, "%s/%s", folder, entry->d_name);
-        if (is_spent_half(entry->d_name, last) && unlink(path) != 0)
-            say_trouble("cannot remove the spent half", path);
+        if (!is_half(entry->d_name, last) || unlink(path) == 0)
+            continue;
+        say_trouble("cannot remove the half", path);
+        all = false;
     }
+    bool seen_all = errno == 0;
+    if (!seen_all)
+        say_trouble("cannot look through", folder);
     if (closedir(stick) != 0)
         say_trouble("cannot close", folder);
+    return all && seen_all;
 }

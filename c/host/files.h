@@ -34,6 +34,15 @@ bool write_durably(const char *folder, const char *file, const void *bytes, size
 bool read_last(const char *folder, uint64_t *last);
 bool write_last(const char *folder, uint64_t last);
 
+/* The version of a part's folder: the rule by which the sets in use there are dealt and judged. In
+   version 1, of which a folder has no file that says so, the lock's 1 meant measure >= T for
+   distances too. The calls cannot tell such a set from a new one. A damaged file is never read as
+   any version. */
+#define SETS_VERSION 2
+
+bool read_version(const char *folder, uint64_t *version);
+bool write_version(const char *folder); /* SETS_VERSION */
+
 bool read_key(const char *folder, const char *file, uint8_t key[DOOR_KEY]);
 
 /* A door's bare name. That it is a good one is the start calls' matter. */
@@ -67,7 +76,8 @@ bool read_vector(const char *path, struct vector *vector);
 bool write_half(uint32_t party, uint64_t number, const uint8_t *half, size_t size);
 bool read_half(uint32_t party, uint64_t number, uint8_t half[DOOR_HALF_MOST + 1], size_t *size);
 
-/* Removes the halves of all spent sets, those included that a power cut had left. */
-void remove_spent_halves(uint32_t party, uint64_t last);
+/* Removes the halves of all sets up to this number, those included that a power cut had left, and
+   says of each that stays. A load refuses a spent half anyway: a box does without the answer. */
+bool remove_halves(uint32_t party, uint64_t last);
 
 #endif

@@ -20,6 +20,7 @@ int run_lock(const char *via);
 int run_check(const struct vector *vector);
 int run_status(void);
 int run_watch(void);
+int run_upgrade(void);
 
 /* How many sets a check may take: a box that was switched off has lost the set that it had loaded
    ahead, and the check begins again with the next one. */
@@ -36,7 +37,11 @@ struct served {
 
 int serve(enum part self, const char *via, const struct served *served);
 
-/* Claims the part's folder for this process and reads the name and the last number in it. */
+bool claim_part(enum part part);
+void say_newer(const char *folder);
+
+/* Claims the part's folder for this process and reads the name and the last number in it; false as
+   well where it is of another version. */
 bool start_part(enum part self, struct door_name *name, uint64_t *last);
 
 /* Tells the operator that this set came to nothing here. */

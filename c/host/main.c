@@ -17,7 +17,8 @@ static int usage(void)
           "       door-host camera|office|lock FOLDER [--via SOCKET]\n"
           "       door-host check FOLDER VECTORFILE\n"
           "       door-host status FOLDER\n"
-          "       door-host watch FOLDER\n",
+          "       door-host watch FOLDER\n"
+          "       door-host upgrade FOLDER\n",
         stderr);
     return EXIT_TROUBLE;
 }
@@ -80,6 +81,8 @@ static int run_part(const char *command, const char *folder, bool deals_ahead, c
         return run_watch();
     if (via == NULL && strcmp(command, "status") == 0)
         return run_status();
+    if (via == NULL && strcmp(command, "upgrade") == 0)
+        return run_upgrade();
     return usage();
 }
 

@@ -47,6 +47,12 @@ int64_t measure(struct door_terms terms, const int32_t *x, const int32_t *y)
     return sum;
 }
 
+bool has_to_open(const struct settings *s, const int32_t *x, const int32_t *y)
+{
+    const int64_t found = measure(s->terms, x, y);
+    return s->terms.code == DOOR_SCALAR ? found >= s->threshold : found <= s->threshold;
+}
+
 static struct seen *set_of(uint64_t number)
 {
     EXPECT(number > 0 && number < NUMBERS, "set %" PRIu64 " was never dealt", number);
@@ -65,7 +71,7 @@ static void left(enum part from, uint64_t number)
 }
 
 /* FNV-1a. */
-static uint64_t hash_of(const void *at, size_t size)
+uint64_t hash_of(const void *at, size_t size)
 {
     const uint8_t *bytes = at;
     uint64_t hash = 14695981039346656037u;
@@ -84,11 +90,15 @@ struct copy {
 /* Of each box, by number, to be put back on the stick when they are spent. */
 static struct copy copies[2][COPIES];
 
+/* Under its name from the start: what is left of a half that is being written is removed by a box
+   that looks through the stick. */
 void put_half_back(enum part box, uint64_t number)
 {
     const struct copy *c = &copies[box][number % COPIES];
-    EXPECT(c->number == number && write_half(box, number, c->bytes, c->size),
-        "cannot put the half of set %" PRIu64 " back", number);
+    char path[PATH_ROOM];
+    EXPECT(c->number == number, "no copy of the half of set %" PRIu64, number);
+    snprintf(path, sizeof path, "stick/%s/%" PRIu64 ".half", PART[box].command, number);
+    put_file(path, c->bytes, c->size);
 }
 
 static bool read_copy(struct copy *c, const char *path)
@@ -231,6 +241,14 @@ static void observe_box(enum part from, const struct message *m)
     }
 }
 
+static void count_verdict(const struct settings *s, int64_t found, bool open)
+{
+    tally.answered++;
+    tally.by_code[s->terms.code].open += open;
+    tally.by_code[s->terms.code].shut += !open;
+    tally.by_code[s->terms.code].just += found == s->threshold;
+}
+
 static void observe_verdict(enum part from, const struct message *m)
 {
     struct seen *s = set_of(m->number);
@@ -239,15 +257,12 @@ static void observe_verdict(enum part from, const struct message *m)
     EXPECT(s->sent[CAMERA][DOOR_ANSWER] && s->sent[OFFICE][DOOR_ANSWER],
         "set %" PRIu64 " was reported before both boxes answered", m->number);
     int64_t found = measure(s->settings.terms, s->used[CAMERA], s->used[OFFICE]);
-    EXPECT(m->words[0] == (found >= s->settings.threshold),
-        "set %" PRIu64 ": measure %" PRId64 ", threshold %" PRId32 ", and the lock said %" PRIu32,
-        m->number, found, s->settings.threshold, m->words[0]);
+    EXPECT(m->words[0] == has_to_open(&s->settings, s->used[CAMERA], s->used[OFFICE]),
+        "set %" PRIu64 ": code %" PRIu32 ", measure %" PRId64 ", threshold %" PRId32
+        ", and the lock said %" PRIu32,
+        m->number, s->settings.terms.code, found, s->settings.threshold, m->words[0]);
     s->reported = true;
-    tally.answered++;
-    if (m->words[0] == 1)
-        tally.open++;
-    else
-        tally.shut++;
+    count_verdict(&s->settings, found, m->words[0] == 1);
 }
 
 void observe(enum part from, const struct message *m)

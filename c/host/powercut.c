@@ -3,6 +3,7 @@
 #include <dirent.h>
 #include <errno.h>
 #include <fcntl.h>
+#include <signal.h>
 #include <stdbool.h>
 #include <stdio.h>
 #include <stdlib.h>
@@ -21,6 +22,21 @@ ssize_t __wrap_write(int file, const void *bytes, size_t size);
 int __wrap_fsync(int file);
 int __wrap_rename(const char *from, const char *to);
 int __wrap_unlink(const char *path);
+
+/* Counts on, and ends the process where the environment says so. */
+static void come_to(const char *moment, unsigned long *count)
+{
+    const char *at = getenv(moment);
+    ++*count;
+    if (at != NULL && strtoul(at, NULL, 10) == *count)
+        raise(SIGKILL);
+}
+
+static void come_to_step(void)
+{
+    static unsigned long steps;
+    come_to(BEFORE_STEP, &steps);
+}
 
 static void marked(const char *path, const char *mark, char name[ROOM])
 {
@@ -64,6 +80,7 @@ ssize_t __wrap_write(int file, const void *bytes, size_t size)
 {
     if (file > STDERR_FILENO && is_of_type(file, S_IFREG)) {
         char path[ROOM];
+        come_to_step();
         path_of(file, path);
         put_mark(path, MARK_TORN);
     }
@@ -103,6 +120,7 @@ int __wrap_fsync(int file)
 {
     char path[ROOM];
     wait_as_for_a_disk();
+    come_to_step();
     path_of(file, path);
     if (is_of_type(file, S_IFDIR)) {
         settle_folder(path);
@@ -116,7 +134,9 @@ int __wrap_fsync(int file)
 
 int __wrap_rename(const char *from, const char *to)
 {
+    static unsigned long renames;
     char old[ROOM], torn_from[ROOM], torn_to[ROOM];
+    come_to_step();
     marked(to, MARK_OLD, old);
     marked(from, MARK_TORN, torn_from);
     marked(to, MARK_TORN, torn_to);
@@ -128,6 +148,7 @@ int __wrap_rename(const char *from, const char *to)
     int result = __real_rename(from, to);
     if (result == 0)
         __real_rename(torn_from, torn_to);
+    come_to(AFTER_RENAME, &renames);
     return result;
 }
 
@@ -137,6 +158,7 @@ int __wrap_unlink(const char *path)
     char gone[ROOM];
     if (lstat(path, &found) != 0 || !S_ISREG(found.st_mode))
         return __real_unlink(path);
+    come_to_step();
     marked(path, MARK_GONE, gone);
     return __real_rename(path, gone);
 }

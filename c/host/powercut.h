@@ -6,6 +6,9 @@
  *
  * A process that is only killed loses nothing that it has written: without this, a host that
  * never calls fsync would pass.
+ *
+ * A process may also be killed at a moment that is not left to chance: before the n-th step, a
+ * write, fsync, rename or unlink, or right after the n-th rename, where the environment has that n.
  */
 #ifndef HOST_POWERCUT_H
 #define HOST_POWERCUT_H
@@ -14,5 +17,8 @@
 #define MARK_OLD ".~old"   /* the file that a rename put away, with the folder not yet forced */
 #define MARK_NEW ".~new"   /* there was no file before the rename */
 #define MARK_GONE ".~gone" /* the file that was removed, with the folder not yet forced */
+
+#define BEFORE_STEP "POWERCUT_BEFORE_STEP"
+#define AFTER_RENAME "POWERCUT_AFTER_RENAME"
 
 #endif

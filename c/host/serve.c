@@ -4,13 +4,42 @@
 #include <stdio.h>
 #include <string.h>
 
-bool start_part(enum part self, struct door_name *name, uint64_t *last)
+bool claim_part(enum part part)
 {
     char running[PATH_ROOM];
+    snprintf(running, sizeof running, "%s/running", PART[part].command);
+    return claim(running);
+}
+
+void say_newer(const char *folder)
+{
+    say("the folder %s is from a newer version of this program: use that one", folder);
+}
+
+/* The calls cannot tell a set of another version from one of this: it would be loaded, and judged
+   wrongly. */
+static bool is_of_this_version(const char *folder)
+{
+    uint64_t version;
+    if (!read_version(folder, &version))
+        return false;
+    if (version > SETS_VERSION)
+        say_newer(folder);
+    if (version < SETS_VERSION)
+        say("the folder %s is from an older version; its sets must be scrapped, since their "
+            "distances were judged the other way about. Stop all parts and run: door-host upgrade "
+            "FOLDER",
+            folder);
+    return version == SETS_VERSION;
+}
+
+/* The version comes last: a part without a last number was never set up to its end. */
+bool start_part(enum part self, struct door_name *name, uint64_t *last)
+{
+    const char *folder = PART[self].command;
     speak_as(self);
-    snprintf(running, sizeof running, "%s/running", PART[self].command);
-    return claim(running) && read_name(PART[self].command, name)
-        && read_last(PART[self].command, last);
+    return claim_part(self) && read_name(folder, name) && read_last(folder, last)
+        && is_of_this_version(folder);
 }
 
 void send_failed(const struct link *link, uint64_t number, uint32_t why)

@@ -10,7 +10,6 @@
 #include "test.h"
 
 #include <errno.h>
-#include <fcntl.h>
 #include <inttypes.h>
 #include <stdarg.h>
 #include <stdio.h>
@@ -94,10 +93,6 @@ static void write_settings_anew(void)
         "cannot write the settings");
 }
 
-/* What changes from one check to the next. As long as the settings stay, a set that was dealt ahead
-   is handed out. */
-enum change { VECTORS, THRESHOLD, CODE, ALL };
-
 static enum change some_change(void)
 {
     static const enum change changes[] = {
@@ -122,9 +117,9 @@ static void draw_settings(enum change change)
 
 static void draw_check(enum change change)
 {
-    if (change != VECTORS)
+    if (change > VECTORS)
         draw_settings(change);
-    else if (chance(2) == 0)
+    else if (change == VECTORS && chance(2) == 0)
         draw_vector((enum part)chance(2)); /* else those before, which are near the threshold */
     write_vector("office/vector", current[OFFICE]);
 }
@@ -348,7 +343,7 @@ static void expect_ready(void)
             deals_ahead ? "no set" : "a set");
 }
 
-static void undisturbed_check(enum change change)
+void undisturbed_check(enum change change)
 {
     start_check(change);
     check.pace = deals_ahead && chance(2) == 0 ? SLOW : USUAL;
@@ -367,8 +362,7 @@ static void operators_check(enum change change)
     char *const arguments[] = {"door-host", "check", ".", "picture", NULL};
     start_check(change);
     write_vector("picture", current[CAMERA]);
-    bool open =
-        measure(settings.terms, current[CAMERA], current[OFFICE]) >= settings.threshold;
+    bool open = has_to_open(&settings, current[CAMERA], current[OFFICE]);
     operator_runs = true;
     int process = start_program(arguments);
     expect_answer();
@@ -376,6 +370,25 @@ static void operators_check(enum change change)
     EXPECT(end_of(process) == (open ? EXIT_OPEN : EXIT_SHUT),
         "the operator's exit status is wrong");
     expect_ready();
+}
+
+/* The threshold is the measure, or beside it. */
+static void check_at_the_turn(uint32_t code, int32_t beside)
+{
+    settings.terms = (struct door_terms){.code = code, .n = 128};
+    draw_vector(CAMERA);
+    draw_vector(OFFICE);
+    settings.threshold =
+        (int32_t)measure(settings.terms, current[CAMERA], current[OFFICE]) + beside;
+    write_settings_anew();
+    undisturbed_check(NOTHING);
+}
+
+static void checks_at_the_turn(void)
+{
+    for (uint32_t code = DOOR_SCALAR; code <= DOOR_HAMMING; code++)
+        for (int32_t beside = -1; beside <= 1; beside++)
+            check_at_the_turn(code, beside);
 }
 
 static void switch_off_and_on(enum part part)
@@ -428,11 +441,8 @@ static void refuses_last(enum part part, const void *bytes, size_t size)
     char *const arguments[] = {"door-host", (char *)PART[part].command, ".", NULL};
     snprintf(path, sizeof path, "%s/last", PART[part].command);
     EXPECT(unlink(path) == 0, "cannot remove %s", path);
-    if (bytes != NULL) {
-        int file = open(path, O_WRONLY | O_CREAT, 0600);
-        EXPECT(file >= 0 && write(file, bytes, size) == (ssize_t)size && close(file) == 0,
-            "cannot write %s", path);
-    }
+    if (bytes != NULL)
+        put_file(path, bytes, size);
     EXPECT(run_to_end(arguments) == EXIT_TROUBLE, "the %s starts without knowing its last number",
         PART[part].title);
 }
@@ -466,19 +476,25 @@ static void draw_other_threshold(void)
     write_settings_anew();
 }
 
-/* A half that was cut to so many bytes, or has one bit changed at that place, of a set that was not
-   dealt ahead: one that was is in the box already. */
-static void refuses_half(enum part box, size_t cut_to, size_t changed, uint32_t why)
+void deal_and_leave(void)
 {
     const int64_t deadline = now_ns() + PATIENCE_NS;
-    uint8_t half[DOOR_HALF_MOST + 1];
-    size_t size;
     start_check(VECTORS);
     draw_other_threshold();
     send_deal();
     while (check.number == 0)
         pump_before(deadline);
     settle(); /* nobody looks at the sticks any more */
+}
+
+/* A half that was cut to so many bytes, or has one bit changed at that place, of a set that was not
+   dealt ahead: one that was is in the box already. */
+static void refuses_half(enum part box, size_t cut_to, size_t changed, uint32_t why)
+{
+    uint8_t half[DOOR_HALF_MOST + 1];
+    size_t size;
+    deal_and_leave();
+    const int64_t deadline = now_ns() + PATIENCE_NS;
     EXPECT(read_half(box, check.number, half, &size) && changed < size, "no half");
     half[changed] ^= 1;
     EXPECT(write_half(box, check.number, half, cut_to < size ? cut_to : size), "no half");
@@ -498,8 +514,7 @@ static void damaged_halves(enum part box)
     refuses_half(box, 0, 0, DOOR_WRONG_LENGTH);
 }
 
-/* Someone begins with a set of which the half is on the stick again. */
-static void refuses_spent_half(enum part box, uint64_t number)
+void refuses_spent_half(enum part box, uint64_t number)
 {
     const int64_t deadline = now_ns() + PATIENCE_NS;
     put_half_back(box, number);
@@ -648,15 +663,24 @@ static void expect_enough(void)
         EXPECT(kills[part] >= 30, "the %s was killed only %lu times", PART[part].title,
             kills[part]);
     EXPECT(tally.answered >= 100, "only %lu checks were answered", tally.answered);
-    EXPECT(tally.open >= 20 && tally.shut >= 20, "the answers are nearly all alike");
+    for (uint32_t code = DOOR_SCALAR; code <= DOOR_HAMMING; code++)
+        EXPECT(tally.by_code[code].open >= 4 && tally.by_code[code].shut >= 2
+                && tally.by_code[code].just >= 2,
+            "code %" PRIu32 ": the answers are nearly all alike, or not just at the threshold",
+            code);
 }
 
 static void summary(void)
 {
-    printf("c/host/test: passed: %lu checks begun, %lu answered (%lu open, %lu shut), all right; "
-           "%lu kills (dealer %lu, camera box %lu, office box %lu, lock %lu), %lu of them midway",
-        begun, tally.answered, tally.open, tally.shut, killed(), kills[DEALER], kills[CAMERA],
-        kills[OFFICE], kills[LOCK], killed_midway());
+    printf("c/host/test: passed: %lu checks begun, %lu answered, all right", begun,
+        tally.answered);
+    for (uint32_t code = DOOR_SCALAR; code <= DOOR_HAMMING; code++)
+        printf("%scode %" PRIu32 ": %lu open, %lu shut, %lu just at the threshold",
+            code == DOOR_SCALAR ? " (" : "; ", code, tally.by_code[code].open,
+            tally.by_code[code].shut, tally.by_code[code].just);
+    printf("); %lu kills (dealer %lu, camera box %lu, office box %lu, lock %lu), %lu of them "
+           "midway",
+        killed(), kills[DEALER], kills[CAMERA], kills[OFFICE], kills[LOCK], killed_midway());
     for (enum stage stage = ASKED; stage < REPORTED; stage++)
         printf("%s%lu %s", stage == ASKED ? " (" : ", ", kills_at[stage], STAGE[stage]);
     printf("); asked again %lu times; %lu sets handed out, %lu messages seen, no number used "
@@ -668,6 +692,10 @@ static void summary(void)
         tally.ahead, tally.taken, tally.unused, killed_waiting(),
         kills_with[CAMERA][READY_AHEAD] + kills_with[OFFICE][READY_AHEAD],
         kills_with[DEALER][READY_AHEAD], begun_anew);
+    printf("c/host/test: upgrades cut short %lu times, %lu of them with a power cut; %lu between "
+           "the versions of the first part and the last; each was then finished; set-ups cut "
+           "short %lu times\n",
+        upgrade_tally.cuts, upgrade_tally.power, upgrade_tally.between, upgrade_tally.set_ups);
 }
 
 /* Times. */
@@ -756,12 +784,15 @@ int main(int count, char **arguments)
     set_up_door(arguments[2]);
     for (int i = 0; i < 10; i++)
         undisturbed_check(ALL);
+    checks_at_the_turn();
+    versions();
     while (!killed_enough() && killed() < KILLS_MOST) {
         disturbed_check();
         if (chance(4) == 0)
             undisturbed_check(some_change());
     }
     refusals();
+    checks_at_the_turn();
     for (int i = 0; i < 10; i++)
         undisturbed_check(some_change());
     for (int i = 0; i < 4; i++)

@@ -40,6 +40,17 @@ int run_to_end(char *const arguments[]);
 int start_program(char *const arguments[]); /* answers the process */
 int end_of(int process);
 
+/* The same, with what came to the log meanwhile. */
+#define SAID_ROOM 4096
+int run_and_hear(char *const arguments[], char said[SAID_ROOM]);
+
+/* The same, but the process is killed at the n-th of these moments (powercut.h), or ends well with
+   status 0 before it comes there: whether it was killed. */
+bool run_cut_short(char *const arguments[], const char *moment, unsigned at);
+
+/* A file as it is put there by hand. */
+void put_file(const char *path, const void *bytes, size_t size);
+
 /* What of the dead part's last changes was not forced to disk is undone, by chance. */
 void cut_power(enum part part);
 
@@ -104,10 +115,13 @@ void settle(void);
 /* observe.c: what was seen, and whether it may be. */
 
 struct tally {
-    unsigned long messages, dealt, answered, open, shut, failed;
+    unsigned long messages, dealt, answered, failed;
     unsigned long ahead;  /* sets that were dealt ahead */
     unsigned long taken;  /* of these, handed out */
     unsigned long unused; /* and left unused since the settings had changed */
+    struct {
+        unsigned long open, shut, just; /* just: the measure was the threshold itself */
+    } by_code[DOOR_HAMMING + 1];
 };
 
 extern struct tally tally;
@@ -141,5 +155,39 @@ void inspect_dead(enum part part);
 void put_half_back(enum part box, uint64_t number);
 
 int64_t measure(struct door_terms terms, const int32_t *x, const int32_t *y);
+
+/* Whether the lock has to open: a product has to reach the threshold, a distance must not be above
+   it. */
+bool has_to_open(const struct settings *s, const int32_t *x, const int32_t *y);
+
+uint64_t hash_of(const void *at, size_t size);
+
+/* test.c: checks. */
+
+/* What changes from one check to the next. As long as the settings stay, a set that was dealt ahead
+   is handed out. */
+enum change { NOTHING, VECTORS, THRESHOLD, CODE, ALL };
+
+void undisturbed_check(enum change change);
+
+/* A set that was not dealt ahead, and that no box is told of: its halves stay on the sticks, and so
+   do those of the set behind it. */
+void deal_and_leave(void);
+
+/* Someone begins with a set of which the half is on the stick again. */
+void refuses_spent_half(enum part box, uint64_t number);
+
+/* versions.c: folders of other versions, and the upgrade. All parts run before and after. */
+
+struct upgrade_tally {
+    unsigned long cuts;    /* upgrades that were cut short */
+    unsigned long between; /* of these, with the version at some parts and not at others */
+    unsigned long power;   /* of all, with the power gone too */
+    unsigned long set_ups; /* that were cut short */
+};
+
+extern struct upgrade_tally upgrade_tally;
+
+void versions(void);
 
 #endif

@@ -1,0 +1,439 @@
+/*
+ * Folders of other versions. No part starts in one. An upgrade makes an older one of this version,
+ * wherever it is cut short on the way, and nothing of what was dealt before is ever used after it.
+ */
+#include "host.h"
+#include "powercut.h"
+#include "test.h"
+
+#include <dirent.h>
+#include <errno.h>
+#include <inttypes.h>
+#include <stdio.h>
+#include <string.h>
+#include <unistd.h>
+
+#define DEALS 2
+#define HALVES (2 * DEALS) /* on each stick: each deal leaves the set that is asked for and the one
+                              that is dealt ahead */
+#define MOMENTS_MOST 200   /* more than an upgrade has */
+#define CUTS 80            /* at the least */
+#define CUTS_BETWEEN 20    /* at the least, with the version at some parts and not at others */
+
+struct upgrade_tally upgrade_tally;
+
+static char *const UPGRADE[] = {"door-host", "upgrade", ".", NULL};
+static const char *const STICK[] = {"stick/camera", "stick/office"};
+static const char ASKS_FOR_UPGRADE[] = "run: door-host upgrade FOLDER";
+
+/* A file's bytes. */
+struct content {
+    uint8_t bytes[DOOR_HALF_MOST + 1];
+    size_t size;
+};
+
+/* The folder as an older version leaves it, with sets that were dealt and no box has loaded. */
+static struct {
+    struct content last[LOCK + 1];
+    uint64_t dealt; /* the dealer's last number */
+    struct content half[2][HALVES];
+    uint64_t kept; /* a hash of what an upgrade leaves as it is */
+} older;
+
+/* Hashes of the folder. */
+
+static bool is_state(const char *file)
+{
+    return strcmp(file, "running") != 0;
+}
+
+static bool is_kept(const char *file)
+{
+    static const char *const kept[] = {
+        "name", "key", "camera.key", "office.key", "settings", "vector"};
+    for (size_t i = 0; i < sizeof kept / sizeof *kept; i++)
+        if (strcmp(file, kept[i]) == 0)
+            return true;
+    return false;
+}
+
+/* In whatever order the files come. */
+static uint64_t hash_of_folder(const char *folder, bool (*counts)(const char *file))
+{
+    uint64_t sum = 0;
+    DIR *entries = opendir(folder);
+    EXPECT(entries != NULL, "cannot look through %s", folder);
+    for (struct dirent *entry; (entry = readdir(entries)) != NULL;) {
+        static struct content c;
+        char path[3 * PATH_ROOM];
+        if (entry->d_name[0] == '.' || !counts(entry->d_name))
+            continue;
+        snprintf(path, sizeof path, "%s/%s", folder, entry->d_name);
+        EXPECT(read_file(path, c.bytes, sizeof c.bytes, &c.size), "cannot read %s", path);
+        sum += hash_of(path, strlen(path)) ^ hash_of(c.bytes, c.size) * 3;
+    }
+    closedir(entries);
+    return sum;
+}
+
+static uint64_t hash_of_all(bool (*counts)(const char *file))
+{
+    uint64_t sum = hash_of_folder(STICK[CAMERA], counts) + hash_of_folder(STICK[OFFICE], counts);
+    for (enum part part = CAMERA; part <= LOCK; part++)
+        sum += hash_of_folder(PART[part].command, counts);
+    return sum;
+}
+
+/* The older folder. */
+
+static void path_of(char path[PATH_ROOM], enum part part, const char *file)
+{
+    snprintf(path, PATH_ROOM, "%s/%s", PART[part].command, file);
+}
+
+/* A version of this text, or none. */
+static void put_version(enum part part, const char *text)
+{
+    char path[PATH_ROOM];
+    path_of(path, part, "version");
+    if (text != NULL)
+        put_file(path, text, strlen(text));
+    else
+        EXPECT(unlink(path) == 0 || errno == ENOENT, "cannot remove %s", path);
+}
+
+static bool has_version(enum part part)
+{
+    char path[PATH_ROOM];
+    path_of(path, part, "version");
+    return access(path, F_OK) == 0;
+}
+
+static void lose_all_power(void)
+{
+    for (enum part part = CAMERA; part <= LOCK; part++)
+        cut_power(part);
+}
+
+static void make_older_part(enum part part)
+{
+    char path[PATH_ROOM];
+    path_of(path, part, "last");
+    put_file(path, older.last[part].bytes, older.last[part].size);
+    put_version(part, NULL);
+}
+
+static void put_halves_back(void)
+{
+    for (uint64_t i = 0; i < 2 * HALVES; i++) {
+        char path[PATH_ROOM];
+        const struct content *half = &older.half[i % 2][i / 2];
+        snprintf(path, sizeof path, "%s/%" PRIu64 ".half", STICK[i % 2], older.dealt - i / 2);
+        put_file(path, half->bytes, half->size);
+    }
+}
+
+/* All parts are down. Whatever an upgrade has left is as if it had not been, the marks of what was
+   not forced to disk included. */
+static void make_older(void)
+{
+    lose_all_power();
+    for (enum part part = CAMERA; part <= LOCK; part++)
+        make_older_part(part);
+    put_halves_back();
+}
+
+static void take_down_half(enum part box, uint64_t i)
+{
+    struct content *half = &older.half[box][i];
+    EXPECT(read_half(box, older.dealt - i, half->bytes, &half->size),
+        "set %" PRIu64 ": no half on the stick of the %s", older.dealt - i, PART[box].title);
+}
+
+static void take_down_last(enum part part)
+{
+    struct content *last = &older.last[part];
+    char path[PATH_ROOM];
+    path_of(path, part, "last");
+    EXPECT(read_file(path, last->bytes, sizeof last->bytes, &last->size), "no %s", path);
+    EXPECT(part == DEALER || durable_last(part) + HALVES <= older.dealt,
+        "the %s has loaded what nobody has begun", PART[part].title);
+}
+
+static void take_down_older(void)
+{
+    older.dealt = durable_last(DEALER);
+    for (enum part part = CAMERA; part <= LOCK; part++)
+        take_down_last(part);
+    for (uint64_t i = 0; i < HALVES; i++) {
+        take_down_half(CAMERA, i);
+        take_down_half(OFFICE, i);
+    }
+    older.kept = hash_of_all(is_kept);
+}
+
+/* What does not start. */
+
+/* The command ends in trouble, with these words, and changes nothing. */
+static void expect_trouble(const char *command, const char *words)
+{
+    char *const arguments[] = {"door-host", (char *)command, ".", NULL};
+    char said[SAID_ROOM];
+    const uint64_t before = hash_of_all(is_state);
+    int status = run_and_hear(arguments, said);
+    EXPECT(status == EXIT_TROUBLE, "%s: status %d, where it has to say: %s", command, status,
+        words);
+    EXPECT(strstr(said, words) != NULL, "%s does not say: %s; but: %s", command, words, said);
+    EXPECT(hash_of_all(is_state) == before, "%s is refused, and has changed something", command);
+}
+
+/* With all parts of this version but for this one. */
+static void other_version(enum part part, const char *text, const char *words)
+{
+    for (enum part other = CAMERA; other <= LOCK; other++)
+        put_version(other, other == part ? text : "2\n");
+    expect_trouble(PART[part].command, words);
+    if (words != ASKS_FOR_UPGRADE)
+        expect_trouble("upgrade", words);
+}
+
+static void other_versions(enum part part)
+{
+    static const char *const lower[] = {NULL, "0\n", "1\n"};
+    static const char *const higher[] = {"3\n", "12\n", "18446744073709551615\n"};
+    static const char *const damaged[] = {"", "\n", "2", "02\n", " 2\n", "2 \n", "+2\n", "-2\n",
+        "2\n\n", "2\n2\n", "2\r\n", "2.0\n", "two\n", "18446744073709551618\n",
+        "2\n                                        "};
+    make_older();
+    for (size_t i = 0; i < sizeof lower / sizeof *lower; i++)
+        other_version(part, lower[i], ASKS_FOR_UPGRADE);
+    for (size_t i = 0; i < sizeof higher / sizeof *higher; i++)
+        other_version(part, higher[i], "is from a newer version of this program");
+    for (size_t i = 0; i < sizeof damaged / sizeof *damaged; i++)
+        other_version(part, damaged[i], "/version is torn or damaged");
+}
+
+/* One part runs, which was started before its folder was an older one. */
+static void not_while_running(enum part part)
+{
+    make_older();
+    put_version(part, "2\n");
+    start_child(part);
+    hear_from(part);
+    put_version(part, NULL);
+    expect_trouble("upgrade", "stop all parts first");
+    stop_child(part);
+}
+
+static void not_with_damaged_last(enum part part)
+{
+    char path[PATH_ROOM];
+    make_older();
+    path_of(path, part, "last");
+    put_file(path, older.last[part].bytes, chance(older.last[part].size));
+    expect_trouble("upgrade", "/last is torn or damaged");
+    EXPECT(unlink(path) == 0, "cannot remove %s", path);
+    expect_trouble("upgrade", "/last: No such file");
+}
+
+/* Upgrades. */
+
+static bool is_empty(const char *folder)
+{
+    unsigned long files = 0;
+    DIR *entries = opendir(folder);
+    EXPECT(entries != NULL, "cannot look through %s", folder);
+    for (struct dirent *entry; (entry = readdir(entries)) != NULL;)
+        files += entry->d_name[0] != '.';
+    closedir(entries);
+    return files == 0;
+}
+
+/* A version may be in place and not forced to disk. What it stands for must be there for good by
+   then: the part's number, and that no half is on the sticks. */
+static void inspect_version(enum part part)
+{
+    EXPECT(durable_last(part) >= older.dealt,
+        "the %s has the version, and a power cut would leave it at %" PRIu64 " of %" PRIu64,
+        PART[part].title, durable_last(part), older.dealt);
+    EXPECT(is_empty(STICK[CAMERA]) && is_empty(STICK[OFFICE]),
+        "the %s has the version, and a power cut would leave older halves", PART[part].title);
+}
+
+static unsigned inspect_versions(void)
+{
+    unsigned count = 0;
+    for (enum part part = CAMERA; part <= LOCK; part++)
+        if (has_version(part)) {
+            count++;
+            inspect_version(part);
+        }
+    return count;
+}
+
+/* A box that starts refuses an older half that someone had elsewhere. */
+static void starts_and_refuses(enum part part)
+{
+    start_child(part);
+    hear_from(part);
+    if (part == CAMERA || part == OFFICE) {
+        refuses_spent_half(part, older.dealt - chance(HALVES));
+        EXPECT(remove_halves(part, UINT64_MAX), "cannot clear the stick");
+    }
+    stop_child(part);
+}
+
+static void start_or_not(enum part part)
+{
+    if (has_version(part))
+        starts_and_refuses(part);
+    else
+        expect_trouble(PART[part].command, ASKS_FOR_UPGRADE);
+}
+
+static void upgrade_to_end(void)
+{
+    char text[8];
+    size_t size;
+    EXPECT(run_to_end(UPGRADE) == 0, "the upgrade fails");
+    EXPECT(inspect_versions() == LOCK + 1, "the upgrade leaves a part without the version");
+    for (enum part part = CAMERA; part <= LOCK; part++) {
+        char path[PATH_ROOM];
+        path_of(path, part, "version");
+        EXPECT(read_file(path, text, sizeof text, &size), "no %s", path);
+        EXPECT(size == 2 && memcmp(text, "2\n", 2) == 0, "%s is not that of this program", path);
+        EXPECT(durable_last(part) == older.dealt, "the %s is at %" PRIu64, PART[part].title,
+            durable_last(part));
+    }
+    EXPECT(hash_of_all(is_kept) == older.kept, "keys, names, settings or vectors have changed");
+}
+
+/* Not even the halves on the sticks: in a folder of this version they are good ones. */
+static void changes_nothing_twice(void)
+{
+    char said[SAID_ROOM];
+    make_older();
+    upgrade_to_end();
+    put_halves_back();
+    const uint64_t before = hash_of_all(is_state);
+    EXPECT(run_and_hear(UPGRADE, said) == 0 && strstr(said, "of this version already") != NULL,
+        "a second upgrade says: %s", said);
+    EXPECT(hash_of_all(is_state) == before, "a second upgrade has changed something");
+}
+
+/* Whether the upgrade came to this moment and was cut short there. */
+static bool cut_upgrade(const char *moment, unsigned at, bool power_fails)
+{
+    EXPECT(at < MOMENTS_MOST, "an upgrade comes to no end");
+    if (!run_cut_short(UPGRADE, moment, at))
+        return false;
+    inspect_versions();
+    if (power_fails)
+        lose_all_power();
+    unsigned count = inspect_versions();
+    upgrade_tally.cuts++;
+    upgrade_tally.power += power_fails;
+    upgrade_tally.between += count > 0 && count <= LOCK;
+    return true;
+}
+
+/* At every step in turn. Then each part starts or does not, and a second run finishes the job. */
+static void cut_at_steps(bool power_fails)
+{
+    bool was_cut = true;
+    for (unsigned step = 1; was_cut; step++) {
+        make_older();
+        was_cut = cut_upgrade(BEFORE_STEP, step, power_fails);
+        for (enum part part = CAMERA; was_cut && part <= LOCK; part++)
+            start_or_not(part);
+        if (was_cut)
+            upgrade_to_end();
+    }
+}
+
+/* After a first run that was killed when it had put a file in its place, so that the file is there
+   and not forced to disk: a second run that takes it for done is cut short too, at every such
+   moment. Whether there was a first one. */
+static bool cut_twice(unsigned first)
+{
+    bool was_cut = false;
+    for (unsigned second = 1; second == 1 || was_cut; second++) {
+        make_older();
+        if (!cut_upgrade(AFTER_RENAME, first, false))
+            return false;
+        was_cut = cut_upgrade(AFTER_RENAME, second, true);
+        if (was_cut)
+            upgrade_to_end();
+    }
+    return true;
+}
+
+/* A part that was set up as far as its last number must not pass for one of an older version, nor
+   after a power cut. */
+static void inspect_set_up(const char *folder, enum part part)
+{
+    char last[2 * PATH_ROOM], version[2 * PATH_ROOM], unforced[2 * PATH_ROOM];
+    snprintf(last, sizeof last, "%s/%s/last", folder, PART[part].command);
+    snprintf(version, sizeof version, "%s/%s/version", folder, PART[part].command);
+    snprintf(unforced, sizeof unforced, "%s/%s/version%s", folder, PART[part].command, MARK_NEW);
+    EXPECT(access(last, F_OK) != 0
+            || (access(version, F_OK) == 0 && access(unforced, F_OK) != 0),
+        "%s is set up with a last number before its version", last);
+}
+
+/* Whether the set-up came to this step and was cut short there. */
+static bool cut_set_up(unsigned step)
+{
+    char folder[PATH_ROOM];
+    char *const arguments[] = {
+        "door-host", "setup", folder, "Another door", "1", "2", "3", NULL};
+    EXPECT(step < MOMENTS_MOST, "a set-up comes to no end");
+    snprintf(folder, sizeof folder, "another-%u", step);
+    bool was_cut = run_cut_short(arguments, BEFORE_STEP, step);
+    for (enum part part = CAMERA; part <= LOCK; part++)
+        inspect_set_up(folder, part);
+    upgrade_tally.set_ups += was_cut;
+    return was_cut;
+}
+
+static void start_again(void)
+{
+    for (enum part part = CAMERA; part <= LOCK; part++)
+        start_child(part);
+    settle();
+    for (uint64_t i = 0; i < HALVES; i++) {
+        refuses_spent_half(CAMERA, older.dealt - i);
+        refuses_spent_half(OFFICE, older.dealt - i);
+    }
+    for (int i = 0; i < 4; i++)
+        undisturbed_check(i % 2 == 0 ? ALL : VECTORS);
+}
+
+void versions(void)
+{
+    for (int i = 0; i < DEALS; i++)
+        deal_and_leave();
+    for (enum part part = CAMERA; part <= LOCK; part++) {
+        stop_child(part);
+        lose_stock(part);
+    }
+    take_down_older();
+    for (enum part part = CAMERA; part <= LOCK; part++) {
+        other_versions(part);
+        not_while_running(part);
+        not_with_damaged_last(part);
+    }
+    for (unsigned step = 1; cut_set_up(step);)
+        step++;
+    changes_nothing_twice();
+    cut_at_steps(false);
+    cut_at_steps(true);
+    for (unsigned first = 1; cut_twice(first);)
+        first++;
+    EXPECT(upgrade_tally.cuts >= CUTS && upgrade_tally.between >= CUTS_BETWEEN,
+        "upgrades were cut short only %lu times, %lu between the versions", upgrade_tally.cuts,
+        upgrade_tally.between);
+    make_older();
+    upgrade_to_end();
+    start_again();
+}
