@@ -28,9 +28,10 @@
  *
  * Older sets. There was a version in which the lock's 1 meant measure >= T for every code. Its sets
  * for DOOR_EUCLID and DOOR_HAMMING must be scrapped. No call can tell such a half from a new one:
- * it would load, and the lock would report a wrong bit. A host scraps them best when it starts the
+ * it would load, and the lock could report a wrong bit. A host scraps them best when it starts the
  * boxes anew: with the dealer's last number as the floor, where the box's own is lower, door_load
- * refuses every older half by 7, wherever it has been.
+ * refuses every older half by 7, wherever it has been. A set that a box has loaded, open or waiting,
+ * is gone with the state that the start replaces.
  *
  * Refusals. `why` is 0 for an accepted call, else the number of the first test that failed, lowest
  * first (enum door_refusal). A refused call changes nothing: the answer holds the state that was

@@ -785,13 +785,13 @@ int main(int count, char **arguments)
     for (int i = 0; i < 10; i++)
         undisturbed_check(ALL);
     checks_at_the_turn();
-    versions();
     while (!killed_enough() && killed() < KILLS_MOST) {
         disturbed_check();
         if (chance(4) == 0)
             undisturbed_check(some_change());
     }
     refusals();
+    versions();
     checks_at_the_turn();
     for (int i = 0; i < 10; i++)
         undisturbed_check(some_change());
