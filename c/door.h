@@ -28,10 +28,12 @@
  *
  * Older sets. There was a version in which the lock's 1 meant measure >= T for every code. Its sets
  * for DOOR_EUCLID and DOOR_HAMMING must be scrapped. No call can tell such a half from a new one:
- * it would load, and the lock could report a wrong bit. A host scraps them best when it starts the
- * boxes anew: with the dealer's last number as the floor, where the box's own is lower, door_load
- * refuses every older half by 7, wherever it has been. A set that a box has loaded, open or waiting,
- * is gone with the state that the start replaces.
+ * it would load, and the lock could report a wrong bit; so it could if one box is of that version
+ * and one of this. To scrap them, stop the dealer, both boxes and the lock, and change them all to
+ * this version. Then start both boxes and the lock anew, with the dealer's last number as the floor
+ * where their own is lower: door_load and door_join refuse by 7 all that is older, wherever it has
+ * been (those of DOOR_SCALAR too, which would still be right: a number is refused whatever its code).
+ * What a box had loaded is gone with the state that its start replaces.
  *
  * Refusals. `why` is 0 for an accepted call, else the number of the first test that failed, lowest
  * first (enum door_refusal). A refused call changes nothing: the answer holds the state that was

@@ -143,70 +143,45 @@ bool write_durably(const char *folder, const char *file, const void *bytes, size
     return force_folder(folder);
 }
 
-/* The number and what it lacks to 2^64 - 1, each in twenty digits: whatever tears or damages the
-   file, it is then no longer one that is ever written. */
-#define LAST_SIZE 42
+/* The number and what it lacks to 2^64 - 1, each in twenty digits, and the version, which version 1
+   left out: whatever tears or damages the numbers, the file is then no longer one that is ever
+   written. And a program of version 1 takes it for damaged, and does not start. */
+#define LAST_MOST 63
 
-static void last_text(uint64_t last, char text[LAST_SIZE + 1])
+static size_t last_text(uint64_t last, uint64_t version, char text[LAST_MOST + 1])
 {
-    snprintf(text, LAST_SIZE + 1, "%020" PRIu64 " %020" PRIu64 "\n", last, UINT64_MAX - last);
+    int size = snprintf(text, LAST_MOST + 1, "%020" PRIu64 " %020" PRIu64, last, UINT64_MAX - last);
+    if (version != 1)
+        size += snprintf(text + size, LAST_MOST + 1 - (size_t)size, " %" PRIu64, version);
+    text[size] = '\n';
+    return (size_t)size + 1;
 }
 
-bool read_last(const char *folder, uint64_t *last)
+bool read_last(const char *folder, uint64_t *last, uint64_t *version)
 {
-    char path[PATH_ROOM], found[LAST_SIZE + 2] = "", right[LAST_SIZE + 1];
+    char path[PATH_ROOM], found[LAST_MOST + 2] = "", right[LAST_MOST + 1];
+    char *end;
     size_t size;
     snprintf(path, sizeof path, "%s/last", folder);
-    if (!read_file(path, found, LAST_SIZE + 1, &size))
+    if (!read_file(path, found, LAST_MOST + 1, &size))
         return false;
-    *last = strtoull(found, NULL, 10);
-    last_text(*last, right);
-    if (size == LAST_SIZE && memcmp(found, right, LAST_SIZE) == 0)
+    *last = strtoull(found, &end, 10);
+    strtoull(end, &end, 10);
+    *version = *end == '\n' ? 1 : strtoull(end, NULL, 10);
+    if (last_text(*last, *version, right) == size && memcmp(found, right, size) == 0)
         return true;
     say("%s is torn or damaged: which numbers are spent is not known, and a mask could be used "
-        "twice; this part stays down until it has new keys (setup in a new folder)",
+        "twice; this part stays down until the door has new keys and another name (setup in a new "
+        "folder)",
         path);
     return false;
 }
 
 bool write_last(const char *folder, uint64_t last)
 {
-    char text[LAST_SIZE + 1];
-    last_text(last, text);
-    return write_durably(folder, "last", text, LAST_SIZE);
-}
-
-#define VERSION_MOST 21 /* bytes of a version's file: a 64-bit number and the line's end */
-
-static int version_text(uint64_t version, char text[VERSION_MOST + 1])
-{
-    return snprintf(text, VERSION_MOST + 1, "%" PRIu64 "\n", version);
-}
-
-bool read_version(const char *folder, uint64_t *version)
-{
-    char path[PATH_ROOM], found[VERSION_MOST + 2] = "", right[VERSION_MOST + 1];
-    size_t size;
-    snprintf(path, sizeof path, "%s/version", folder);
-    *version = 1;
-    if (access(path, F_OK) != 0 && errno == ENOENT)
-        return true;
-    if (!read_file(path, found, VERSION_MOST + 1, &size))
-        return false;
-    *version = strtoull(found, NULL, 10);
-    if ((size_t)version_text(*version, right) == size && memcmp(found, right, size) == 0)
-        return true;
-    say("%s is torn or damaged: of which version this folder is, is not known; set the door up in "
-        "a new folder",
-        path);
-    return false;
-}
-
-bool write_version(const char *folder)
-{
-    char text[VERSION_MOST + 1];
-    int size = version_text(SETS_VERSION, text);
-    return write_durably(folder, "version", text, (size_t)size);
+    char text[LAST_MOST + 1];
+    size_t size = last_text(last, SETS_VERSION, text);
+    return write_durably(folder, "last", text, size);
 }
 
 bool read_key(const char *folder, const char *file, uint8_t key[DOOR_KEY])

@@ -29,19 +29,14 @@ bool claim(const char *path);
 bool read_file(const char *path, void *bytes, size_t room, size_t *size);
 bool write_durably(const char *folder, const char *file, const void *bytes, size_t size);
 
-/* A part's high-water mark: the last set number that is spent. A file that is missing, torn or
-   damaged is never read as any number. */
-bool read_last(const char *folder, uint64_t *last);
-bool write_last(const char *folder, uint64_t last);
-
-/* The version of a part's folder: the rule by which the sets in use there are dealt and judged. In
-   version 1, of which a folder has no file that says so, the lock's 1 meant measure >= T for
-   distances too. The calls cannot tell such a set from a new one. A damaged file is never read as
-   any version. */
+/* A part's high-water mark: the last set number that is spent, and the version, the rule by which
+   the sets above it are dealt and judged. In version 1 the lock's 1 meant measure >= T for distances
+   too. The calls cannot tell such a set from a new one. A file that is missing, torn or damaged is
+   never read as any number. */
 #define SETS_VERSION 2
 
-bool read_version(const char *folder, uint64_t *version);
-bool write_version(const char *folder); /* SETS_VERSION */
+bool read_last(const char *folder, uint64_t *last, uint64_t *version);
+bool write_last(const char *folder, uint64_t last); /* of SETS_VERSION */
 
 bool read_key(const char *folder, const char *file, uint8_t key[DOOR_KEY]);
 

@@ -18,11 +18,8 @@ void say_newer(const char *folder)
 
 /* The calls cannot tell a set of another version from one of this: it would be loaded, and judged
    wrongly. */
-static bool is_of_this_version(const char *folder)
+static bool is_of_this_version(const char *folder, uint64_t version)
 {
-    uint64_t version;
-    if (!read_version(folder, &version))
-        return false;
     if (version > SETS_VERSION)
         say_newer(folder);
     if (version < SETS_VERSION)
@@ -33,13 +30,15 @@ static bool is_of_this_version(const char *folder)
     return version == SETS_VERSION;
 }
 
-/* The version comes last: a part without a last number was never set up to its end. */
+/* Forces to disk what a process that was killed had put in place and no more: a part never starts
+   from what a power cut would take back. */
 bool start_part(enum part self, struct door_name *name, uint64_t *last)
 {
     const char *folder = PART[self].command;
+    uint64_t version;
     speak_as(self);
-    return claim_part(self) && read_name(folder, name) && read_last(folder, last)
-        && is_of_this_version(folder);
+    return claim_part(self) && force_folder(folder) && read_name(folder, name)
+        && read_last(folder, last, &version) && is_of_this_version(folder, version);
 }
 
 void send_failed(const struct link *link, uint64_t number, uint32_t why)

@@ -41,7 +41,7 @@ static bool would_deal(const struct plan *plan)
 }
 
 /* The last number is written last: without it no part starts, so a set-up that was cut short is
-   never taken for a whole one, nor for one of an older version. */
+   never taken for a whole one. */
 static bool set_up_part(enum part part, const struct plan *plan)
 {
     const char *folder = PART[part].command;
@@ -55,7 +55,7 @@ static bool set_up_part(enum part part, const struct plan *plan)
     if ((part == CAMERA || part == OFFICE)
         && !write_durably(folder, "key", plan->keys[part], DOOR_KEY))
         return false;
-    return write_version(folder) && write_last(folder, 0);
+    return write_last(folder, 0);
 }
 
 static bool set_up_all(const char *folder, const struct plan *plan)

@@ -693,9 +693,8 @@ static void summary(void)
         kills_with[CAMERA][READY_AHEAD] + kills_with[OFFICE][READY_AHEAD],
         kills_with[DEALER][READY_AHEAD], begun_anew);
     printf("c/host/test: upgrades cut short %lu times, %lu of them with a power cut; %lu between "
-           "the versions of the first part and the last; each was then finished; set-ups cut "
-           "short %lu times\n",
-        upgrade_tally.cuts, upgrade_tally.power, upgrade_tally.between, upgrade_tally.set_ups);
+           "the first part's and the last one's; each was then finished\n",
+        upgrade_tally.cuts, upgrade_tally.power, upgrade_tally.between);
 }
 
 /* Times. */

@@ -181,9 +181,8 @@ void refuses_spent_half(enum part box, uint64_t number);
 
 struct upgrade_tally {
     unsigned long cuts;    /* upgrades that were cut short */
-    unsigned long between; /* of these, with the version at some parts and not at others */
+    unsigned long between; /* of these, with this version at some parts and not at others */
     unsigned long power;   /* of all, with the power gone too */
-    unsigned long set_ups; /* that were cut short */
 };
 
 extern struct upgrade_tally upgrade_tally;

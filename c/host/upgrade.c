@@ -3,10 +3,11 @@
  *
  * What scraps them is the last number. Every half that was ever dealt has a number up to the
  * dealer's last one. With that as their own last number, the boxes refuse each of them, also one
- * that lies on no stick just now.
+ * that lies on no stick just now, and the lock refuses what a box had answered with one.
  *
- * A part starts only when its folder has the version, so that comes last. Whatever is cut short, a
- * part with the version has all the rest behind it, and another run does what is missing.
+ * A part's number and its version are one file, and a part starts only with this version. So
+ * whatever is cut short, a part that starts has its number raised, and another run does what is
+ * missing.
  */
 #include "host.h"
 
@@ -15,8 +16,8 @@
 #define OWNERS (LOCK + 1) /* parts that have a folder */
 
 struct found {
-    uint64_t version[OWNERS];
     uint64_t last[OWNERS];
+    uint64_t version[OWNERS];
 };
 
 /* A part that runs would go on with the sets that it has in memory. */
@@ -31,13 +32,14 @@ static bool claim_all(void)
     return true;
 }
 
-static bool read_versions(struct found *found)
+static bool read_lasts(struct found *found)
 {
     for (enum part part = CAMERA; part <= LOCK; part++) {
-        if (!read_version(PART[part].command, &found->version[part]))
+        const char *folder = PART[part].command;
+        if (!read_last(folder, &found->last[part], &found->version[part]))
             return false;
         if (found->version[part] > SETS_VERSION) {
-            say_newer(PART[part].command);
+            say_newer(folder);
             return false;
         }
     }
@@ -52,24 +54,17 @@ static bool is_done(const struct found *found)
     return true;
 }
 
-static bool read_lasts(struct found *found)
+/* Else the dealer's number is that of an older copy: there may be halves above it, and it would
+   deal numbers again that are spent. */
+static bool is_dealer_ahead(const struct found *found)
 {
     for (enum part part = CAMERA; part <= LOCK; part++)
-        if (!read_last(PART[part].command, &found->last[part]))
+        if (found->last[part] > found->last[DEALER]) {
+            say("the last number of the %s is above the dealer's, which cannot be right; nothing "
+                "was changed. Set the door up in a new folder, with another name",
+                PART[part].title);
             return false;
-    return true;
-}
-
-/* No number is ever lowered. One that is high enough is written too: it may be what a run that was
-   cut short had not forced to disk yet. */
-static bool raise_lasts(const struct found *found)
-{
-    const uint64_t dealt = found->last[DEALER];
-    for (enum part part = CAMERA; part <= LOCK; part++) {
-        const uint64_t own = found->last[part];
-        if (!write_last(PART[part].command, own < dealt ? dealt : own))
-            return false;
-    }
+        }
     return true;
 }
 
@@ -79,17 +74,22 @@ static bool clear_sticks(void)
         && force_folder("stick/camera") && force_folder("stick/office");
 }
 
-static bool write_versions(void)
+/* That of a part which has this version already is written too: a run that was cut short may not
+   have forced it to disk. */
+static bool raise_lasts(const struct found *found)
 {
     for (enum part part = CAMERA; part <= LOCK; part++)
-        if (!write_version(PART[part].command))
+        if (!write_last(PART[part].command, found->last[DEALER]))
             return false;
     return true;
 }
 
+/* The threshold comes first: whatever is cut short afterwards, it was said. */
 static bool upgrade(const struct found *found)
 {
-    if (raise_lasts(found) && clear_sticks() && write_versions())
+    say("for distances (codes 1 and 2) the lock now opens up to the threshold, and no longer from "
+        "it on: see that dealer/settings has the right one");
+    if (clear_sticks() && raise_lasts(found))
         return true;
     say("the upgrade is not finished, and not every part starts: run it again");
     return false;
@@ -98,17 +98,15 @@ static bool upgrade(const struct found *found)
 int run_upgrade(void)
 {
     struct found found;
-    if (!claim_all() || !read_versions(&found))
+    if (!claim_all() || !read_lasts(&found))
         return EXIT_TROUBLE;
     if (is_done(&found)) {
         say("this folder is of this version already; nothing was changed");
         return EXIT_OPEN;
     }
-    if (!read_lasts(&found) || !upgrade(&found))
+    if (!is_dealer_ahead(&found) || !upgrade(&found))
         return EXIT_TROUBLE;
-    say("upgraded; the sets up to number %" PRIu64 " are scrapped. For distances (codes 1 and 2) "
-        "the lock now opens up to the threshold, not from it on: see that dealer/settings has the "
-        "right one",
+    say("upgraded; the sets up to number %" PRIu64 " are scrapped, of every measure",
         found.last[DEALER]);
     return EXIT_OPEN;
 }

@@ -17,8 +17,8 @@
 #define HALVES (2 * DEALS) /* on each stick: each deal leaves the set that is asked for and the one
                               that is dealt ahead */
 #define MOMENTS_MOST 200   /* more than an upgrade has */
-#define CUTS 80            /* at the least */
-#define CUTS_BETWEEN 20    /* at the least, with the version at some parts and not at others */
+#define CUTS 70            /* at the least */
+#define CUTS_BETWEEN 20    /* at the least, with this version at some parts and not at others */
 
 struct upgrade_tally upgrade_tally;
 
@@ -34,7 +34,7 @@ struct content {
 
 /* The folder as an older version leaves it, with sets that were dealt and no box has loaded. */
 static struct {
-    struct content last[LOCK + 1];
+    uint64_t last[LOCK + 1];
     uint64_t dealt; /* the dealer's last number */
     struct content half[2][HALVES];
     uint64_t kept; /* a hash of what an upgrade leaves as it is */
@@ -91,36 +91,39 @@ static void path_of(char path[PATH_ROOM], enum part part, const char *file)
     snprintf(path, PATH_ROOM, "%s/%s", PART[part].command, file);
 }
 
-/* A version of this text, or none. */
-static void put_version(enum part part, const char *text)
+/* A part's last number with this version behind it, or none as in version 1; its first bytes, so
+   many. */
+static void put_last(enum part part, uint64_t last, const char *version, size_t most)
 {
-    char path[PATH_ROOM];
-    path_of(path, part, "version");
-    if (text != NULL)
-        put_file(path, text, strlen(text));
-    else
-        EXPECT(unlink(path) == 0 || errno == ENOENT, "cannot remove %s", path);
+    char path[PATH_ROOM], text[2 * PATH_ROOM];
+    int size = snprintf(text, sizeof text, "%020" PRIu64 " %020" PRIu64 "%s\n", last,
+        UINT64_MAX - last, version);
+    path_of(path, part, "last");
+    put_file(path, text, (size_t)size < most ? (size_t)size : most);
 }
 
-static bool has_version(enum part part)
+static void put_version(enum part part, const char *version)
 {
-    char path[PATH_ROOM];
-    path_of(path, part, "version");
-    return access(path, F_OK) == 0;
+    put_last(part, older.last[part], version, SIZE_MAX);
+}
+
+/* The number in a part's file, where it has this version; else 0, as in an older folder. */
+static uint64_t upgraded_last(enum part part)
+{
+    char path[PATH_ROOM], text[2 * PATH_ROOM];
+    uint64_t last;
+    size_t size;
+    path_of(path, part, "last");
+    EXPECT(read_file(path, text, sizeof text - 1, &size), "no %s", path);
+    text[size] = '\0';
+    EXPECT(sscanf(text, "%" SCNu64, &last) == 1, "no number in %s", path);
+    return size > 3 && strcmp(text + size - 3, " 2\n") == 0 ? last : 0;
 }
 
 static void lose_all_power(void)
 {
     for (enum part part = CAMERA; part <= LOCK; part++)
         cut_power(part);
-}
-
-static void make_older_part(enum part part)
-{
-    char path[PATH_ROOM];
-    path_of(path, part, "last");
-    put_file(path, older.last[part].bytes, older.last[part].size);
-    put_version(part, NULL);
 }
 
 static void put_halves_back(void)
@@ -139,7 +142,7 @@ static void make_older(void)
 {
     lose_all_power();
     for (enum part part = CAMERA; part <= LOCK; part++)
-        make_older_part(part);
+        put_version(part, "");
     put_halves_back();
 }
 
@@ -152,11 +155,8 @@ static void take_down_half(enum part box, uint64_t i)
 
 static void take_down_last(enum part part)
 {
-    struct content *last = &older.last[part];
-    char path[PATH_ROOM];
-    path_of(path, part, "last");
-    EXPECT(read_file(path, last->bytes, sizeof last->bytes, &last->size), "no %s", path);
-    EXPECT(part == DEALER || durable_last(part) + HALVES <= older.dealt,
+    older.last[part] = durable_last(part);
+    EXPECT(part == DEALER || older.last[part] + HALVES <= older.dealt,
         "the %s has loaded what nobody has begun", PART[part].title);
 }
 
@@ -191,7 +191,7 @@ static void expect_trouble(const char *command, const char *words)
 static void other_version(enum part part, const char *text, const char *words)
 {
     for (enum part other = CAMERA; other <= LOCK; other++)
-        put_version(other, other == part ? text : "2\n");
+        put_version(other, other == part ? text : " 2");
     expect_trouble(PART[part].command, words);
     if (words != ASKS_FOR_UPGRADE)
         expect_trouble("upgrade", words);
@@ -199,28 +199,28 @@ static void other_version(enum part part, const char *text, const char *words)
 
 static void other_versions(enum part part)
 {
-    static const char *const lower[] = {NULL, "0\n", "1\n"};
-    static const char *const higher[] = {"3\n", "12\n", "18446744073709551615\n"};
-    static const char *const damaged[] = {"", "\n", "2", "02\n", " 2\n", "2 \n", "+2\n", "-2\n",
-        "2\n\n", "2\n2\n", "2\r\n", "2.0\n", "two\n", "18446744073709551618\n",
-        "2\n                                        "};
+    static const char *const lower[] = {"", " 0"};
+    static const char *const higher[] = {" 3", " 12", " 18446744073709551615"};
+    static const char *const damaged[] = {" ", " 1", "2", " 02", "  2", " 2 ", " +2", " -2",
+        " 2\n", " 2\n2", " 2\r", " 2.0", " two", " 18446744073709551618",
+        " 2                                        "};
     make_older();
     for (size_t i = 0; i < sizeof lower / sizeof *lower; i++)
         other_version(part, lower[i], ASKS_FOR_UPGRADE);
     for (size_t i = 0; i < sizeof higher / sizeof *higher; i++)
         other_version(part, higher[i], "is from a newer version of this program");
     for (size_t i = 0; i < sizeof damaged / sizeof *damaged; i++)
-        other_version(part, damaged[i], "/version is torn or damaged");
+        other_version(part, damaged[i], "/last is torn or damaged");
 }
 
 /* One part runs, which was started before its folder was an older one. */
 static void not_while_running(enum part part)
 {
     make_older();
-    put_version(part, "2\n");
+    put_version(part, " 2");
     start_child(part);
     hear_from(part);
-    put_version(part, NULL);
+    put_version(part, "");
     expect_trouble("upgrade", "stop all parts first");
     stop_child(part);
 }
@@ -230,10 +230,18 @@ static void not_with_damaged_last(enum part part)
     char path[PATH_ROOM];
     make_older();
     path_of(path, part, "last");
-    put_file(path, older.last[part].bytes, chance(older.last[part].size));
+    put_last(part, older.last[part], "", chance(42)); /* it has 42 bytes */
     expect_trouble("upgrade", "/last is torn or damaged");
     EXPECT(unlink(path) == 0, "cannot remove %s", path);
     expect_trouble("upgrade", "/last: No such file");
+}
+
+/* A dealer's number that is behind another's is from an older copy of its folder. */
+static void not_with_dealer_behind(enum part part)
+{
+    make_older();
+    put_last(part, older.dealt + 1, "", SIZE_MAX);
+    expect_trouble("upgrade", "is above the dealer's");
 }
 
 /* Upgrades. */
@@ -249,22 +257,24 @@ static bool is_empty(const char *folder)
     return files == 0;
 }
 
-/* A version may be in place and not forced to disk. What it stands for must be there for good by
-   then: the part's number, and that no half is on the sticks. */
+/* A number of this version may be in place and not forced to disk: a power cut then leaves the part
+   an older one. But it must be high enough, and by then no half may be on the sticks, nor come back
+   there. */
 static void inspect_version(enum part part)
 {
-    EXPECT(durable_last(part) >= older.dealt,
-        "the %s has the version, and a power cut would leave it at %" PRIu64 " of %" PRIu64,
-        PART[part].title, durable_last(part), older.dealt);
+    EXPECT(upgraded_last(part) >= older.dealt,
+        "the %s has this version, and %" PRIu64 " of %" PRIu64, PART[part].title,
+        upgraded_last(part), older.dealt);
     EXPECT(is_empty(STICK[CAMERA]) && is_empty(STICK[OFFICE]),
-        "the %s has the version, and a power cut would leave older halves", PART[part].title);
+        "the %s has this version, and a power cut would leave older halves", PART[part].title);
 }
 
+/* How many parts have this version. */
 static unsigned inspect_versions(void)
 {
     unsigned count = 0;
     for (enum part part = CAMERA; part <= LOCK; part++)
-        if (has_version(part)) {
+        if (upgraded_last(part) != 0) {
             count++;
             inspect_version(part);
         }
@@ -285,7 +295,7 @@ static void starts_and_refuses(enum part part)
 
 static void start_or_not(enum part part)
 {
-    if (has_version(part))
+    if (upgraded_last(part) != 0)
         starts_and_refuses(part);
     else
         expect_trouble(PART[part].command, ASKS_FOR_UPGRADE);
@@ -293,18 +303,12 @@ static void start_or_not(enum part part)
 
 static void upgrade_to_end(void)
 {
-    char text[8];
-    size_t size;
     EXPECT(run_to_end(UPGRADE) == 0, "the upgrade fails");
-    EXPECT(inspect_versions() == LOCK + 1, "the upgrade leaves a part without the version");
-    for (enum part part = CAMERA; part <= LOCK; part++) {
-        char path[PATH_ROOM];
-        path_of(path, part, "version");
-        EXPECT(read_file(path, text, sizeof text, &size), "no %s", path);
-        EXPECT(size == 2 && memcmp(text, "2\n", 2) == 0, "%s is not that of this program", path);
-        EXPECT(durable_last(part) == older.dealt, "the %s is at %" PRIu64, PART[part].title,
-            durable_last(part));
-    }
+    EXPECT(inspect_versions() == LOCK + 1, "the upgrade leaves an older part");
+    for (enum part part = CAMERA; part <= LOCK; part++)
+        EXPECT(upgraded_last(part) == older.dealt && durable_last(part) == older.dealt,
+            "the %s is at %" PRIu64 ", after a power cut at %" PRIu64, PART[part].title,
+            upgraded_last(part), durable_last(part));
     EXPECT(hash_of_all(is_kept) == older.kept, "keys, names, settings or vectors have changed");
 }
 
@@ -352,8 +356,8 @@ static void cut_at_steps(bool power_fails)
 }
 
 /* After a first run that was killed when it had put a file in its place, so that the file is there
-   and not forced to disk: a second run that takes it for done is cut short too, at every such
-   moment. Whether there was a first one. */
+   and not forced to disk: a second run is cut short too, at every such moment, and with it goes the
+   power. Whether there was a first one. */
 static bool cut_twice(unsigned first)
 {
     bool was_cut = false;
@@ -366,34 +370,6 @@ static bool cut_twice(unsigned first)
             upgrade_to_end();
     }
     return true;
-}
-
-/* A part that was set up as far as its last number must not pass for one of an older version, nor
-   after a power cut. */
-static void inspect_set_up(const char *folder, enum part part)
-{
-    char last[2 * PATH_ROOM], version[2 * PATH_ROOM], unforced[2 * PATH_ROOM];
-    snprintf(last, sizeof last, "%s/%s/last", folder, PART[part].command);
-    snprintf(version, sizeof version, "%s/%s/version", folder, PART[part].command);
-    snprintf(unforced, sizeof unforced, "%s/%s/version%s", folder, PART[part].command, MARK_NEW);
-    EXPECT(access(last, F_OK) != 0
-            || (access(version, F_OK) == 0 && access(unforced, F_OK) != 0),
-        "%s is set up with a last number before its version", last);
-}
-
-/* Whether the set-up came to this step and was cut short there. */
-static bool cut_set_up(unsigned step)
-{
-    char folder[PATH_ROOM];
-    char *const arguments[] = {
-        "door-host", "setup", folder, "Another door", "1", "2", "3", NULL};
-    EXPECT(step < MOMENTS_MOST, "a set-up comes to no end");
-    snprintf(folder, sizeof folder, "another-%u", step);
-    bool was_cut = run_cut_short(arguments, BEFORE_STEP, step);
-    for (enum part part = CAMERA; part <= LOCK; part++)
-        inspect_set_up(folder, part);
-    upgrade_tally.set_ups += was_cut;
-    return was_cut;
 }
 
 static void start_again(void)
@@ -422,9 +398,9 @@ void versions(void)
         other_versions(part);
         not_while_running(part);
         not_with_damaged_last(part);
+        if (part != DEALER)
+            not_with_dealer_behind(part);
     }
-    for (unsigned step = 1; cut_set_up(step);)
-        step++;
     changes_nothing_twice();
     cut_at_steps(false);
     cut_at_steps(true);

@@ -16,7 +16,7 @@ use Rattle.base_messages.specs.Laws.{passed}
 use Rattle.half_content.specs.Content.{Proper}
 use Rattle.half_deal.specs.Dealing.{Deal, dealFrom, dealtSet}
 use Rattle.half_deal.specs.Laws.{proper}
-use Rattle.half_deal.specs.Close.{camera-set, officeBy01, office-plain}
+use Rattle.half_deal.specs.Close.{setBy01, camera-by-01, plain-by-01, camera-any}
 use Rattle.half_seal.specs.Half.{half}
 use Rattle.call_dealer.specs.Dealer.{whyNotDealer, halfSize, whyNotDeal, keyOf, halfFor}
 use Rattle.call_dealer.specs.declared.Dealer.{Dealer}
@@ -80,14 +80,19 @@ dealt-proper s d room0 room1 party a number low = proper d party number (a .code
 
 -- ---- what T and the measure's sign do to the halves [SPEC 5.8, 5.13]
 
--- party 0's half is the same for every T
-pub camera-half : (s : Dealer) (number : ℕ) (seed : List ℕ) (terms : Terms) (t u : ℕ)
+-- party 0's half is 01's, whatever the code, and the same for every T
+pub camera-half : (s : Dealer) (d : Deal) → halfFor s d 0 ≡ half (keyOf s 0) (s .name) 0 (setBy01 d 0)
+unfolding halfFor
+camera-half s d = ap (half (keyOf s 0) (s .name) 0) (camera-by-01 d)
+
+pub camera-any-half : (s : Dealer) (number : ℕ) (seed : List ℕ) (terms : Terms) (t u : ℕ)
     → halfFor s (dealFrom number seed terms t) 0 ≡ halfFor s (dealFrom number seed terms u) 0
 unfolding halfFor
-camera-half s number seed terms t u = ap (half (keyOf s 0) (s .name) 0) (camera-set number seed terms t u)
+camera-any-half s number seed terms t u = ap (half (keyOf s 0) (s .name) 0) (camera-any number seed terms t u)
 
--- under code 0 party 1's is 01's
-pub scalar-half : (s : Dealer) (d : Deal) → d .terms .code ≡ 0
-    → halfFor s d 1 ≡ half (keyOf s 1) (s .name) 1 (officeBy01 d)
+-- under code 0 party 1's is 01's too
+pub scalar-half : (s : Dealer) (d : Deal) → d .terms .code ≡ 0 → (party : ℕ)
+    → halfFor s d party ≡ half (keyOf s party) (s .name) party (setBy01 d party)
 unfolding halfFor
-scalar-half s d e = ap (half (keyOf s 1) (s .name) 1) (office-plain d (scalar-sign (d .terms) e))
+scalar-half s d e party =
+    ap (half (keyOf s party) (s .name) party) (plain-by-01 d (scalar-sign (d .terms) e) party)

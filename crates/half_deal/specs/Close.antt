@@ -1,10 +1,12 @@
 -- What T and the measure's sign do to a set (02, §2): they go into party 1's r word and nowhere else. With the plain
 -- sign, the scalar product's, that word is 01's, and so both sets are 01's. With the sign -1, that of squared Euclid
 -- and Hamming, it is 02's, and of a half's content nothing but this word differs from 01's. Assumes nothing.
--- [SPEC 5.8, 5.13, 5.14]
+-- [SPEC 5.8, 5.13]
 use mathlib.Core.Path.{_≡_, refl, ap}
+use mathlib.Core.Bool.{cond}
 use mathlib.Core.List.{List}
 use Prim.Native.Nat.{ℕ}
+use lib.Dec.{eqb}
 use lib.IntN.{pos, negℤ}
 use lib.ListN.{set}
 use Rattle.base_algebra.specs.Word.{add, sub}
@@ -16,12 +18,6 @@ use Rattle.half_content.specs.declared.Set.{Set}
 use Rattle.half_content.specs.Content.{rField, fields}
 use Rattle.half_deal.specs.Dealing.{setWords, r, r0, Deal, dealFrom, rOf, setWith, setFrom, dealtSet}
 
--- party 0's set is the same for every T
-pub camera-set : (number : ℕ) (seed : List ℕ) (terms : Terms) (t u : ℕ)
-    → dealtSet (dealFrom number seed terms t) 0 ≡ dealtSet (dealFrom number seed terms u) 0
-unfolding dealtSet setFrom rOf
-camera-set number seed terms t u = refl
-
 module _ (d : Deal) where
   abbrev n : ℕ
   n = d .terms .n
@@ -29,25 +25,37 @@ module _ (d : Deal) where
   abbrev w : List ℕ
   w = setWords (d .seed) n
 
-  -- party 1's set of this deal, with this r word
-  abbrev officeWith : ℕ → Set
-  officeWith its-r = setWith (d .number) (d .terms) w 1 its-r
+  -- a party's set of this deal, with this r1
+  abbrev withR1 : ℕ → ℕ → Set
+  withR1 party r1 = setWith (d .number) (d .terms) w party (cond (eqb party 0) (r0 n w) r1)
 
-  -- the same with 01's, "r1 = r - T - r0"
-  abbrev pub officeBy01 : Set
-  officeBy01 = officeWith (sub (sub (r n w) (d .t)) (r0 n w))
+  -- the same with 01's, "r1 = r - T - r0", whatever the code
+  abbrev pub setBy01 : ℕ → Set
+  setBy01 party = withR1 party (sub (sub (r n w) (d .t)) (r0 n w))
 
-  pub office-plain : sign (d .terms) ≡ pos 1 → dealtSet d 1 ≡ officeBy01
+  -- party 0's set is 01's ..
+  pub camera-by-01 : dealtSet d 0 ≡ setBy01 0
   unfolding dealtSet setFrom rOf
-  office-plain plain = ap officeWith (other-r-plain (d .terms) plain (r n w) (d .t) (r0 n w))
+  camera-by-01 = refl
+
+  -- .. and with the plain sign so is party 1's
+  pub plain-by-01 : sign (d .terms) ≡ pos 1 → (party : ℕ) → dealtSet d party ≡ setBy01 party
+  unfolding dealtSet setFrom rOf
+  plain-by-01 plain party = ap (withR1 party) (other-r-plain (d .terms) plain (r n w) (d .t) (r0 n w))
 
   -- "r1 = r + T - r0"
-  pub office-close : sign (d .terms) ≡ negℤ (pos 1) → dealtSet d 1 ≡ officeWith (sub (add (r n w) (d .t)) (r0 n w))
+  pub office-close : sign (d .terms) ≡ negℤ (pos 1) → dealtSet d 1 ≡ withR1 1 (sub (add (r n w) (d .t)) (r0 n w))
   unfolding dealtSet setFrom rOf
-  office-close close = ap officeWith (other-r-close (d .terms) close (r n w) (d .t) (r0 n w))
+  office-close close = ap (withR1 1) (other-r-close (d .terms) close (r n w) (d .t) (r0 n w))
 
   -- field by field its content is then 01's, but for this word
   pub office-moved : sign (d .terms) ≡ negℤ (pos 1) → (name : List ℕ)
-      → fields name 1 (dealtSet d 1) ≡ set (fields name 1 officeBy01) rField (le32 (sub (add (r n w) (d .t)) (r0 n w)))
+      → fields name 1 (dealtSet d 1) ≡ set (fields name 1 (setBy01 1)) rField (le32 (sub (add (r n w) (d .t)) (r0 n w)))
   unfolding fields
   office-moved close name = ap (fields name 1) (office-close close)
+
+-- and party 0's is the same for every T
+pub camera-any : (number : ℕ) (seed : List ℕ) (terms : Terms) (t u : ℕ)
+    → dealtSet (dealFrom number seed terms t) 0 ≡ dealtSet (dealFrom number seed terms u) 0
+unfolding dealtSet setFrom rOf
+camera-any number seed terms t u = refl
