@@ -32,8 +32,8 @@
  * and one of this. To scrap them, stop the dealer, both boxes and the lock, and change them all to
  * this version. Then start both boxes and the lock anew, with the dealer's last number as the floor
  * where their own is lower: door_load and door_join refuse by 7 all that is older, wherever it has
- * been (those of DOOR_SCALAR too, which would still be right: a number is refused whatever its code).
- * What a box had loaded is gone with the state that its start replaces.
+ * been; sets for DOOR_SCALAR too, which would still be right. What a box had loaded is gone with the
+ * state that its start replaces.
  *
  * Refusals. `why` is 0 for an accepted call, else the number of the first test that failed, lowest
  * first (enum door_refusal). A refused call changes nothing: the answer holds the state that was

@@ -30,9 +30,9 @@ bool read_file(const char *path, void *bytes, size_t room, size_t *size);
 bool write_durably(const char *folder, const char *file, const void *bytes, size_t size);
 
 /* A part's high-water mark: the last set number that is spent, and the version, the rule by which
-   the sets above it are dealt and judged. In version 1 the lock's 1 meant measure >= T for distances
-   too. The calls cannot tell such a set from a new one. A file that is missing, torn or damaged is
-   never read as any number. */
+   the sets above it are dealt and judged. In version 1 the lock's 1 meant measure >= T for
+   distances too. The calls cannot tell such a set from a new one. A file that is missing, torn or
+   damaged is never read as any number. */
 #define SETS_VERSION 2
 
 bool read_last(const char *folder, uint64_t *last, uint64_t *version);
