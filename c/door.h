@@ -137,8 +137,8 @@ enum door_kind {
     DOOR_ANSWER = 2         /* sent by door_finish, taken by the lock */
 };
 
-/* The structs of the crates messages, measure, node, content, dealer, party and lock, all
-   #[repr(C)]. */
+/* The structs of the crates base_messages, measure_table, dcf_node, half_content, call_dealer,
+   call_party and call_lock, all #[repr(C)]. */
 
 /* Who a box is. */
 struct door_identity {

@@ -5,7 +5,7 @@ use mathlib.Core.Bool.{true, cond, _&&_}
 use mathlib.Core.List.{List, [], _∷_}
 use Prim.Native.Nat.{ℕ, zero, suc, _^_, _<_, _≤_}
 use native.Mathlib.Omega.{arith}
-use lib.IntN.{ℤ, pos, _+ℤ_, _*ℤ_}
+use lib.IntN.{ℤ, pos, negℤ, _+ℤ_, _*ℤ_}
 use lib.ListN.{length, replicate, length-replicate}
 use Rattle.base_algebra.specs.Integer.{ringℤ, reifyℤ}
 use Rattle.base_algebra.specs.Word.{signed}
@@ -85,20 +85,24 @@ far-square : (l : ℕ) → sumℤ (λ i. element (far (suc l)) i *ℤ element (f
 unfolding element signed
 far-square l = first-alone _ (λ i. ap₂ _*ℤ_ (no-element l i) (no-element l i)) l
 
+-- own, own and -2 times the product: the same sums under both distances
+far-distance : (l : ℕ)
+    → sumℤ (λ i. element (far (suc l)) i *ℤ element (far (suc l)) i) (suc l)
+    +ℤ sumℤ (λ i. element (zeros (suc l)) i *ℤ element (zeros (suc l)) i) (suc l)
+    +ℤ negℤ (pos 2) *ℤ sumℤ (λ i. element (far (suc l)) i *ℤ element (zeros (suc l)) i) (suc l)
+    ≡ pos 1
+far-distance l = rw (
+  far-square l,
+  no-product (zeros (suc l)) (suc l) (suc l),
+  no-product (far (suc l)) (suc l) (suc l),
+) refl
+
 far-measure : (code l : ℕ)
     → measure (record { code = code; n = suc l }) (far (suc l)) (zeros (suc l)) ≡ apart code
 unfolding measure Measure.own Measure.cross row scalarProduct squaredEuclid hamming apart
 far-measure zero l = rw (no-product (far (suc l)) (suc l) (suc l)) refl
-far-measure (suc zero) l = rw (
-  far-square l,
-  no-product (zeros (suc l)) (suc l) (suc l),
-  no-product (far (suc l)) (suc l) (suc l),
-) refl
-far-measure (suc (suc code)) l = rw (
-  far-square l,
-  no-product (zeros (suc l)) (suc l) (suc l),
-  no-product (far (suc l)) (suc l) (suc l),
-) refl
+far-measure (suc zero) l = far-distance l
+far-measure (suc (suc code)) l = far-distance l
 
 -- ---- they are in range
 
