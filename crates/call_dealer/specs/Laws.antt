@@ -80,7 +80,7 @@ dealt-proper s d room0 room1 party a number low = proper d party number (a .code
 
 -- ---- what T and the measure's sign do to the halves [SPEC 5.8, 5.13]
 
--- party 0's half is 01's, whatever the code, and the same for every T
+-- party 0's half is the one with 01's r1, whatever the code, and the same for every T
 pub camera-half : (s : Dealer) (d : Deal) → halfFor s d 0 ≡ half (keyOf s 0) (s .name) 0 (setBy01 d 0)
 unfolding halfFor
 camera-half s d = ap (half (keyOf s 0) (s .name) 0) (camera-by-01 d)
@@ -90,7 +90,7 @@ pub camera-any-half : (s : Dealer) (number : ℕ) (seed : List ℕ) (terms : Ter
 unfolding halfFor
 camera-any-half s number seed terms t u = ap (half (keyOf s 0) (s .name) 0) (camera-any number seed terms t u)
 
--- under code 0 party 1's is 01's too
+-- under code 0 so is party 1's
 pub scalar-half : (s : Dealer) (d : Deal) → d .terms .code ≡ 0 → (party : ℕ)
     → halfFor s d party ≡ half (keyOf s party) (s .name) party (setBy01 d party)
 unfolding halfFor

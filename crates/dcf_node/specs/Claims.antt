@@ -67,8 +67,8 @@ length-corrections k0 k1 r zero = refl
 length-corrections k0 k1 r (suc n) =
     length-append (corrections k0 k1 r n) _ ∙ omega (arith, length-corrections k0 k1 r n)
 
--- the correction of level i stands at i
-at-level : (k0 k1 : List ℕ) (r n i : ℕ) → i < n
+-- the correction of level i + 1 stands at i
+pub at-level : (k0 k1 : List ℕ) (r n i : ℕ) → i < n
     → correctionAt (corrections k0 k1 r n) i ≡ D.keyCorrection xors node first k0 k1 (D.bits 32 r) i
 unfolding corrections correctionAt
 at-level k0 k1 r zero i h = absurd (omega arith)

@@ -1,3 +1,4 @@
 pub mod Node
 pub mod Claims
 pub mod Bounds
+pub mod Nonce

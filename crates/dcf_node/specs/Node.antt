@@ -17,17 +17,18 @@ use Rattle.dcf_node.specs.declared.Walk.{Walk}
 unfoldable pub child : List ℕ → D.Child (List ℕ)
 child b = record { seed = take 8 b; word = getD b 8 0; flag = odd (getD b 9 0) }
 
--- the three words of the nonce under which the children of a level are opened: 1 is the root's children, 32 the lowest.
--- "nonce all zero", on every level
+-- the three words of the nonce under which a node is opened into children of this level: "nonce bytes 4 to 7 hold the
+-- level as a little-endian word, 1 for the root's children up to 32" (02, §3), and 01's zeros elsewhere. In bytes:
+-- Nonce.`nonce-bytes` [SPEC 6.7, 6.8]
 unfoldable pub nodeNonce : ℕ → List ℕ
-nodeNonce level = 0 ∷ 0 ∷ 0 ∷ []
+nodeNonce level = 0 ∷ level ∷ 0 ∷ []
 
--- what the laws know of it
+-- what the claims above know of it
 pub length-nonce : (level : ℕ) → length (nodeNonce level) ≡ 3
 unfolding nodeNonce
 length-nonce level = refl
 
--- "the ChaCha20 block under that seed", at a counter, which opens a child of that level [SPEC 6.2]
+-- "the ChaCha20 block under that seed", at a counter, off which a child of this level is read [SPEC 6.2]
 unfoldable pub openedBlock : ℕ → List ℕ → ℕ → List ℕ
 openedBlock level seed counter = block seed counter (nodeNonce level)
 

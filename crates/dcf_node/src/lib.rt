@@ -32,11 +32,11 @@ pub struct Walk {
     pub total: u32,
 }
 
-// The nonce under which the children of a level are opened: 1 for the root's children, to 32.
+// The nonce under which a node is opened into children of this level: 1 for the root's, to 32.
 pub fn nonce(level: u32) -> [u32; 3]
     ensures { λ r. ⌜ r ≡ nodeNonce level ⌝ }
 {
-    [0, 0, 0]
+    [0, level, 0]
 }
 
 // Sign × x, where the sign is -1 if the flag is set.
@@ -46,7 +46,7 @@ pub fn by_sign(flag: u32, x: u32) -> u32
     base_words::sub(x, base_words::only(flag, base_words::add(x, x)))
 }
 
-// The bit of level i, from the highest.
+// Bit i from the highest: that of level i + 1.
 pub fn level_bit(u: u32, i: usize) -> u32
     requires { ⌜ i < 32 ⌝ }
     ensures { λ r. ⌜ r ≡ onlyIf (bits 32 u i) 1 ⌝ }

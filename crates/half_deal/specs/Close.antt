@@ -1,7 +1,6 @@
 -- What T and the measure's sign do to a set (02, §2): they go into party 1's r word and nowhere else. With the plain
--- sign, the scalar product's, that word is 01's, and so both sets are 01's. With the sign -1, that of squared Euclid
--- and Hamming, it is 02's, and of a half's content nothing but this word differs from 01's. Assumes nothing.
--- [SPEC 5.8, 5.13]
+-- sign, the scalar product's, that word is 01's. With the sign -1, that of squared Euclid and Hamming, it is 02's, and
+-- of a half's content nothing but this word differs from what 01's would give. Assumes nothing. [SPEC 5.8, 5.13]
 use mathlib.Core.Path.{_≡_, refl, ap}
 use mathlib.Core.Bool.{cond}
 use mathlib.Core.List.{List}
@@ -33,7 +32,7 @@ module _ (d : Deal) where
   abbrev pub setBy01 : ℕ → Set
   setBy01 party = withR1 party (sub (sub (r n w) (d .t)) (r0 n w))
 
-  -- party 0's set is 01's ..
+  -- party 0's set is the one with 01's ..
   pub camera-by-01 : dealtSet d 0 ≡ setBy01 0
   unfolding dealtSet setFrom rOf
   camera-by-01 = refl
@@ -48,7 +47,7 @@ module _ (d : Deal) where
   unfolding dealtSet setFrom rOf
   office-close close = ap (withR1 1) (other-r-close (d .terms) close (r n w) (d .t) (r0 n w))
 
-  -- field by field its content is then 01's, but for this word
+  -- field by field its content is then as with 01's, but for this word
   pub office-moved : sign (d .terms) ≡ negℤ (pos 1) → (name : List ℕ)
       → fields name 1 (dealtSet d 1) ≡ set (fields name 1 (setBy01 1)) rField (le32 (sub (add (r n w) (d .t)) (r0 n w)))
   unfolding fields

@@ -1,3 +1,4 @@
 pub mod Dealing
 pub mod Laws
 pub mod Close
+pub mod Opening

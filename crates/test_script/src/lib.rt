@@ -27,7 +27,7 @@ pub use write::put_words;
 ghost use Rattle.test_script.specs.Script.{NextPart};
 
 // One more than the longest script.
-pub const SIZE: usize = 262145;
+pub const SIZE: usize = 524289;
 
 // Room for a script. Zeros come from a function: a proof that knows what a long array holds carries
 // all of it.
