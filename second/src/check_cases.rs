@@ -3,6 +3,7 @@
 
 use crate::cases::Cases;
 use crate::checks::{edges, run, vector};
+use crate::dcf::LEVELS;
 use crate::field;
 use crate::measure::{Measure, MAX_LENGTH};
 use crate::script::Case;
@@ -143,6 +144,18 @@ impl Cases {
         }
     }
 
+    /// A key, and both values at the inputs that leave its point's path at each of the levels.
+    fn every_level(&mut self, point: u32) {
+        let (seed0, seed1) = (self.bytes(32), self.bytes(32));
+        self.add(format!("key {seed0} {seed1} {point}"));
+        for level in 1..=LEVELS {
+            let u = point ^ 1 << (LEVELS - level);
+            for party in [0, 1] {
+                self.add(format!("value {party} {seed0} {seed1} {point} {u}"));
+            }
+        }
+    }
+
     /// Keys under seeds of zeros and ones, and under one seed for both parties.
     fn odd_seeds(&mut self) {
         let seed = self.bytes(32);
@@ -275,6 +288,9 @@ pub fn cases() -> Vec<Case> {
         cases.checks(Measure::Euclid, MAX_LENGTH, Vectors::Generated, &thresholds);
     }
     cases.distances();
+    for point in [0, u32::MAX, cases.number(), cases.number()] {
+        cases.every_level(point);
+    }
     cases.list
 }
 
@@ -282,7 +298,7 @@ pub fn cases() -> Vec<Case> {
 mod tests {
     use super::*;
     use crate::script::assert_right_short_and_not_repeated;
-    use std::collections::HashSet;
+    use std::collections::{HashMap, HashSet};
 
     #[test]
     fn cases_are_right_short_and_not_repeated() {
@@ -317,6 +333,26 @@ mod tests {
             assert!(length_and_answer.contains(&(length, true)));
         }
         assert!((0..=1024).all(|element| squared.contains(&element)));
+    }
+
+    /// Four keys, one for each end of the points and two without a pattern, are asked by both
+    /// parties at inputs that leave the point's path at every level.
+    #[test]
+    fn every_level_is_left() {
+        let mut left: HashMap<String, HashSet<u32>> = HashMap::new();
+        for case in cases()
+            .iter()
+            .filter(|case| case.line.starts_with("value "))
+        {
+            let (key, u) = case.line.rsplit_once(' ').unwrap();
+            let (_, point) = key.rsplit_once(' ').unwrap();
+            let [point, u] = [point, u].map(|field| field.parse::<u32>().unwrap());
+            let levels = left.entry(key.to_string()).or_default();
+            levels.insert((point ^ u).leading_zeros() + 1);
+        }
+        let all: HashSet<u32> = (1..=LEVELS as u32).collect();
+        let whole = left.values().filter(|levels| all.is_subset(levels));
+        assert_eq!(whole.count(), 4 * 2);
     }
 
     /// Each code meets thresholds on both sides of the measure and at both ends, and each

@@ -1,10 +1,10 @@
-//! Comparison keys: 01, "Dealing a set", from "Node" to "Value of a key at u".
-//! Two parties hold one key and a seed each, and their values at u add up to 1
-//! if u is below the key's point, else to 0.
+//! Comparison keys: 01, "Dealing a set", from "Node" to "Value of a key at u", with
+//! the nonces of 02, "Each level its own nonce". Two parties hold one key and a seed
+//! each, and their values at u add up to 1 if u is below the key's point, else to 0.
 
 use crate::chacha20;
 
-/// One level for each bit of a point.
+/// One level for each bit of a point. They count from 1, the highest bit's.
 pub const LEVELS: usize = 32;
 
 /// The bytes of a stored correction: seed, word, flag byte (01, "The sealed half").
@@ -28,7 +28,7 @@ struct Node {
 }
 
 /// What a seed holds on one side.
-struct Child {
+pub(crate) struct Child {
     seed: Seed,
     word: u32,
     flag: bool,
@@ -71,11 +71,24 @@ pub fn seed(bytes: &[u8; 32]) -> Seed {
     words
 }
 
+/// The nonce of a level, as words: 02 §3, "Each level its own nonce". Bytes 4 to 7
+/// hold the level, and the others are zero.
+#[inline]
+fn nonce(level: usize) -> [u32; 3] {
+    [0, level as u32, 0]
+}
+
+/// One child of a seed, which is of this level: 1 for the root's children, up to 32.
+#[inline]
+fn open(seed: &Seed, level: usize, side: usize) -> Child {
+    open_under(&nonce(level), seed, side)
+}
+
 /// One child of a seed ("Node"): words 0 to 7 of the block are bytes 0 to 31,
 /// word 8 is bytes 32 to 35, and word 9 begins with byte 36.
 #[inline]
-fn open(seed: &Seed, side: usize) -> Child {
-    let block = chacha20::block_of_words(seed, side as u32, &[0; 3]);
+pub(crate) fn open_under(nonce: &[u32; 3], seed: &Seed, side: usize) -> Child {
+    let block = chacha20::block_of_words(seed, side as u32, nonce);
     Child {
         seed: block[..8].try_into().unwrap(),
         word: block[8],
@@ -83,9 +96,9 @@ fn open(seed: &Seed, side: usize) -> Child {
     }
 }
 
-/// The bit of a level, counted from the highest: the side it leads to.
+/// The bit of a level, the side that it leads to: level 1 has the highest.
 fn bit(number: u32, level: usize) -> usize {
-    (number >> (LEVELS - 1 - level) & 1) as usize
+    (number >> (LEVELS - level) & 1) as usize
 }
 
 /// Sign × word.
@@ -131,8 +144,14 @@ impl Child {
 
 /// One level of "Key for a point": the correction, with both parties moved to
 /// the Keep side and V brought up to date.
-fn make_level(nodes: &mut [Node; 2], v: &mut u32, bit: usize) -> Correction {
-    let [party0, party1] = nodes.map(|node| [open(&node.seed, LEFT), open(&node.seed, RIGHT)]);
+#[inline]
+fn make_level(
+    open: impl Fn(&Seed, usize) -> Child,
+    nodes: &mut [Node; 2],
+    v: &mut u32,
+    bit: usize,
+) -> Correction {
+    let [party0, party1] = nodes.map(|node| [LEFT, RIGHT].map(|side| open(&node.seed, side)));
     let (keep, lose) = (bit, 1 - bit);
     let negative = nodes[1].flag;
 
@@ -174,10 +193,23 @@ impl Correction {
 impl Key {
     /// The key for a point under the key seeds of party 0 and 1 ("Key for a point").
     pub fn new(seeds: &[Seed; 2], point: u32) -> Key {
+        Key::new_over(open, seeds, point)
+    }
+
+    /// The same over an opening that is handed in: `older` has another one.
+    #[inline]
+    pub(crate) fn new_over(
+        open: impl Fn(&Seed, usize, usize) -> Child,
+        seeds: &[Seed; 2],
+        point: u32,
+    ) -> Key {
         let mut nodes = [start(0, &seeds[0]), start(1, &seeds[1])];
         let mut v = 0;
-        let corrections =
-            std::array::from_fn(|level| make_level(&mut nodes, &mut v, bit(point, level)));
+        let corrections = std::array::from_fn(|place| {
+            let level = place + 1;
+            let open = |seed: &Seed, side| open(seed, level, side);
+            make_level(open, &mut nodes, &mut v, bit(point, level))
+        });
         let [s0, s1] = nodes.map(|node| node.seed[0]);
         Key {
             corrections,
@@ -187,11 +219,23 @@ impl Key {
 
     /// The value at u of the party, 0 or 1, that has this seed ("Value of a key at u").
     pub fn value(&self, party: usize, seed: &Seed, u: u32) -> u32 {
+        self.value_over(open, party, seed, u)
+    }
+
+    /// The same over an opening that is handed in.
+    #[inline]
+    pub(crate) fn value_over(
+        &self,
+        open: impl Fn(&Seed, usize, usize) -> Child,
+        party: usize,
+        seed: &Seed,
+        u: u32,
+    ) -> u32 {
         let mut node = start(party, seed);
         let mut total = 0u32;
-        for (level, correction) in self.corrections.iter().enumerate() {
+        for (level, correction) in (1..).zip(&self.corrections) {
             let side = bit(u, level);
-            let child = open(&node.seed, side);
+            let child = open(&node.seed, level, side);
             total = total
                 .wrapping_add(child.word)
                 .wrapping_add(if_flag(node.flag, correction.word));
@@ -232,7 +276,8 @@ impl Key {
 mod tests {
     use super::*;
     use crate::checks::edges;
-    use crate::field;
+    use crate::{field, older};
+    use std::collections::HashSet;
 
     const POINTS: [u32; 5] = [0, 1, (1 << 31) - 1, 1 << 31, u32::MAX];
 
@@ -262,8 +307,8 @@ mod tests {
                 check_sum(&seeds, &key, point, u);
             }
             // Inputs that leave the point's path at each of the levels.
-            for level in 0..LEVELS {
-                check_sum(&seeds, &key, point, point ^ 1 << level);
+            for level in 1..=LEVELS {
+                check_sum(&seeds, &key, point, point ^ 1 << (LEVELS - level));
             }
         }
     }
@@ -281,16 +326,117 @@ mod tests {
         }
     }
 
-    /// The block under key 0, nonce 0 and counters 0 and 1 is printed in RFC 8439,
-    /// A.1 #1 and #2.
+    /// What both sides of the seed of bytes 0 to 31 hold at some levels: bytes 0 to 36 of
+    /// what OpenSSL 3.0.19 made of zeros by `openssl enc -chacha20 -K KEY -iv IV`. IV is the
+    /// counter, four little-endian bytes, and then the nonce as the paper has it: four zeros,
+    /// the level, four zeros.
+    const OPENED: [(usize, [&str; 2]); 4] = [
+        (
+            1,
+            [
+                "2fa4f10250808e89a25231e50fdf6ee071c65f21ef9eee784c3f2d89061ae8951eebde5904",
+                "9f57f35fb52aaf1829b6ae5c52959987c57deb0e476b60adc364b55b8de8dda4d84ad6ace4",
+            ],
+        ),
+        (
+            2,
+            [
+                "54b275d14c65d8174ac3a499cf3e8406a93cc77ac646cbca744fdf1876ad1a39c2f88e38d3",
+                "a9a3fe55e7eaac6ecb4f3f70ccce61b5c490ac2b84b34fe1bda721d1cda42cf590195ab77c",
+            ],
+        ),
+        (
+            31,
+            [
+                "877162d0174a0adfe45fe369188743e68e9c1ec31b376089f9053ea16f45ef18cf4b1edc4a",
+                "13b827bbc48d14575664c7de331e8a7f6b463a9472207d5ef3b45758ec7e35d5ec3be2b238",
+            ],
+        ),
+        (
+            32,
+            [
+                "2efb450880660b3ad565a64ba6a8c0f4d31f08a14267e616040b9450cdcf7881437c372066",
+                "b25db59cc22e481aea53ebf68ca0347078b2eee4f0e5901e6f9e3a60000296f9ecac9ca36f",
+            ],
+        ),
+    ];
+
     #[test]
-    fn a_seed_opens_into_the_published_blocks() {
-        let left = open(&[0; 8], LEFT);
-        assert_eq!((left.seed[0], left.word), (0xade0b876, 0x7c5941da));
-        assert_eq!((left.seed[7], left.flag), (0xc70d778b, true));
-        let right = open(&[0; 8], RIGHT);
-        assert_eq!((right.seed[0], right.word), (0xbee7079f, 0x7621b729));
-        assert_eq!((right.seed[7], right.flag), (0xed7aee32, false));
+    fn a_seed_opens_under_its_level_s_nonce() {
+        let root = seed(&std::array::from_fn(|i| i as u8));
+        for (level, sides) in OPENED {
+            for (side, block) in sides.into_iter().enumerate() {
+                let block: [u8; 37] = field::parse_array(block).unwrap();
+                let child = open(&root, level, side);
+                assert_eq!(child.seed, seed(block[..32].try_into().unwrap()));
+                assert_eq!(child.word.to_le_bytes(), block[32..36]);
+                assert_eq!(child.flag, block[36] & 1 == 1, "level {level}, side {side}");
+            }
+        }
+    }
+
+    /// Sides and levels differ in what they hold: no two have one block.
+    #[test]
+    fn no_two_levels_open_alike() {
+        let levels = (1..=LEVELS).flat_map(|level| [LEFT, RIGHT].map(|side| (level, side)));
+        let seeds = levels.map(|(level, side)| open(&[7; 8], level, side).seed);
+        assert_eq!(seeds.collect::<HashSet<Seed>>().len(), 2 * LEVELS);
+    }
+
+    type Opening = fn(&Seed, usize, usize) -> Child;
+
+    /// The opening of 02 §3, and others that it is not.
+    const OPENINGS: [(&str, Opening); 9] = [
+        ("right", open),
+        ("from 0", |seed, level, side| open(seed, level - 1, side)),
+        ("from 2", |seed, level, side| open(seed, level + 1, side)),
+        ("1 on all", |seed, _, side| open(seed, 1, side)),
+        ("from the lowest bit", |seed, level, side| {
+            open(seed, LEVELS + 1 - level, side)
+        }),
+        ("bytes 0 to 3", |seed, level, side| {
+            open_under(&[level as u32, 0, 0], seed, side)
+        }),
+        ("bytes 8 to 11", |seed, level, side| {
+            open_under(&[0, 0, level as u32], seed, side)
+        }),
+        ("big-endian", |seed, level, side| {
+            open_under(&[0, (level as u32).swap_bytes(), 0], seed, side)
+        }),
+        ("before", older::open),
+    ];
+
+    /// Where maker and walker slip alike, every sum is right and the key's bytes tell it. Where
+    /// one of them slips, some sum is wrong: not those of inputs that leave the point's path
+    /// while the two still open alike.
+    #[test]
+    fn a_slip_shows_in_the_bytes_or_in_a_sum() {
+        let (seeds, point) = ([test_seed(3), test_seed(4)], 0x1234_5678);
+        for (maker, make) in OPENINGS {
+            let key = Key::new_over(make, &seeds, point);
+            assert_eq!(key == Key::new(&seeds, point), maker == "right", "{maker}");
+            for (walker, walk) in OPENINGS {
+                let value = |party: usize, u| key.value_over(walk, party, &seeds[party], u);
+                let right = edges(point).into_iter().all(|u| {
+                    let sum = value(0, u).wrapping_add(value(1, u));
+                    sum == u32::from(u < point)
+                });
+                assert_eq!(right, maker == walker, "{maker} and {walker}");
+            }
+        }
+    }
+
+    /// The block under key 0, nonce 0 and counters 0 and 1 is printed in RFC 8439,
+    /// A.1 #1 and #2. Before 02 §3 a seed opened into these at every level.
+    #[test]
+    fn a_seed_opened_into_the_published_blocks() {
+        for level in 1..=LEVELS {
+            let [left, right] = [LEFT, RIGHT].map(|side| older::open(&[0; 8], level, side));
+            assert_eq!((left.seed[0], left.word), (0xade0b876, 0x7c5941da));
+            assert_eq!((left.seed[7], left.flag), (0xc70d778b, true));
+            assert_eq!((right.seed[0], right.word), (0xbee7079f, 0x7621b729));
+            assert_eq!((right.seed[7], right.flag), (0xed7aee32, false));
+        }
     }
 
     #[test]

@@ -34,6 +34,7 @@ pub mod replay_cases;
 pub mod replay_checks;
 pub mod replay_claim;
 pub mod replay_lists;
+pub mod replay_older;
 pub mod replay_pairs;
 pub mod replay_script;
 pub mod replay_states;

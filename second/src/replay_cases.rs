@@ -1,9 +1,9 @@
 //! The script of the program `test_replay`: whole checks (`replay_checks`), every refusal of
 //! every call with every other one that may apply beside it (here, and `replay_boxes`),
 //! states that no call leaves, sets loaded ahead (`replay_ahead`, `replay_pairs`), and
-//! lists of calls as a bad network and a careless host make them (`replay_lists`). What
-//! is refused, and by which number, stands here and is not asked of this implementation;
-//! so does every joined bit.
+//! lists of calls as a bad network and a careless host make them (`replay_lists`), and
+//! sets dealt before (`replay_older`). What is refused, and by which number, stands here
+//! and is not asked of this implementation; so does every joined bit.
 
 use crate::field;
 use crate::measure::{Measure, MAX_LENGTH};
@@ -366,6 +366,7 @@ pub fn cases() -> Vec<Case> {
     script.bad_lines();
     script.lists();
     script.distances();
+    script.older_sets();
     script.list
 }
 
@@ -377,7 +378,7 @@ mod tests {
     use std::collections::BTreeMap;
 
     /// The most bytes of the script and of its answers.
-    const MAX_STDIN: usize = 262_000;
+    const MAX_STDIN: usize = 524_000;
     const MAX_STDOUT: usize = 120_000;
 
     #[test]

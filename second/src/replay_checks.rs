@@ -1,12 +1,10 @@
 //! The whole checks in the script of `test_replay`: every call accepted, in many orders, and
-//! the joined bit that of the measure over whole numbers. Then checks that end early, and
-//! one of a set whose bit is not that.
+//! the joined bit that of the measure over whole numbers. Then checks that end early.
 
 use crate::checks::vector;
 use crate::measure::{Measure, MAX_LENGTH};
 use crate::replay::BOXES;
 use crate::replay_script::{hex_words, Deal, Script};
-use crate::{field, older, sealed};
 
 /// Lengths at the edges, and where the count of blocks changes.
 const LENGTHS: [usize; 5] = [1, 2, 17, 18, MAX_LENGTH];
@@ -140,7 +138,7 @@ impl Script {
     /// A whole check in some order, which the turn decides: every call is accepted, and
     /// the join says what it must. In some turns each call is handed in twice, in some
     /// the states are shown.
-    fn whole_check(&mut self, check: &Check, turn: usize) {
+    pub fn whole_check(&mut self, check: &Check, turn: usize) {
         let mut done = Vec::new();
         while done.len() < STEPS.len() {
             let ready = |step: &Step| !done.contains(step) && step.is_ready(&done);
@@ -214,8 +212,7 @@ impl Script {
         }
     }
 
-    /// 02, "Distances mean close": the largest distance at a threshold of one less, and a
-    /// set that was dealt before.
+    /// 02, "Distances mean close": the largest distance at a threshold of one less.
     pub fn distances(&mut self) {
         self.start("02", [0; 4]);
         let all = |element: i32| format!("~512:0:{}:0", element as u32);
@@ -223,43 +220,6 @@ impl Script {
         let check = self.check(Measure::Euclid, vectors, 2_145_387_007);
         assert!(!check.reached);
         self.whole_check(&check, 2);
-        self.older_half();
-    }
-
-    /// The office box gets its half as it was dealt before: no call is refused, and the bit is
-    /// not the rule's. Nothing is claimed of such sets.
-    fn older_half(&mut self) {
-        self.claim.off = true;
-        let vectors = ["03000000", "05000000"].map(str::to_string);
-        let check = self.check(Measure::Euclid, vectors, 4);
-        assert!(check.reached);
-        let half = field::format(&self.older_half_of(&check.deal));
-        assert_eq!(self.step(&check, Step::Deal), 0);
-        self.answered(format!("bytes office {half}"), 0);
-        for step in [
-            Load(0),
-            Mask(0),
-            Mask(1),
-            Take(0),
-            Take(1),
-            Finish(0),
-            Finish(1),
-            Step::Join,
-        ] {
-            assert_eq!(self.step(&check, step), 0);
-        }
-        assert_eq!(self.claim.joined[&check.deal.number], 0);
-    }
-
-    /// The office box's half of this deal as it was dealt before.
-    fn older_half_of(&self, deal: &Deal) -> Vec<u8> {
-        let measure = Measure::from_code(deal.code).expect("a code");
-        let (length, threshold) = (deal.length as usize, deal.threshold as i32);
-        let seed = field::parse_array(&deal.seed).expect("a seed");
-        let [_, half] = older::deal(measure, length, threshold, &seed);
-        let name = field::parse_array(&self.door.padded).expect("a name");
-        let key = field::parse_array(&self.door.keys[1]).expect("a key");
-        sealed::half(&name, &key, deal.number, &half)
     }
 
     /// Boxes that have sent nothing yet: no words, then 0.
