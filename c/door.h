@@ -26,14 +26,27 @@
  * just been loaded. Messages go out under the open set's number, check.set.number, and are compared
  * with it. While a set waits, `last` is the waiting set's number: do not send under `last`.
  *
- * Older sets. There was a version in which the lock's 1 meant measure >= T for every code. Its sets
- * for DOOR_EUCLID and DOOR_HAMMING must be scrapped. No call can tell such a half from a new one:
- * it would load, and the lock could report a wrong bit; so it could if one box is of that version
- * and one of this. To scrap them, stop the dealer, both boxes and the lock, and change them all to
- * this version. Then start both boxes and the lock anew, with the dealer's last number as the floor
- * where their own is lower: door_load and door_join refuse by 7 all that is older, wherever it has
- * been; sets for DOOR_SCALAR too, which would still be right. What a box had loaded is gone with the
- * state that its start replaces.
+ * Older sets. Every set that an older version of this library dealt must be scrapped, of every
+ * code: its comparison key was made under other nonces. No call can tell such a half from a new
+ * one. door_load takes it. Where a box is of this version, door_join refuses the two answers by 12
+ * (as good as always): nobody is let in. So it is with a new set where a box is older. Where the
+ * dealer and both boxes are older and the lock alone is new, door_join reports, by the older rule:
+ * for distances that may be the other way about. So change all four parts together:
+ *
+ * 1. Stop the dealer, both boxes and the lock. Go on from no state of before: a box may have loaded
+ *    an older set.
+ * 2. Compare the last numbers. If a box's or the lock's is above the dealer's, the dealer's is an
+ *    old copy, and which halves there are is not known: take new keys and another name instead.
+ * 3. Throw away the halves that were dealt and not loaded: each would be a load refused by 7.
+ * 4. Keep the dealer's last number on disk as that of both boxes and of the lock too, before any
+ *    part starts. Else a power cut before the next load brings the lower one back, and older halves
+ *    load.
+ * 5. Start all four with this version, and with that number as the floor. So door_load and
+ *    door_join refuse by 7 all that is older, wherever it has been. The dealer too: its keys stay,
+ *    and from a lower floor it would use numbers twice, and with them the nonces of sealing.
+ *
+ * Keys and names stay. Look at the thresholds if the older version is one in which the lock's 1
+ * meant measure >= T for distances too.
  *
  * Refusals. `why` is 0 for an accepted call, else the number of the first test that failed, lowest
  * first (enum door_refusal). A refused call changes nothing: the answer holds the state that was
@@ -109,7 +122,7 @@ enum door_refusal {
     /* A half of another door or party, with a code, an L or a flag byte out of range, with a block
        count that doesn't fit L, or with a fill that is not zero. */
     DOOR_BAD_CONTENT = 11,
-    /* The joined sum is not 0 or 1. */
+    /* The joined sum is not 0 or 1. A box or the dealer may be of another version (Older sets). */
     DOOR_BAD_SUM = 12
 };
 

@@ -1,9 +1,11 @@
 /*
  * Calls every function of door.h as a host does: whole checks, whose answers must be those of the
  * measure computed here, and each refusal of each call, which must change nothing, empty slices with
- * a null pointer among them. Its argument is the level that must be in use. c/test runs it.
+ * a null pointer among them; and a set that an older version dealt, which must come to nothing. Its
+ * argument is the level that must be in use. c/test runs it.
  */
 #include "door.h"
+#include "older.h"
 
 #include <stdbool.h>
 #include <stdio.h>
@@ -1540,6 +1542,78 @@ static void overlaps(void)
         }
 }
 
+/* A set that an older version dealt. */
+
+static void from_hex(const char *hex, uint8_t *bytes, size_t size)
+{
+    size_t read = 0;
+    for (unsigned byte; read < size && sscanf(hex + 2 * read, "%2x", &byte) == 1; read++)
+        bytes[read] = (uint8_t)byte;
+    EXPECT(read == size && strlen(hex) == 2 * size);
+}
+
+/* The door's keys, and the seed of the next deal, are those of the older set from here on. */
+static void take_older_keys(void)
+{
+    for (uint8_t i = 0; i < DOOR_KEY; i++) {
+        keys[0][i] = OLDER_KEY0 + i;
+        keys[1][i] = OLDER_KEY1 + i;
+        seed[i] = OLDER_SEED + i;
+    }
+}
+
+/* Of what a half has, the same deal by this version changes the key alone: every correction of it,
+   and its last word. */
+static void differs_in_key(const struct door_set *old, uint32_t party, const struct check *k)
+{
+    static struct halves h;
+    struct door_dealer dealer = dealer_of(BARE, sizeof BARE, OLDER_NUMBER - 1);
+    EXPECT(deal(dealer, OLDER_NUMBER, k, &h).why == DOOR_ACCEPTED);
+    struct door_party_answer a =
+        door_load(idle(party, OLDER_NUMBER - 1), h.half[party], half_size(k->terms.n));
+    struct door_set *new = &a.party.check.set;
+    EXPECT(a.why == DOOR_ACCEPTED);
+    for (int level = 0; level < 32; level++)
+        EXPECT(!SAME(&old->key, &new->key, corrections[level].seed));
+    EXPECT(old->key.last != new->key.last);
+    new->key = old->key;
+    EXPECT(same_set(old, new));
+}
+
+/* It loads, and the boxes answer. The lock refuses the answers by 12 and stays as it is; one that
+   starts from the dealer's last number refuses them by 7. */
+static void comes_to_nothing(struct door *d, const struct check *k, const struct halves *h)
+{
+    struct vector sent[2];
+    uint32_t words[2], answers[2];
+    loads(d, OLDER_NUMBER, k, h);
+    fit(&d->box[0].check.set, &d->box[1].check.set);
+    differs_in_key(&d->box[0].check.set, 0, k);
+    differs_in_key(&d->box[1].check.set, 1, k);
+    masks(d, k, sent);
+    takes(d, OLDER_NUMBER, k, sent, words);
+    finishes(d, OLDER_NUMBER, words, answers);
+    const struct join j = join_of(OLDER_NUMBER, answers[0], answers[1]);
+    EXPECT(join(d->last, &j, d->last) == LOCK_REFUSED + DOOR_BAD_SUM);
+    EXPECT(join(OLDER_NUMBER, &j, OLDER_NUMBER) == LOCK_REFUSED + DOOR_WRONG_NUMBER);
+}
+
+/* A box that starts from the dealer's last number refuses it too, and the next set is answered. */
+static void older_set(void)
+{
+    static struct halves h;
+    const struct check k = {.terms = {DOOR_SCALAR, 1}, .t = OLDER_T, .v = {{2}, {3}}};
+    take_older_keys();
+    struct door d = open_door(OLDER_NUMBER - 1);
+    for (uint32_t party = 0; party < 2; party++) {
+        from_hex(OLDER_HALF[party], h.half[party], half_size(1));
+        const struct door_party started = idle(party, OLDER_NUMBER);
+        load_refused(&started, h.half[party], half_size(1), DOOR_WRONG_NUMBER);
+    }
+    comes_to_nothing(&d, &k, &h);
+    EXPECT(whole(&d, OLDER_NUMBER + 1, &k) == 1);
+}
+
 int main(int count, char **arguments)
 {
     if (count > 1)
@@ -1570,5 +1644,6 @@ int main(int count, char **arguments)
     for (int i = 0; i < 4; i++)
         overlaps();
     joins();
+    older_set();
     printf("c/test: %s: %ld passed\n", door_level(), passed);
 }

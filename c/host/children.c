@@ -73,12 +73,13 @@ int run_and_hear(char *const arguments[], char said[SAID_ROOM])
     return status;
 }
 
-bool run_cut_short(char *const arguments[], const char *moment, unsigned at)
+bool run_cut_short(
+    char *const arguments[], const char *moment, unsigned at, char said[SAID_ROOM])
 {
     char number[16];
     snprintf(number, sizeof number, "%u", at);
     EXPECT(setenv(moment, number, 1) == 0, "setenv: %s", strerror(errno));
-    int status = run_to_end(arguments);
+    int status = run_and_hear(arguments, said);
     EXPECT(unsetenv(moment) == 0, "unsetenv: %s", strerror(errno));
     EXPECT(status == 0 || status == 128 + SIGKILL, "the program ended with status %d", status);
     return status != 0;

@@ -145,7 +145,8 @@ bool write_durably(const char *folder, const char *file, const void *bytes, size
 
 /* The number and what it lacks to 2^64 - 1, each in twenty digits, and the version, which version 1
    left out: whatever tears or damages the numbers, the file is then no longer one that is ever
-   written. And a program of version 1 takes it for damaged, and does not start. */
+   written. And no older program starts with it: one of version 1 takes it for damaged, later ones
+   read that it is newer. */
 #define LAST_MOST 63
 
 static size_t last_text(uint64_t last, uint64_t version, char text[LAST_MOST + 1])

@@ -31,9 +31,10 @@ bool write_durably(const char *folder, const char *file, const void *bytes, size
 
 /* A part's high-water mark: the last set number that is spent, and the version, the rule by which
    the sets above it are dealt and judged. In version 1 the lock's 1 meant measure >= T for
-   distances too. The calls cannot tell such a set from a new one. A file that is missing, torn or
-   damaged is never read as any number. */
-#define SETS_VERSION 2
+   distances too. In versions 1 and 2 each node of a comparison key was opened under a nonce of
+   zeros; now the level of its children is in the nonce. The calls cannot tell an older set from a
+   new one. A file that is missing, torn or damaged is never read as any number. */
+#define SETS_VERSION 3
 
 bool read_last(const char *folder, uint64_t *last, uint64_t *version);
 bool write_last(const char *folder, uint64_t last); /* of SETS_VERSION */

@@ -70,7 +70,8 @@ const char *refusal_words(uint32_t why)
         [DOOR_BAD_BLOCK] = "a block is out of place, of another set, or its tag does not fit",
         [DOOR_BAD_CONTENT] =
             "the half is for another door or box, or has content that no deal writes",
-        [DOOR_BAD_SUM] = "the two answers do not sum to 0 or 1",
+        [DOOR_BAD_SUM] = "the two answers do not sum to 0 or 1; a box or the dealer may be of "
+                         "another version",
     };
     return why < sizeof words / sizeof *words ? words[why] : "a number that no call answers";
 }

@@ -46,7 +46,8 @@ int run_and_hear(char *const arguments[], char said[SAID_ROOM]);
 
 /* The same, but the process is killed at the n-th of these moments (powercut.h), or ends well with
    status 0 before it comes there: whether it was killed. */
-bool run_cut_short(char *const arguments[], const char *moment, unsigned at);
+bool run_cut_short(
+    char *const arguments[], const char *moment, unsigned at, char said[SAID_ROOM]);
 
 /* A file as it is put there by hand. */
 void put_file(const char *path, const void *bytes, size_t size);

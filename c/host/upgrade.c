@@ -5,15 +5,16 @@
  * dealer's last one. With that as their own last number, the boxes refuse each of them, also one
  * that lies on no stick just now, and the lock refuses what a box had answered with one.
  *
- * A part's number and its version are one file, and a part starts only with this version. So
- * whatever is cut short, a part that starts has its number raised, and another run does what is
- * missing.
+ * A part's number and its version are one file, and this program starts a part only with this
+ * version. So whatever is cut short, a part that it starts has its number raised, and another run
+ * does what is missing.
  */
 #include "host.h"
 
 #include <inttypes.h>
 
 #define OWNERS (LOCK + 1) /* parts that have a folder */
+#define CLOSE_SINCE 2     /* from this version on distances open up to the threshold */
 
 struct found {
     uint64_t last[OWNERS];
@@ -74,21 +75,43 @@ static bool clear_sticks(void)
         && force_folder("stick/camera") && force_folder("stick/office");
 }
 
-/* That of a part which has this version already is written too: a run that was cut short may not
-   have forced it to disk. */
+/* The dealer comes first: once any part has this version, no older dealer starts, so none deals on
+   above the number that the others get. A part that has this version already is written too: a run
+   that was cut short may not have forced it to disk. */
 static bool raise_lasts(const struct found *found)
 {
-    for (enum part part = CAMERA; part <= LOCK; part++)
-        if (!write_last(PART[part].command, found->last[DEALER]))
+    static const enum part order[OWNERS] = {DEALER, CAMERA, OFFICE, LOCK};
+    for (size_t i = 0; i < OWNERS; i++)
+        if (!write_last(PART[order[i]].command, found->last[DEALER]))
             return false;
     return true;
+}
+
+/* A run that was killed may have put the last of the numbers in place and no more: a power cut
+   would make that part an older one again. */
+static bool force_lasts(void)
+{
+    for (enum part part = CAMERA; part <= LOCK; part++)
+        if (!force_folder(PART[part].command))
+            return false;
+    return true;
+}
+
+/* Whether some part is from before the rule for distances changed. */
+static bool has_older_rule(const struct found *found)
+{
+    for (enum part part = CAMERA; part <= LOCK; part++)
+        if (found->version[part] < CLOSE_SINCE)
+            return true;
+    return false;
 }
 
 /* The threshold comes first: whatever is cut short afterwards, it was said. */
 static bool upgrade(const struct found *found)
 {
-    say("for distances (codes 1 and 2) the lock now opens up to the threshold, and no longer from "
-        "it on: see that dealer/settings has the right one");
+    if (has_older_rule(found))
+        say("for distances (codes 1 and 2) the lock now opens up to the threshold, and no longer "
+            "from it on: see that dealer/settings has the right one");
     if (clear_sticks() && raise_lasts(found))
         return true;
     say("the upgrade is not finished, and not every part starts: run it again");
@@ -101,6 +124,8 @@ int run_upgrade(void)
     if (!claim_all() || !read_lasts(&found))
         return EXIT_TROUBLE;
     if (is_done(&found)) {
+        if (!force_lasts())
+            return EXIT_TROUBLE;
         say("this folder is of this version already; nothing was changed");
         return EXIT_OPEN;
     }

@@ -20,11 +20,28 @@
 #define CUTS 70            /* at the least */
 #define CUTS_BETWEEN 20    /* at the least, with this version at some parts and not at others */
 
+/* What stands behind a part's last number. */
+#define VERSION_1 "" /* which left it out */
+#define VERSION_2 " 2"
+#define THIS_VERSION " 3"
+#define NEWER_VERSION " 4"
+#define NUMBERS 41   /* bytes before it */
+#define SIZE_OF_2 44 /* bytes of a file of version 2 */
+
+/* An older folder: which parts have version 2, a bit for each. The others have version 1, as where
+   an upgrade to version 2 was cut short. Every other one is meant in the order in which an upgrade
+   writes them: the dealer, the camera box, the office box, the lock. */
+#define ALL_1 0u
+#define ALL_2 15u
+#define EVERY_OTHER (1u << DEALER | 1u << OFFICE)
+
 struct upgrade_tally upgrade_tally;
 
 static char *const UPGRADE[] = {"door-host", "upgrade", ".", NULL};
 static const char *const STICK[] = {"stick/camera", "stick/office"};
 static const char ASKS_FOR_UPGRADE[] = "run: door-host upgrade FOLDER";
+static const char USE_NEWER[] = "is from a newer version of this program";
+static const char ON_THRESHOLD[] = "see that dealer/settings has the right one";
 
 /* A file's bytes. */
 struct content {
@@ -91,8 +108,7 @@ static void path_of(char path[PATH_ROOM], enum part part, const char *file)
     snprintf(path, PATH_ROOM, "%s/%s", PART[part].command, file);
 }
 
-/* A part's last number with this version behind it, or none as in version 1; its first bytes, so
-   many. */
+/* A part's last number with this version behind it; of the file the first bytes, so many. */
 static void put_last(enum part part, uint64_t last, const char *version, size_t most)
 {
     char path[PATH_ROOM], text[2 * PATH_ROOM];
@@ -107,17 +123,34 @@ static void put_version(enum part part, const char *version)
     put_last(part, older.last[part], version, SIZE_MAX);
 }
 
-/* The number in a part's file, where it has this version; else 0, as in an older folder. */
-static uint64_t upgraded_last(enum part part)
+/* The number in a part's file, and whether that version stands behind it. */
+static bool has_version(enum part part, const char *version, uint64_t *last)
 {
-    char path[PATH_ROOM], text[2 * PATH_ROOM];
-    uint64_t last;
+    char path[PATH_ROOM], text[2 * PATH_ROOM], right[PATH_ROOM];
     size_t size;
     path_of(path, part, "last");
     EXPECT(read_file(path, text, sizeof text - 1, &size), "no %s", path);
     text[size] = '\0';
-    EXPECT(sscanf(text, "%" SCNu64, &last) == 1, "no number in %s", path);
-    return size > 3 && strcmp(text + size - 3, " 2\n") == 0 ? last : 0;
+    EXPECT(size > NUMBERS && sscanf(text, "%" SCNu64, last) == 1, "no number in %s", path);
+    snprintf(right, sizeof right, "%s\n", version);
+    return strcmp(text + NUMBERS, right) == 0;
+}
+
+/* The number in a part's file, where it has this version; else 0, as in an older folder. */
+static uint64_t upgraded_last(enum part part)
+{
+    uint64_t last;
+    return has_version(part, THIS_VERSION, &last) ? last : 0;
+}
+
+/* Whether some part has version 1. */
+static bool is_version_1_left(void)
+{
+    uint64_t last;
+    for (enum part part = CAMERA; part <= LOCK; part++)
+        if (has_version(part, VERSION_1, &last))
+            return true;
+    return false;
 }
 
 static void lose_all_power(void)
@@ -136,13 +169,18 @@ static void put_halves_back(void)
     }
 }
 
+static const char *version_in(unsigned folder, enum part part)
+{
+    return (folder >> part & 1) != 0 ? VERSION_2 : VERSION_1;
+}
+
 /* All parts are down. Whatever an upgrade has left is as if it had not been, the marks of what was
    not forced to disk included. */
-static void make_older(void)
+static void make_older(unsigned folder)
 {
     lose_all_power();
     for (enum part part = CAMERA; part <= LOCK; part++)
-        put_version(part, "");
+        put_version(part, version_in(folder, part));
     put_halves_back();
 }
 
@@ -191,7 +229,7 @@ static void expect_trouble(const char *command, const char *words)
 static void other_version(enum part part, const char *text, const char *words)
 {
     for (enum part other = CAMERA; other <= LOCK; other++)
-        put_version(other, other == part ? text : " 2");
+        put_version(other, other == part ? text : THIS_VERSION);
     expect_trouble(PART[part].command, words);
     if (words != ASKS_FOR_UPGRADE)
         expect_trouble("upgrade", words);
@@ -199,28 +237,40 @@ static void other_version(enum part part, const char *text, const char *words)
 
 static void other_versions(enum part part)
 {
-    static const char *const lower[] = {"", " 0"};
-    static const char *const higher[] = {" 3", " 12", " 18446744073709551615"};
-    static const char *const damaged[] = {" ", " 1", "2", " 02", "  2", " 2 ", " +2", " -2",
-        " 2\n", " 2\n2", " 2\r", " 2.0", " two", " 18446744073709551618",
-        " 2                                        "};
-    make_older();
+    static const char *const lower[] = {VERSION_1, VERSION_2, " 0"};
+    static const char *const higher[] = {NEWER_VERSION, " 12", " 18446744073709551615"};
+    static const char *const damaged[] = {" ", " 1", " 02", "  2", " 2 ", " 2\n3", "3", " 03",
+        "  3", " 3 ", " +3", " -3", " 3\n", " 3\n3", " 3\r", " 3.0", " three",
+        " 18446744073709551619", " 3                                        "};
+    make_older(ALL_2);
     for (size_t i = 0; i < sizeof lower / sizeof *lower; i++)
         other_version(part, lower[i], ASKS_FOR_UPGRADE);
     for (size_t i = 0; i < sizeof higher / sizeof *higher; i++)
-        other_version(part, higher[i], "is from a newer version of this program");
+        other_version(part, higher[i], USE_NEWER);
     for (size_t i = 0; i < sizeof damaged / sizeof *damaged; i++)
         other_version(part, damaged[i], "/last is torn or damaged");
+}
+
+/* One part is newer among older ones. */
+static void not_with_newer_part(enum part part)
+{
+    static const unsigned folders[] = {ALL_1, ALL_2};
+    for (size_t i = 0; i < sizeof folders / sizeof *folders; i++) {
+        make_older(folders[i]);
+        put_version(part, NEWER_VERSION);
+        expect_trouble("upgrade", USE_NEWER);
+    }
 }
 
 /* One part runs, which was started before its folder was an older one. */
 static void not_while_running(enum part part)
 {
-    make_older();
-    put_version(part, " 2");
+    const unsigned folder = part % 2 == 0 ? ALL_1 : ALL_2;
+    make_older(folder);
+    put_version(part, THIS_VERSION);
     start_child(part);
     hear_from(part);
-    put_version(part, "");
+    put_version(part, version_in(folder, part));
     expect_trouble("upgrade", "stop all parts first");
     stop_child(part);
 }
@@ -228,9 +278,9 @@ static void not_while_running(enum part part)
 static void not_with_damaged_last(enum part part)
 {
     char path[PATH_ROOM];
-    make_older();
+    make_older(ALL_2);
     path_of(path, part, "last");
-    put_last(part, older.last[part], "", chance(42)); /* it has 42 bytes */
+    put_last(part, older.last[part], VERSION_2, chance(SIZE_OF_2));
     expect_trouble("upgrade", "/last is torn or damaged");
     EXPECT(unlink(path) == 0, "cannot remove %s", path);
     expect_trouble("upgrade", "/last: No such file");
@@ -239,8 +289,8 @@ static void not_with_damaged_last(enum part part)
 /* A dealer's number that is behind another's is from an older copy of its folder. */
 static void not_with_dealer_behind(enum part part)
 {
-    make_older();
-    put_last(part, older.dealt + 1, "", SIZE_MAX);
+    make_older(ALL_2);
+    put_last(part, older.dealt + 1, VERSION_2, SIZE_MAX);
     expect_trouble("upgrade", "is above the dealer's");
 }
 
@@ -269,7 +319,8 @@ static void inspect_version(enum part part)
         "the %s has this version, and a power cut would leave older halves", PART[part].title);
 }
 
-/* How many parts have this version. */
+/* How many parts have this version. The dealer is the first: an older program would still deal
+   otherwise. */
 static unsigned inspect_versions(void)
 {
     unsigned count = 0;
@@ -277,6 +328,8 @@ static unsigned inspect_versions(void)
         if (upgraded_last(part) != 0) {
             count++;
             inspect_version(part);
+            EXPECT(upgraded_last(DEALER) != 0,
+                "the %s has this version, and an older dealer could deal on", PART[part].title);
         }
     return count;
 }
@@ -301,35 +354,91 @@ static void start_or_not(enum part part)
         expect_trouble(PART[part].command, ASKS_FOR_UPGRADE);
 }
 
-static void upgrade_to_end(void)
+/* A person has to look at the threshold where a part had version 1, and there alone. */
+static void expect_on_threshold(const char *said, bool had_version_1)
 {
-    EXPECT(run_to_end(UPGRADE) == 0, "the upgrade fails");
+    EXPECT((strstr(said, ON_THRESHOLD) != NULL) == had_version_1,
+        "%s version 1 an upgrade says: %s", had_version_1 ? "from" : "without", said);
+}
+
+/* Whether no power cut brings the part's file from before back. Of the dealer the number does not
+   tell: an upgrade leaves it as it is. */
+static bool is_forced(enum part part)
+{
+    char path[PATH_ROOM];
+    path_of(path, part, "last" MARK_OLD);
+    return access(path, F_OK) != 0;
+}
+
+/* All parts have this version and this number, beyond any power cut. */
+static void expect_upgraded(uint64_t last)
+{
     EXPECT(inspect_versions() == LOCK + 1, "the upgrade leaves an older part");
-    for (enum part part = CAMERA; part <= LOCK; part++)
-        EXPECT(upgraded_last(part) == older.dealt && durable_last(part) == older.dealt,
-            "the %s is at %" PRIu64 ", after a power cut at %" PRIu64, PART[part].title,
-            upgraded_last(part), durable_last(part));
+    for (enum part part = CAMERA; part <= LOCK; part++) {
+        EXPECT(upgraded_last(part) == last && durable_last(part) == last,
+            "the %s is at %" PRIu64 ", after a power cut at %" PRIu64 ", and has to be at %" PRIu64,
+            PART[part].title, upgraded_last(part), durable_last(part), last);
+        EXPECT(is_forced(part), "after a power cut the %s may be of an older version",
+            PART[part].title);
+    }
     EXPECT(hash_of_all(is_kept) == older.kept, "keys, names, settings or vectors have changed");
+}
+
+static void upgrade_to_end(uint64_t last)
+{
+    char said[SAID_ROOM];
+    const bool had_version_1 = is_version_1_left();
+    EXPECT(run_and_hear(UPGRADE, said) == 0, "the upgrade fails");
+    expect_on_threshold(said, had_version_1);
+    expect_upgraded(last);
+}
+
+static void expect_already(void)
+{
+    char said[SAID_ROOM];
+    EXPECT(run_and_hear(UPGRADE, said) == 0 && strstr(said, "of this version already") != NULL,
+        "an upgrade where there is nothing to do says: %s", said);
 }
 
 /* Not even the halves on the sticks: in a folder of this version they are good ones. */
 static void changes_nothing_twice(void)
 {
-    char said[SAID_ROOM];
-    make_older();
-    upgrade_to_end();
+    make_older(ALL_1);
+    upgrade_to_end(older.dealt);
     put_halves_back();
     const uint64_t before = hash_of_all(is_state);
-    EXPECT(run_and_hear(UPGRADE, said) == 0 && strstr(said, "of this version already") != NULL,
-        "a second upgrade says: %s", said);
+    expect_already();
     EXPECT(hash_of_all(is_state) == before, "a second upgrade has changed something");
+}
+
+/* With version 1 and version 2 at the parts in every way. */
+static void from_each_folder(void)
+{
+    for (unsigned folder = ALL_1; folder <= ALL_2; folder++) {
+        make_older(folder);
+        upgrade_to_end(older.dealt);
+    }
+}
+
+/* A part has this version, and an older dealer has dealt on since. No cut of this upgrade comes to
+   that, but folders that were brought together by hand may. */
+static void dealt_on(enum part part)
+{
+    make_older(ALL_2);
+    put_last(part, older.dealt, THIS_VERSION, SIZE_MAX);
+    put_last(DEALER, older.dealt + 1, VERSION_2, SIZE_MAX);
+    upgrade_to_end(older.dealt + 1);
 }
 
 /* Whether the upgrade came to this moment and was cut short there. */
 static bool cut_upgrade(const char *moment, unsigned at, bool power_fails)
 {
+    char said[SAID_ROOM];
+    const bool had_version_1 = is_version_1_left();
     EXPECT(at < MOMENTS_MOST, "an upgrade comes to no end");
-    if (!run_cut_short(UPGRADE, moment, at))
+    const bool was_cut = run_cut_short(UPGRADE, moment, at, said);
+    expect_on_threshold(said, had_version_1);
+    if (!was_cut)
         return false;
     inspect_versions();
     if (power_fails)
@@ -341,33 +450,62 @@ static bool cut_upgrade(const char *moment, unsigned at, bool power_fails)
     return true;
 }
 
-/* At every step in turn. Then each part starts or does not, and a second run finishes the job. */
+/* At every step in turn, from version 1 and from version 2 by turns. Where the power fails it is
+   the other one, so that each step is cut from both. Then each part starts or does not, and a
+   second run finishes the job. */
 static void cut_at_steps(bool power_fails)
 {
     bool was_cut = true;
     for (unsigned step = 1; was_cut; step++) {
-        make_older();
+        make_older((step + power_fails) % 2 == 0 ? ALL_1 : ALL_2);
         was_cut = cut_upgrade(BEFORE_STEP, step, power_fails);
         for (enum part part = CAMERA; was_cut && part <= LOCK; part++)
             start_or_not(part);
         if (was_cut)
-            upgrade_to_end();
+            upgrade_to_end(older.dealt);
     }
+}
+
+/* Killed when it had put a file in its place and not forced it to disk, at every such moment. No
+   part starts, which would force it: the second run has to. */
+static void killed_after_renames(void)
+{
+    bool was_cut = true;
+    for (unsigned at = 1; was_cut; at++) {
+        make_older(at % 2 == 0 ? ALL_1 : ALL_2);
+        was_cut = cut_upgrade(AFTER_RENAME, at, false);
+        if (was_cut)
+            upgrade_to_end(older.dealt);
+    }
+}
+
+/* Killed after its last rename. What the next run says to be done already must outlast a power
+   cut. */
+static void already_outlasts_power(void)
+{
+    make_older(ALL_2);
+    EXPECT(cut_upgrade(AFTER_RENAME, LOCK + 1, false) && inspect_versions() == LOCK + 1,
+        "an upgrade puts its last file somewhere else");
+    expect_already();
+    expect_upgraded(older.dealt);
+    lose_all_power();
+    expect_upgraded(older.dealt);
 }
 
 /* After a first run that was killed when it had put a file in its place, so that the file is there
    and not forced to disk: a second run is cut short too, at every such moment, and with it goes the
-   power. Whether there was a first one. */
+   power. Each second run finds all three versions, as long as two parts are older. Whether there
+   was a first one. */
 static bool cut_twice(unsigned first)
 {
     bool was_cut = false;
     for (unsigned second = 1; second == 1 || was_cut; second++) {
-        make_older();
+        make_older(second % 2 == 0 ? EVERY_OTHER : ALL_2 - EVERY_OTHER);
         if (!cut_upgrade(AFTER_RENAME, first, false))
             return false;
         was_cut = cut_upgrade(AFTER_RENAME, second, true);
         if (was_cut)
-            upgrade_to_end();
+            upgrade_to_end(older.dealt);
     }
     return true;
 }
@@ -396,20 +534,27 @@ void versions(void)
     take_down_older();
     for (enum part part = CAMERA; part <= LOCK; part++) {
         other_versions(part);
+        not_with_newer_part(part);
         not_while_running(part);
         not_with_damaged_last(part);
         if (part != DEALER)
             not_with_dealer_behind(part);
     }
     changes_nothing_twice();
+    from_each_folder();
     cut_at_steps(false);
     cut_at_steps(true);
+    killed_after_renames();
+    already_outlasts_power();
     for (unsigned first = 1; cut_twice(first);)
         first++;
+    for (enum part part = CAMERA; part <= LOCK; part++)
+        if (part != DEALER)
+            dealt_on(part);
     EXPECT(upgrade_tally.cuts >= CUTS && upgrade_tally.between >= CUTS_BETWEEN,
         "upgrades were cut short only %lu times, %lu between the versions", upgrade_tally.cuts,
         upgrade_tally.between);
-    make_older();
-    upgrade_to_end();
+    make_older(ALL_2);
+    upgrade_to_end(older.dealt);
     start_again();
 }
