@@ -1,9 +1,10 @@
 -- A key in the ranges of its fields, whatever the key seeds and the point: 32 corrections, each of a seed of eight
--- words, a word and two flags, and a final word. Assumes nothing.
+-- words, a word and two flags, and a final word. And the seeds that are opened, in key making and in walks, have eight
+-- words. Assumes nothing.
 use mathlib.Core.Path.{_≡_, refl, sym, ap, _∙_}
 use mathlib.Core.Bool.{Bool, true, false, not}
 use mathlib.Core.List.{List, [], _∷_, _++_, zipWith}
-use Prim.Native.Nat.{ℕ, zero, suc, _+_, _*_, _^_, _<_}
+use Prim.Native.Nat.{ℕ, zero, suc, _+_, _*_, _^_, _<_, _≤_}
 use native.Mathlib.Nat.{suc-inj}
 use native.Mathlib.Omega.{arith}
 use lib.Bits.{xor-lt}
@@ -18,8 +19,10 @@ use Rattle.chacha20_rounds.specs.Rounds.{blockFrom}
 use Rattle.chacha20_block.specs.ChaCha20.{block}
 use Rattle.dcf_function.specs.Dcf as D
 use Rattle.dcf_node.specs.declared.Correction.{Correction}
+use Rattle.dcf_node.specs.declared.Key.{Key}
 use Rattle.dcf_node.specs.Node.{child, nodeNonce, openedBlock, node, first, packed, corrections, keyFor}
-use Rattle.dcf_node.specs.Claims.{seed-length, length-corrections, blockword-lt}
+use Rattle.dcf_node.specs.Node.{correctionAt, walkOf}
+use Rattle.dcf_node.specs.Claims.{seed-length, length-corrections, at-level, blockword-lt}
 
 -- each element is a word
 abbrev pub Below : List ℕ → Type 0
@@ -55,6 +58,28 @@ xors-below (x ∷ a) [] h k i = omega arith
 xors-below (x ∷ a) (y ∷ b) h k zero = xor-lt 32 x y (h zero) (k zero)
 xors-below (x ∷ a) (y ∷ b) h k (suc i) = xors-below a b (λ j. h (suc j)) (λ j. k (suc j)) i
 
+-- ---- seeds of eight words
+
+abbrev pub Eight : List ℕ → Type 0
+Eight s = (length s ≡ 8) × Below s
+
+child-eight : (i : ℕ) (s : List ℕ) (d : Bool) → Eight ((node i s d) .seed)
+child-eight i s d = (seed-length i s d, seed-below i s d)
+
+xors-eight : (a b : List ℕ) → Eight a → Eight b → Eight (xors a b)
+xors-eight a b ha hb = (length-xors a b (ha .0 ∙ sym (hb .0)) ∙ hb .0, xors-below a b (ha .1) (hb .1))
+
+correction-eight : (i : ℕ) (b : Bool) (g : D.Making (List ℕ))
+    → Eight ((D.levelCorrection xors node first i b g) .seed)
+unfolding D.levelCorrection D.correction
+correction-eight i b g = xors-eight _ _ (child-eight i (g .s0) (not b)) (child-eight i (g .s1) (not b))
+
+next-eight : (c : D.Correction (List ℕ)) (t : Bool) (k : D.Child (List ℕ)) → Eight (c .seed) → Eight (k .seed)
+    → Eight (D.nextSeed xors c t k)
+unfolding D.nextSeed D.corrected
+next-eight c true k hc hk = xors-eight (k .seed) (c .seed) hk hc
+next-eight c false k hc hk = hk
+
 -- ---- a correction
 
 pub record Fits (c : Correction) : Type 0 where
@@ -67,9 +92,8 @@ level-fits : (i : ℕ) (b : Bool) (g : D.Making (List ℕ)) → Fits (packed (D.
 unfolding packed D.levelCorrection D.correction
 level-fits i b g =
     record {
-      seed-long = length-xors _ _ (seed-length i (g .s0) (not b) ∙ sym (seed-length i (g .s1) (not b)))
-          ∙ seed-length i (g .s1) (not b);
-      seed-below = xors-below _ _ (seed-below i (g .s0) (not b)) (seed-below i (g .s1) (not b));
+      seed-long = correction-eight i b g .0;
+      seed-below = correction-eight i b g .1;
       word-below = add-lt _ _;
       flags-below = two _ _;
     }
@@ -111,3 +135,28 @@ key-fits k0 k1 r d i h = corrections-fit k0 k1 r 32 d i h
 pub last-below : (k0 k1 : List ℕ) (r : ℕ) → (keyFor k0 k1 r) .last < 2 ^ 32
 unfolding keyFor D.finalWord D.lastWord
 last-below k0 k1 r = signed-lt _ _ _
+
+-- ---- the seeds that are opened, where the key seeds have eight words
+
+module _ (k0 k1 : List ℕ) (point : ℕ) where
+  pub making-eight : Eight k0 → Eight k1 → (i : ℕ)
+      → (let g : D.Making (List ℕ) = D.making xors node first k0 k1 (D.bits 32 point) i in
+      Eight (g .s0) × Eight (g .s1))
+  unfolding D.making D.nextMaking D.kept
+  making-eight h0 h1 zero = (h0, h1)
+  making-eight h0 h1 (suc i) = (
+    next-eight _ _ _ (correction-eight i _ _) (child-eight i _ _),
+    next-eight _ _ _ (correction-eight i _ _) (child-eight i _ _),
+  )
+
+  pub key-eight : (i : ℕ) → i < 32 → Eight ((correctionAt ((keyFor k0 k1 point) .corrections) i) .seed)
+  unfolding keyFor D.keyCorrection
+  key-eight i h = rw (at-level k0 k1 point 32 i h) (correction-eight i _ _)
+
+pub walk-eight : (party : ℕ) (key : Key) (seed : List ℕ) (u : ℕ) → Eight seed
+    → ((i : ℕ) → i < 32 → Eight ((correctionAt (key .corrections) i) .seed)) → (i : ℕ) → i ≤ 32
+    → Eight ((walkOf party key seed u i) .seed)
+unfolding walkOf D.walk D.nextWalk D.taken
+walk-eight party key seed u h fits zero l = h
+walk-eight party key seed u h fits (suc i) l =
+    next-eight _ _ _ (fits i (omega arith)) (child-eight i _ _)

@@ -2,11 +2,11 @@
 -- 8439's block under it, and that in every key and every walk the root's children are of level 1, and so on to 32.
 -- Assumes nothing. [SPEC 6.2, 6.7, 6.8, 7.2, 7.3, 8.1, 8.3]
 use mathlib.Core.Path.{_≡_, refl, sym, ap, ap₂, _∙_}
-use mathlib.Core.Bool.{Bool}
+use mathlib.Core.Bool.{Bool, true, false}
 use mathlib.Core.List.{List, [], _∷_, _++_}
 use Prim.Native.Nat.{ℕ, suc, _+_, _*_, _^_, _<_}
 use native.Mathlib.Omega.{arith}
-use lib.ListN.{length, getD, replicate}
+use lib.ListN.{getD, take, replicate}
 use Rattle.base_algebra.specs.Bit.{only, odd}
 use Rattle.base_words.specs.List.{tab, tab-ext, tab-getD}
 use Rattle.base_words.specs.Bytes.{le32, bytesOf, wordAt, wordsAt, wordAt-bytesOf}
@@ -16,7 +16,8 @@ use Rattle.dcf_function.specs.Dcf as D
 use Rattle.dcf_node.specs.declared.Key.{Key}
 use Rattle.dcf_node.specs.Node.{child, nodeNonce, openedBlock, node, first, corrections, keyFor, correctionAt}
 use Rattle.dcf_node.specs.Node.{walkOf, valueAt}
-use Rattle.dcf_node.specs.Claims.{at-level}
+use Rattle.dcf_node.specs.Claims.{at-level, in-bytes}
+use Rattle.dcf_node.specs.Bounds.{Eight}
 
 -- ---- the nonce
 
@@ -28,39 +29,54 @@ pub nonce-bytes : (level : ℕ) → bytesOf (nodeNonce level) ≡ nonceOf level
 unfolding nodeNonce bytesOf le32
 nonce-bytes level = refl
 
--- eight words as the cipher reads them from a key's bytes
-key-words : (seed : List ℕ) → length seed ≡ 8 → ((i : ℕ) → getD seed i 0 < 2 ^ 32) → wordsAt 8 (bytesOf seed) ≡ seed
-unfolding wordsAt
-key-words seed long below =
-    tab-ext (λ i. wordAt (bytesOf seed) (4 * i)) (λ i. getD seed i 0) 8 (λ i h.
-    wordAt-bytesOf seed i (omega (arith, long)) (below i)) ∙ ap (tab (λ i. getD seed i 0)) (sym long) ∙ tab-getD seed
-
 module _ (level : ℕ) (fits : level < 2 ^ 32) where
   -- the level is read off bytes 4 to 7
   pub level-in : wordAt (bytesOf (nodeNonce level)) 4 ≡ level
   unfolding nodeNonce
   level-in = wordAt-bytesOf (nodeNonce level) 1 (omega arith) fits
 
+  -- the three words as the cipher reads them from the nonce's bytes
   nonce-words : wordsAt 3 (nonceOf level) ≡ nodeNonce level
   unfolding nodeNonce wordsAt tab wordAt bytesOf le32
   nonce-words = λ i. 0 ∷ level-in i ∷ 0 ∷ []
-
-  -- the block off which a child is read is RFC 8439's, of a key of 32 bytes and a nonce of 12
-  pub opened-bytes : (seed : List ℕ) (counter : ℕ) → length seed ≡ 8 → ((i : ℕ) → getD seed i 0 < 2 ^ 32)
-      → bytesOf (openedBlock level seed counter) ≡ blockBytes (bytesOf seed) counter (nonceOf level)
-  unfolding openedBlock blockBytes
-  opened-bytes seed counter long below =
-      ap₂ (λ (k n : List ℕ). bytesOf (block k counter n)) (sym (key-words seed long below)) (sym nonce-words)
 
 -- "opens every tree level under a separate nonce"
 pub separate : (a b : ℕ) → a < 2 ^ 32 → b < 2 ^ 32 → bytesOf (nodeNonce a) ≡ bytesOf (nodeNonce b) → a ≡ b
 separate a b ha hb e = sym (level-in a ha) ∙ ap (λ (n : List ℕ). wordAt n 4) e ∙ level-in b hb
 
--- ---- "Key making and key walking both follow"
+-- ---- a child
 
--- the child of a side, of level i + 1: "The counters stay 0 and 1"
+-- that of a side, of level i + 1: "The counters stay 0 and 1"
 abbrev pub opened : ℕ → List ℕ → D.Opened (List ℕ)
 opened i seed side = child (block seed (only side 1) (nodeNonce (i + 1)))
+
+-- eight words as the cipher reads them from a key's bytes
+key-words : (seed : List ℕ) → Eight seed → wordsAt 8 (bytesOf seed) ≡ seed
+unfolding wordsAt
+key-words seed h =
+    tab-ext (λ i. wordAt (bytesOf seed) (4 * i)) (λ i. getD seed i 0) 8 (λ i l.
+    wordAt-bytesOf seed i (omega (arith, h .0)) (h .1 i)) ∙ ap (tab (λ i. getD seed i 0)) (sym (h .0)) ∙ tab-getD seed
+
+-- it is read off RFC 8439's block of a key of 32 bytes and this nonce of 12. That the seeds which are opened have eight
+-- words, if the key seeds do, is Bounds.`making-eight`, `walk-eight`
+module _ (i : ℕ) (level : i < 32) (seed : List ℕ) (long : Eight seed) (side : Bool) where
+  abbrev counter : ℕ
+  counter = only side 1
+
+  rfc-block : bytesOf (block seed counter (nodeNonce (i + 1))) ≡ blockBytes (bytesOf seed) counter (nonceOf (i + 1))
+  unfolding blockBytes
+  rfc-block =
+      ap₂ (λ (k n : List ℕ). bytesOf (block k counter n)) (sym (key-words seed long))
+      (sym (nonce-words (i + 1) (omega arith)))
+
+  pub opened-bytes :
+      (let b : List ℕ = blockBytes (bytesOf seed) counter (nonceOf (i + 1)) in
+      let k : D.Child (List ℕ) = opened i seed side in
+      (bytesOf (k .seed) ≡ take 32 b) × (wordAt b 32 ≡ k .word) × (odd (getD b 36 0) ≡ k .flag))
+  unfolding node openedBlock
+  opened-bytes = rw (sym rfc-block) (in-bytes i seed side (long .0))
+
+-- ---- "Key making and key walking both follow"
 
 -- key making begins at both roots; bit i of the point, from the highest, opens both parties' seeds into children of
 -- level i + 1, for the correction and for what is kept; and a key has what 32 levels gave
@@ -71,9 +87,9 @@ module _ (k0 k1 : List ℕ) (point : ℕ) where
   abbrev c : ℕ → D.Correction (List ℕ)
   c i = D.keyCorrection xors node first k0 k1 (D.bits 32 point) i
 
-  pub making-root : (g 0 .s0 ≡ k0) × (g 0 .s1 ≡ k1)
+  pub making-root : g 0 ≡ record { s0 = k0; s1 = k1; t0 = false; t1 = true; v = 0 }
   unfolding D.making
-  making-root = (refl, refl)
+  making-root = refl
 
   pub correction-level : (i : ℕ)
       → c i ≡ D.correction xors (D.bits 32 point i) (g i) (opened i (g i .s0)) (opened i (g i .s1))
@@ -99,7 +115,7 @@ module _ (party : ℕ) (key : Key) (seed : List ℕ) (u : ℕ) where
   abbrev w : ℕ → D.Walk (List ℕ)
   w i = walkOf party key seed u i
 
-  pub walk-root : w 0 .seed ≡ seed
+  pub walk-root : w 0 ≡ record { seed = seed; flag = odd party; total = 0 }
   unfolding walkOf D.walk
   walk-root = refl
 
