@@ -14,7 +14,7 @@ pub(crate) fn open(seed: &Seed, _level: usize, side: usize) -> Child {
 }
 
 /// How a set is dealt, from measure, L, threshold and set seed.
-pub type Deal = fn(Measure, usize, i32, &[u8; 32]) -> [Half; 2];
+pub type Dealing = fn(Measure, usize, i32, &[u8; 32]) -> [Half; 2];
 
 /// Both parties' parts of a set dealt before "Each level its own nonce": all but the key is
 /// what it is now.
@@ -104,7 +104,7 @@ mod tests {
     ];
 
     /// The tag of the half that such a line asks for, dealt before.
-    fn older_tag(deal: Deal, line: &str) -> String {
+    fn older_tag(deal: Dealing, line: &str) -> String {
         let fields: Vec<&str> = line.split(' ').collect();
         let number = |place: usize| fields[place].parse::<u64>().unwrap();
         let measure = Measure::from_code(number(2) as u32).unwrap();
