@@ -145,8 +145,9 @@ mod tests {
         differ.map(|(place, _)| place).collect()
     }
 
-    /// Of a half from before "Each level its own nonce" all but the key is what it is now. In
-    /// the key every correction is another one, in each of its words, and so is the final word.
+    /// The content of a half from before "Each level its own nonce" differs from today's in the
+    /// key alone: there every correction is another one, in each of its words, and so is the
+    /// final word. That all else is what was dealt then, the stored halves tell.
     #[test]
     fn only_corrections_and_the_final_word_differ() {
         for measure in Measure::ALL {
@@ -158,14 +159,6 @@ mod tests {
                     let places = places(now, before);
                     let key = content::bytes(length) - KEY_BYTES..content::bytes(length);
                     assert!(places.iter().all(|place| key.contains(place)));
-                    let key = now.key.clone();
-                    assert_eq!(
-                        Half {
-                            key,
-                            ..before.clone()
-                        },
-                        *now
-                    );
                     let corrections = now.key.corrections.iter().zip(&before.key.corrections);
                     for (now, before) in corrections {
                         assert!(now.seed.iter().zip(before.seed).all(|(a, b)| *a != b));
