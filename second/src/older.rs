@@ -51,6 +51,7 @@ mod tests {
     use crate::dcf::KEY_BYTES;
     use crate::field;
     use crate::halves;
+    use crate::message::padded;
     use crate::sample::Source;
     use crate::sealed;
     use std::collections::HashSet;
@@ -131,6 +132,52 @@ mod tests {
             );
             assert!(!tags.contains(&halves::run(line).unwrap()), "{line}");
         }
+    }
+
+    /// For the C test: a set that an older version of the C library dealt, and what from.
+    const HEADER: &str = include_str!("../../c/older.h");
+
+    /// The number that follows this text in the header.
+    fn number_after(text: &str) -> u64 {
+        let (_, rest) = HEADER.split_once(text).expect(text);
+        let end = rest.find(|sign: char| !sign.is_ascii_digit()).unwrap();
+        rest[..end].parse().expect(text)
+    }
+
+    /// 32 bytes that count up from the number that follows this text in the header.
+    fn bytes_after(text: &str) -> [u8; 32] {
+        let first = number_after(text) as u8;
+        std::array::from_fn(|place| first + place as u8)
+    }
+
+    /// All that stands in quotation marks, put together: C reads adjacent strings as one.
+    fn quoted(text: &str) -> String {
+        text.split('"').skip(1).step_by(2).collect()
+    }
+
+    /// The halves of the header's list, in hex.
+    fn listed() -> Vec<String> {
+        let (_, list) = HEADER.split_once("= {").unwrap();
+        let (list, _) = list.split_once("};").unwrap();
+        list.split_terminator(",\n").map(quoted).collect()
+    }
+
+    /// The header's comment says name, code and L; the rest are its constants.
+    #[test]
+    fn halves_are_what_the_c_library_dealt() {
+        let (comment, _) = HEADER.split_once("*/").unwrap();
+        let name = padded(quoted(comment).as_bytes()).unwrap();
+        let length = number_after("DOOR_SCALAR and L = ") as usize;
+        let threshold = number_after("#define OLDER_T ") as i32;
+        let seed = bytes_after("#define OLDER_SEED ");
+        let halves = deal_before_nonces(Measure::Scalar, length, threshold, &seed);
+        let keys = ["#define OLDER_KEY0 ", "#define OLDER_KEY1 "].map(bytes_after);
+        let number = number_after("#define OLDER_NUMBER ");
+        let dealt = [0, 1].map(|party: usize| {
+            let half = sealed::half(&name, &keys[party], number, &halves[party]);
+            field::format(&half)
+        });
+        assert!(listed() == dealt);
     }
 
     /// Lengths with thresholds that every code allows.
