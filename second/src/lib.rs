@@ -1,6 +1,6 @@
 //! ChaCha20-Poly1305 written from RFC 8439, and the door with its dealer, boxes and
-//! lock written from the scope document 01, both from nothing else, so that their
-//! answers are worth comparing with those of another implementation.
+//! lock written from the scope document 01 and the change requests 02, both from nothing
+//! else, so that their answers are worth comparing with those of another implementation.
 
 #![forbid(unsafe_code)]
 

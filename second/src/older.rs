@@ -14,7 +14,7 @@ pub(crate) fn open(seed: &Seed, _level: usize, side: usize) -> Child {
 }
 
 /// How a set is dealt, from measure, L, threshold and set seed.
-pub type Deal = fn(Measure, usize, i32, &[u8; 32]) -> [Half; 2];
+pub type Dealing = fn(Measure, usize, i32, &[u8; 32]) -> [Half; 2];
 
 /// Both parties' parts of a set dealt before "Each level its own nonce": all but the key is
 /// what it is now.
@@ -51,6 +51,7 @@ mod tests {
     use crate::dcf::KEY_BYTES;
     use crate::field;
     use crate::halves;
+    use crate::message::padded;
     use crate::sample::Source;
     use crate::sealed;
     use std::collections::HashSet;
@@ -104,7 +105,7 @@ mod tests {
     ];
 
     /// The tag of the half that such a line asks for, dealt before.
-    fn older_tag(deal: Deal, line: &str) -> String {
+    fn older_tag(deal: Dealing, line: &str) -> String {
         let fields: Vec<&str> = line.split(' ').collect();
         let number = |place: usize| fields[place].parse::<u64>().unwrap();
         let measure = Measure::from_code(number(2) as u32).unwrap();
@@ -133,6 +134,52 @@ mod tests {
         }
     }
 
+    /// For the C test: a set that an older version of the C library dealt, and what from.
+    const HEADER: &str = include_str!("../../c/older.h");
+
+    /// The number that follows this text in the header.
+    fn number_after(text: &str) -> u64 {
+        let (_, rest) = HEADER.split_once(text).expect(text);
+        let end = rest.find(|sign: char| !sign.is_ascii_digit()).unwrap();
+        rest[..end].parse().expect(text)
+    }
+
+    /// 32 bytes that count up from the number that follows this text in the header.
+    fn bytes_after(text: &str) -> [u8; 32] {
+        let first = number_after(text) as u8;
+        std::array::from_fn(|place| first + place as u8)
+    }
+
+    /// All that stands in quotation marks, put together: C reads adjacent strings as one.
+    fn quoted(text: &str) -> String {
+        text.split('"').skip(1).step_by(2).collect()
+    }
+
+    /// The halves of the header's list, in hex.
+    fn listed() -> Vec<String> {
+        let (_, list) = HEADER.split_once("= {").unwrap();
+        let (list, _) = list.split_once("};").unwrap();
+        list.split_terminator(",\n").map(quoted).collect()
+    }
+
+    /// The header's comment says name, code and L; the rest are its constants.
+    #[test]
+    fn halves_are_what_the_c_library_dealt() {
+        let (comment, _) = HEADER.split_once("*/").unwrap();
+        let name = padded(quoted(comment).as_bytes()).unwrap();
+        let length = number_after("DOOR_SCALAR and L = ") as usize;
+        let threshold = number_after("#define OLDER_T ") as i32;
+        let seed = bytes_after("#define OLDER_SEED ");
+        let halves = deal_before_nonces(Measure::Scalar, length, threshold, &seed);
+        let keys = ["#define OLDER_KEY0 ", "#define OLDER_KEY1 "].map(bytes_after);
+        let number = number_after("#define OLDER_NUMBER ");
+        let dealt = [0, 1].map(|party: usize| {
+            let half = sealed::half(&name, &keys[party], number, &halves[party]);
+            field::format(&half)
+        });
+        assert!(listed() == dealt);
+    }
+
     /// Lengths with thresholds that every code allows.
     const SIZES: [(usize, i32); 5] = [(1, 1), (2, 0), (17, 513), (18, 100), (512, 2)];
 
@@ -145,8 +192,9 @@ mod tests {
         differ.map(|(place, _)| place).collect()
     }
 
-    /// Of a half from before "Each level its own nonce" all but the key is what it is now. In
-    /// the key every correction is another one, in each of its words, and so is the final word.
+    /// The content of a half from before "Each level its own nonce" differs from today's in the
+    /// key alone: there every correction is another one, in each of its words, and so is the
+    /// final word. That all else is what was dealt then, the stored halves tell.
     #[test]
     fn only_corrections_and_the_final_word_differ() {
         for measure in Measure::ALL {
@@ -158,14 +206,6 @@ mod tests {
                     let places = places(now, before);
                     let key = content::bytes(length) - KEY_BYTES..content::bytes(length);
                     assert!(places.iter().all(|place| key.contains(place)));
-                    let key = now.key.clone();
-                    assert_eq!(
-                        Half {
-                            key,
-                            ..before.clone()
-                        },
-                        *now
-                    );
                     let corrections = now.key.corrections.iter().zip(&before.key.corrections);
                     for (now, before) in corrections {
                         assert!(now.seed.iter().zip(before.seed).all(|(a, b)| *a != b));

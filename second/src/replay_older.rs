@@ -3,7 +3,7 @@
 
 use crate::checks::vector;
 use crate::measure::Measure;
-use crate::older::{self, deal_before_distances, deal_before_nonces};
+use crate::older::{deal_before_distances, deal_before_nonces, Dealing};
 use crate::replay::BOXES;
 use crate::replay_checks::Check;
 use crate::replay_checks::Step::{self, Finish, Load, Mask, Take};
@@ -17,7 +17,7 @@ const PLACES: [([bool; 2], usize); 3] =
     [([true, true], 17), ([true, false], 1), ([false, true], 2)];
 
 /// Both halves of this deal.
-fn halves(dealt: older::Deal, deal: &Deal) -> [Half; 2] {
+fn halves(dealt: Dealing, deal: &Deal) -> [Half; 2] {
     let measure = Measure::from_code(deal.code).expect("a code");
     let seed = field::parse_array(&deal.seed).expect("a seed");
     dealt(measure, deal.length as usize, deal.threshold as i32, &seed)
@@ -49,7 +49,7 @@ impl Script {
     }
 
     /// An older set, whose join is refused, and one of today.
-    fn older_set(&mut self, dealt: older::Deal, older: [bool; 2], measure: Measure, length: usize) {
+    fn older_set(&mut self, dealt: Dealing, older: [bool; 2], measure: Measure, length: usize) {
         let check = self.check_that_is_reached(measure, length);
         assert_eq!(self.step(&check, Step::Deal), 0);
         for at in [0, 1] {
@@ -69,7 +69,7 @@ impl Script {
     }
 
     /// The line that loads a box's half of this deal as it was dealt before.
-    fn older_line(&self, dealt: older::Deal, at: usize, deal: &Deal) -> String {
+    fn older_line(&self, dealt: Dealing, at: usize, deal: &Deal) -> String {
         let name = field::parse_array(&self.door.padded).expect("a name");
         let key = field::parse_array(&self.door.keys[at]).expect("a key");
         let half = sealed::half(&name, &key, deal.number, &halves(dealt, deal)[at]);
@@ -77,7 +77,7 @@ impl Script {
     }
 
     /// Masked vectors and words are those of today's halves: the r words alone may differ.
-    fn sent_as_today(&self, dealt: older::Deal, older: [bool; 2], check: &Check) {
+    fn sent_as_today(&self, dealt: Dealing, older: [bool; 2], check: &Check) {
         let (now, before) = (
             halves(dealing::deal, &check.deal),
             halves(dealt, &check.deal),
