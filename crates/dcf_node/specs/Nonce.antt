@@ -1,6 +1,6 @@
 -- Each level its own nonce (02, §3): the nonce in bytes, that no two levels have the same, that a child is read off RFC
 -- 8439's block under it, and that in every key and every walk the root's children are of level 1, and so on to 32.
--- Assumes nothing. [SPEC 6.2, 6.7, 6.8, 7.2, 7.3, 8.1, 8.3]
+-- Assumes nothing. [SPEC 6.2 to 6.8, 7.2, 7.3, 8.1, 8.3]
 use mathlib.Core.Path.{_≡_, refl, sym, ap, ap₂, _∙_}
 use mathlib.Core.Bool.{Bool, true, false}
 use mathlib.Core.List.{List, [], _∷_, _++_}
