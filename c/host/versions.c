@@ -286,12 +286,16 @@ static void not_with_damaged_last(enum part part)
     expect_trouble("upgrade", "/last: No such file");
 }
 
-/* A dealer's number that is behind another's is from an older copy of its folder. */
+/* A dealer's number that is behind another's is from an older copy of its folder. An upgrade would
+   lower the other one, whatever version that part has: all four are written. */
 static void not_with_dealer_behind(enum part part)
 {
-    make_older(ALL_2);
-    put_last(part, older.dealt + 1, VERSION_2, SIZE_MAX);
-    expect_trouble("upgrade", "is above the dealer's");
+    static const char *const versions[] = {VERSION_1, VERSION_2, THIS_VERSION};
+    for (size_t i = 0; i < sizeof versions / sizeof *versions; i++) {
+        make_older(ALL_2);
+        put_last(part, older.dealt + 1, versions[i], SIZE_MAX);
+        expect_trouble("upgrade", "is above the dealer's");
+    }
 }
 
 /* Upgrades. */
