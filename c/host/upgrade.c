@@ -118,10 +118,11 @@ static bool upgrade(const struct found *found)
     return false;
 }
 
+/* Whether the dealer is ahead comes first: no sound folder has it behind, of whatever version. */
 int run_upgrade(void)
 {
     struct found found;
-    if (!claim_all() || !read_lasts(&found))
+    if (!claim_all() || !read_lasts(&found) || !is_dealer_ahead(&found))
         return EXIT_TROUBLE;
     if (is_done(&found)) {
         if (!force_lasts())
@@ -129,7 +130,7 @@ int run_upgrade(void)
         say("this folder is of this version already; nothing was changed");
         return EXIT_OPEN;
     }
-    if (!is_dealer_ahead(&found) || !upgrade(&found))
+    if (!upgrade(&found))
         return EXIT_TROUBLE;
     say("upgraded; the sets up to number %" PRIu64 " are scrapped, of every measure",
         found.last[DEALER]);

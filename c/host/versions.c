@@ -184,6 +184,14 @@ static void make_older(unsigned folder)
     put_halves_back();
 }
 
+/* All parts have this version, and the numbers of the older folder. */
+static void make_this_version(void)
+{
+    make_older(ALL_2);
+    for (enum part part = CAMERA; part <= LOCK; part++)
+        put_version(part, THIS_VERSION);
+}
+
 static void take_down_half(enum part box, uint64_t i)
 {
     struct content *half = &older.half[box][i];
@@ -296,6 +304,14 @@ static void not_with_dealer_behind(enum part part)
         put_last(part, older.dealt + 1, versions[i], SIZE_MAX);
         expect_trouble("upgrade", "is above the dealer's");
     }
+}
+
+/* Nor where all parts have this version, and there is nothing to upgrade. */
+static void not_already_with_dealer_behind(enum part part)
+{
+    make_this_version();
+    put_last(part, older.dealt + 1, THIS_VERSION, SIZE_MAX);
+    expect_trouble("upgrade", "is above the dealer's");
 }
 
 /* Upgrades. */
@@ -541,8 +557,10 @@ void versions(void)
         not_with_newer_part(part);
         not_while_running(part);
         not_with_damaged_last(part);
-        if (part != DEALER)
+        if (part != DEALER) {
             not_with_dealer_behind(part);
+            not_already_with_dealer_behind(part);
+        }
     }
     changes_nothing_twice();
     from_each_folder();
