@@ -33,8 +33,8 @@
  * dealer and both boxes are older and the lock alone is new, door_join reports, by the older rule:
  * for distances that may be the other way about. So change all four parts together:
  *
- * 1. Stop the dealer, both boxes and the lock. Go on from no state of before: a box may have loaded
- *    an older set.
+ * 1. Stop the dealer, both boxes and the lock. Use no state from before: a box may have loaded an
+ *    older set.
  * 2. Compare the last numbers. If a box's or the lock's is above the dealer's, the dealer's is an
  *    old copy, and which halves there are is not known: take new keys and another name instead.
  * 3. Throw away the halves that were dealt and not loaded: each would be a load refused by 7.

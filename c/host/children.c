@@ -63,13 +63,26 @@ int run_to_end(char *const arguments[])
     return end_of(start_program(arguments));
 }
 
-int run_and_hear(char *const arguments[], char said[SAID_ROOM])
+long end_of_log(void)
+{
+    struct stat found;
+    EXPECT(stat("log", &found) == 0, "no log");
+    return (long)found.st_size;
+}
+
+void hear_log(long since, char said[SAID_ROOM])
 {
     FILE *log = fopen("log", "r");
-    EXPECT(log != NULL && fseek(log, 0, SEEK_END) == 0, "no log");
-    int status = run_to_end(arguments);
+    EXPECT(log != NULL && fseek(log, since, SEEK_SET) == 0, "no log");
     said[fread(said, 1, SAID_ROOM - 1, log)] = '\0';
     fclose(log);
+}
+
+int run_and_hear(char *const arguments[], char said[SAID_ROOM])
+{
+    const long since = end_of_log();
+    int status = run_to_end(arguments);
+    hear_log(since, said);
     return status;
 }
 

@@ -25,7 +25,8 @@ static bool is_of_this_version(const char *folder, uint64_t version)
     if (version < SETS_VERSION)
         say("the folder %s is from an older version; its sets must be scrapped, since the lock "
             "would refuse what boxes of this version answer from them: nobody would be let in. "
-            "Stop all parts, bring their four folders together, and run: door-host upgrade FOLDER",
+            "Stop all parts, bring their four folders and both sticks together, and run: door-host "
+            "upgrade FOLDER",
             folder);
     return version == SETS_VERSION;
 }

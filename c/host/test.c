@@ -583,6 +583,53 @@ static void spent_halves_ahead(enum part box)
     undisturbed_check(VECTORS);
 }
 
+/* Both answers are 1, of this set and from the boxes by all that they say. They sum to 2. */
+static void send_answers_that_do_not_join(void)
+{
+    for (enum part box = CAMERA; box <= OFFICE; box++) {
+        struct message answer = answers[box];
+        answer.number = check.number;
+        answer.words[0] = 1;
+        send_surely(LOCK, &answer);
+    }
+}
+
+/* In the log behind that place the lock tells of such answers, and what may be the cause. */
+static void expect_told_of_versions(long since)
+{
+    char said[SAID_ROOM], refused[PATH_ROOM];
+    hear_log(since, said);
+    snprintf(refused, sizeof refused, "lock: set %" PRIu64 ": the join was refused (12)",
+        check.number);
+    const char *told = strstr(said, refused);
+    EXPECT(told != NULL && strstr(told, "a box or the dealer may be of another version") != NULL,
+        "of answers that do not join the lock says: %s", said);
+}
+
+/* The lock spends no number on answers that do not join, and keeps none of them: the boxes' own
+   are joined afterwards, under the same number. */
+static void refuses_sum(void)
+{
+    const int64_t deadline = now_ns() + PATIENCE_NS;
+    const uint64_t last = durable_last(LOCK);
+    start_check(VECTORS);
+    send_deal();
+    while (check.number == 0)
+        pump_before(deadline);
+    const long since = end_of_log();
+    send_answers_that_do_not_join();
+    while (!check.failed)
+        pump_before(deadline);
+    EXPECT(check.why == DOOR_BAD_SUM, "a sum of 2 is refused by %" PRIu32, check.why);
+    expect_told_of_versions(since);
+    hear_from(LOCK);
+    EXPECT(durable_last(LOCK) == last, "the lock has spent a number that it refused");
+    check.failed = false;
+    expect_answer();
+    expect_ready();
+    undisturbed_check(VECTORS);
+}
+
 static void second_process(enum part part)
 {
     char *const arguments[] = {"door-host", (char *)PART[part].command, ".", NULL};
@@ -617,6 +664,7 @@ static void refusals(void)
     spent_halves_ahead(OFFICE);
     check_behind_a_stuck_one(CAMERA);
     check_behind_a_stuck_one(OFFICE);
+    refuses_sum();
     operator_gives_up();
     for (uint32_t why = DOOR_BAD_NAME; why <= DOOR_BAD_SUM; why++)
         EXPECT(strcmp(refusal_words(why), refusal_words(why - 1)) != 0, "no words for %" PRIu32,

@@ -40,8 +40,12 @@ int run_to_end(char *const arguments[]);
 int start_program(char *const arguments[]); /* answers the process */
 int end_of(int process);
 
-/* The same, with what came to the log meanwhile. */
+/* What came to the log since it ended at that place. */
 #define SAID_ROOM 4096
+long end_of_log(void);
+void hear_log(long since, char said[SAID_ROOM]);
+
+/* Runs the program to its end as well, with what came to the log meanwhile. */
 int run_and_hear(char *const arguments[], char said[SAID_ROOM]);
 
 /* The same, but the process is killed at the n-th of these moments (powercut.h), or ends well with

@@ -12,6 +12,7 @@
 #include "host.h"
 
 #include <inttypes.h>
+#include <string.h>
 
 #define OWNERS (LOCK + 1) /* parts that have a folder */
 #define CLOSE_SINCE 2     /* from this version on distances open up to the threshold */
@@ -31,6 +32,53 @@ static bool claim_all(void)
             return false;
         }
     return true;
+}
+
+static bool same_name(const struct door_name *a, const struct door_name *b)
+{
+    return a->size == b->size && memcmp(a->bytes, b->bytes, a->size) == 0;
+}
+
+/* The name on one line: a byte that no name has becomes a question mark. */
+static void show_name(const struct door_name *name, char text[NAME_ROOM + 1])
+{
+    for (size_t i = 0; i < name->size; i++) {
+        const uint8_t byte = name->bytes[i];
+        text[i] = byte >= 32 && byte <= 126 ? (char)byte : '?';
+    }
+    text[name->size] = '\0';
+}
+
+static void say_other_name(
+    enum part part, const struct door_name *name, const struct door_name *dealers)
+{
+    char text[NAME_ROOM + 1], expected[NAME_ROOM + 1];
+    show_name(name, text);
+    show_name(dealers, expected);
+    say("the %s has the name \"%s\"; expected is the dealer's, \"%s\"", PART[part].title, text,
+        expected);
+}
+
+/* Folders that were brought together by hand may be of several doors. Each door counts its sets by
+   itself, and the numbers would be mixed. */
+static bool is_one_door(void)
+{
+    struct door_name dealers, name;
+    bool is_one = true;
+    if (!read_name(PART[DEALER].command, &dealers))
+        return false;
+    for (enum part part = CAMERA; part <= LOCK; part++) {
+        if (!read_name(PART[part].command, &name))
+            return false;
+        if (!same_name(&name, &dealers)) {
+            say_other_name(part, &name, &dealers);
+            is_one = false;
+        }
+    }
+    if (!is_one)
+        say("an upgrade needs the four folders of one door: bring the right ones together first; "
+            "nothing was changed");
+    return is_one;
 }
 
 static bool read_lasts(struct found *found)
@@ -118,10 +166,12 @@ static bool upgrade(const struct found *found)
     return false;
 }
 
+/* The names come before the numbers: those of another door would be told as this one's. Whether the
+   dealer is ahead comes before what is done already: no sound folder has it behind. */
 int run_upgrade(void)
 {
     struct found found;
-    if (!claim_all() || !read_lasts(&found))
+    if (!claim_all() || !is_one_door() || !read_lasts(&found) || !is_dealer_ahead(&found))
         return EXIT_TROUBLE;
     if (is_done(&found)) {
         if (!force_lasts())
@@ -129,7 +179,7 @@ int run_upgrade(void)
         say("this folder is of this version already; nothing was changed");
         return EXIT_OPEN;
     }
-    if (!is_dealer_ahead(&found) || !upgrade(&found))
+    if (!upgrade(&found))
         return EXIT_TROUBLE;
     say("upgraded; the sets up to number %" PRIu64 " are scrapped, of every measure",
         found.last[DEALER]);

@@ -184,6 +184,14 @@ static void make_older(unsigned folder)
     put_halves_back();
 }
 
+/* All parts have this version, and the numbers of the older folder. */
+static void make_this_version(void)
+{
+    make_older(ALL_2);
+    for (enum part part = CAMERA; part <= LOCK; part++)
+        put_version(part, THIS_VERSION);
+}
+
 static void take_down_half(enum part box, uint64_t i)
 {
     struct content *half = &older.half[box][i];
@@ -286,12 +294,74 @@ static void not_with_damaged_last(enum part part)
     expect_trouble("upgrade", "/last: No such file");
 }
 
-/* A dealer's number that is behind another's is from an older copy of its folder. */
+/* A dealer's number that is behind another's is from an older copy of its folder. An upgrade would
+   lower the other one, whatever version that part has: all four are written. */
 static void not_with_dealer_behind(enum part part)
 {
-    make_older(ALL_2);
-    put_last(part, older.dealt + 1, VERSION_2, SIZE_MAX);
+    static const char *const versions[] = {VERSION_1, VERSION_2, THIS_VERSION};
+    for (size_t i = 0; i < sizeof versions / sizeof *versions; i++) {
+        make_older(ALL_2);
+        put_last(part, older.dealt + 1, versions[i], SIZE_MAX);
+        expect_trouble("upgrade", "is above the dealer's");
+    }
+}
+
+/* Nor where all parts have this version, and there is nothing to upgrade. */
+static void not_already_with_dealer_behind(enum part part)
+{
+    make_this_version();
+    put_last(part, older.dealt + 1, THIS_VERSION, SIZE_MAX);
     expect_trouble("upgrade", "is above the dealer's");
+}
+
+static void put_name(enum part part, const struct door_name *name)
+{
+    char path[PATH_ROOM];
+    path_of(path, part, "name");
+    put_file(path, name->bytes, name->size);
+}
+
+static void remove_name(enum part part)
+{
+    char path[PATH_ROOM];
+    path_of(path, part, "name");
+    EXPECT(unlink(path) == 0, "cannot remove %s", path);
+}
+
+static void not_with_name(
+    enum part part, const struct door_name *name, const struct door_name *dealers)
+{
+    char words[2 * PATH_ROOM];
+    snprintf(words, sizeof words,
+        "the %s has the name \"%.*s\"; expected is the dealer's, \"%.*s\"", PART[part].title,
+        (int)name->size, name->bytes, (int)dealers->size, dealers->bytes);
+    put_name(part, name);
+    expect_trouble("upgrade", words);
+    expect_trouble("upgrade", "bring the right ones together first; nothing was changed");
+}
+
+/* A part of another door is among the folders that were brought together: its name has one byte
+   that is another, one less or one more. Its number may be above the dealer's by right. */
+static void not_of_two_doors(enum part part)
+{
+    struct door_name right, other, shorter, longer;
+    EXPECT(read_name(PART[part].command, &right) && right.size > 1, "the %s has no name",
+        PART[part].title);
+    other = shorter = longer = right;
+    other.bytes[chance(right.size)] ^= 1;
+    shorter.size--;
+    longer.bytes[longer.size++] = 's';
+    make_older(ALL_2);
+    not_with_name(part, &other, &right);
+    not_with_name(part, &shorter, &right);
+    not_with_name(part, &longer, &right);
+    make_this_version();
+    not_with_name(part, &other, &right);
+    put_last(part, older.dealt + 1, THIS_VERSION, SIZE_MAX);
+    not_with_name(part, &other, &right);
+    remove_name(part);
+    expect_trouble("upgrade", "/name: No such file");
+    put_name(part, &right);
 }
 
 /* Upgrades. */
@@ -537,8 +607,11 @@ void versions(void)
         not_with_newer_part(part);
         not_while_running(part);
         not_with_damaged_last(part);
-        if (part != DEALER)
+        if (part != DEALER) {
             not_with_dealer_behind(part);
+            not_already_with_dealer_behind(part);
+            not_of_two_doors(part);
+        }
     }
     changes_nothing_twice();
     from_each_folder();
