@@ -1,0 +1,170 @@
+/*
+ * Every call of door.h that a check makes, on the states and messages of one check. bench/against
+ * compiles this for each of two archives, with the door.h of each.
+ */
+#include "calls.h"
+#include "door.h"
+
+#include <stdint.h>
+#include <stdio.h>
+#include <stdlib.h>
+#include <string.h>
+
+#define NUMBER 1
+#define NEXT 2
+#define THRESHOLD 100
+#define BARE 5 /* bytes of the name without its padding */
+
+static const uint8_t NAME[DOOR_NAME] = "Hut 4";
+static const uint8_t KEY[2][DOOR_KEY] = {{1}, {2}};
+static const uint8_t SEED[DOOR_KEY] = {3};
+
+/* All that the calls read and write, in room that is lent: so the calls of two archives have it at
+   the same addresses. States are as a check leaves them, each ready for the next call. */
+static struct scene {
+    struct door_terms terms;
+    struct door_dealer dealer;
+    struct door_party idle[2], loaded[2], masked[2], taken[2];
+    uint8_t half[2][DOOR_HALF_MOST], next_half[2][DOOR_HALF_MOST];
+    uint32_t vector[2][DOOR_LENGTH_MOST], sent[2][DOOR_LENGTH_MOST], word[2], answer[2];
+} *at;
+
+static volatile uint32_t heard; /* so that the compiler leaves no call out */
+
+static void expect(uint32_t why, const char *call)
+{
+    if (why == DOOR_ACCEPTED)
+        return;
+    fprintf(stderr, "bench/against: %s at L %zu is refused by %u\n", call, at->terms.n, why);
+    exit(1);
+}
+
+static uint32_t deal(uint64_t number, uint8_t half[2][DOOR_HALF_MOST])
+{
+    return door_deal(at->dealer, number, SEED, DOOR_KEY, at->terms, THRESHOLD, half[0],
+        DOOR_HALF_MOST, half[1], DOOR_HALF_MOST)
+        .why;
+}
+
+static struct door_party_answer load(const struct door_party *box, const uint8_t *half)
+{
+    return door_load(*box, half, DOOR_HALF(at->terms.n));
+}
+
+static struct door_party_answer mask(uint32_t party)
+{
+    const size_t n = at->terms.n;
+    return door_mask(at->loaded[party], at->vector[party], n, at->sent[party], n);
+}
+
+static struct door_party_answer take(uint32_t party)
+{
+    const uint32_t other = 1 - party;
+    return door_take(at->masked[party], DOOR_MASKED_VECTOR, NAME, DOOR_NAME, other, NUMBER,
+        at->sent[other], at->terms.n);
+}
+
+static struct door_party_answer finish(uint32_t party)
+{
+    const uint32_t other = 1 - party;
+    return door_finish(
+        at->taken[party], DOOR_WORD, NAME, DOOR_NAME, other, NUMBER, at->word[other]);
+}
+
+static uint32_t join(void)
+{
+    return lock_join(NAME, DOOR_NAME, 0, DOOR_ANSWER, NAME, DOOR_NAME, 0, NUMBER, at->answer[0],
+        DOOR_ANSWER, NAME, DOOR_NAME, 1, NUMBER, at->answer[1]);
+}
+
+static void begin(uint32_t party)
+{
+    struct door_party_answer a = load(&at->idle[party], at->half[party]);
+    expect(a.why, "load");
+    at->loaded[party] = a.party;
+    a = mask(party);
+    expect(a.why, "mask");
+    at->masked[party] = a.party;
+}
+
+static void check(void)
+{
+    expect(deal(NUMBER, at->half), "deal");
+    begin(0);
+    begin(1);
+    for (uint32_t party = 0; party < 2; party++) {
+        const struct door_party_answer a = take(party);
+        expect(a.why, "take");
+        at->taken[party] = a.party;
+        at->word[party] = a.word;
+    }
+    for (uint32_t party = 0; party < 2; party++) {
+        const struct door_party_answer a = finish(party);
+        expect(a.why, "finish");
+        at->answer[party] = a.word;
+    }
+    const uint32_t joined = join();
+    expect(joined < LOCK_REFUSED ? DOOR_ACCEPTED : joined - LOCK_REFUSED, "join");
+}
+
+/* Those of a box are the office box's. */
+static void make_deal(void) { heard = deal(NUMBER, at->half); }
+static void make_load(void) { heard = load(&at->idle[1], at->half[1]).why; }
+static void make_load_ahead(void) { heard = load(&at->loaded[1], at->next_half[1]).why; }
+static void make_mask(void) { heard = mask(1).why; }
+static void make_take(void) { heard = take(1).word; }
+static void make_finish(void) { heard = finish(1).word; }
+static void make_drop(void) { heard = door_drop(at->taken[1]).why; }
+static void make_join(void) { heard = join(); }
+
+static void prepare(size_t n)
+{
+    memset(at, 0, sizeof *at);
+    at->terms.code = DOOR_SCALAR;
+    at->terms.n = n;
+    at->dealer = door_start_dealer(NAME, BARE, KEY[0], DOOR_KEY, KEY[1], DOOR_KEY, 0).dealer;
+    for (uint32_t party = 0; party < 2; party++) {
+        at->idle[party] = door_start_party(NAME, BARE, party, KEY[party], DOOR_KEY, 0).party;
+        for (size_t i = 0; i < n; i++)
+            at->vector[party][i] = (uint32_t)(i % (5 + 2 * party));
+    }
+    expect(deal(NEXT, at->next_half), "deal");
+    check();
+    expect(load(&at->loaded[1], at->next_half[1]).why, "load ahead");
+    expect(door_drop(at->taken[1]).why, "drop");
+}
+
+/* A DOOR_LEVEL that this processor has not would count as not set. */
+static void expect_level(void)
+{
+    const char *asked = getenv("DOOR_LEVEL");
+    if (asked != NULL && strcmp(asked, door_level()) != 0) {
+        printf("%s is left out: this processor has it not\n\n", asked);
+        exit(0);
+    }
+}
+
+struct calls calls_for(size_t n, void *room, size_t room_size)
+{
+    static const struct call list[] = {
+        {"deal", make_deal},
+        {"load", make_load},
+        {"load ahead", make_load_ahead},
+        {"mask", make_mask},
+        {"take", make_take},
+        {"finish", make_finish},
+        {"drop", make_drop},
+        {"join", make_join},
+        {"whole check", check},
+        {NULL, NULL},
+    };
+    expect_level();
+    if (room_size < sizeof *at) {
+        fprintf(stderr, "bench/against: the room has %zu bytes, and %zu are needed\n", room_size,
+            sizeof *at);
+        exit(1);
+    }
+    at = room;
+    prepare(n);
+    return (struct calls){list, sizeof *at};
+}
