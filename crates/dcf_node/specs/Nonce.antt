@@ -14,7 +14,7 @@ use Rattle.base_words.specs.Xor.{xors}
 use Rattle.chacha20_block.specs.ChaCha20.{block, blockBytes}
 use Rattle.dcf_function.specs.Dcf as D
 use Rattle.dcf_node.specs.declared.Key.{Key}
-use Rattle.dcf_node.specs.Node.{child, nodeNonce, openedBlock, node, first, corrections, keyFor, correctionAt}
+use Rattle.dcf_node.specs.Node.{child, nodeNonce, openedBlock, node, first, keyFor, correctionAt}
 use Rattle.dcf_node.specs.Node.{walkOf, valueAt}
 use Rattle.dcf_node.specs.Claims.{at-level, in-bytes}
 use Rattle.dcf_node.specs.Bounds.{Eight}
