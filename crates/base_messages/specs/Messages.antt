@@ -46,6 +46,10 @@ badContent = 11
 abbrev pub badSum : ℕ
 badSum = 12
 
+-- 02, §4
+abbrev pub badMarks : ℕ
+badMarks = 13
+
 -- goes on if the test holds, else k is why not
 unfoldable pub unless : Bool → ℕ → ℕ → ℕ
 unless b k rest = cond b rest k

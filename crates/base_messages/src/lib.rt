@@ -31,6 +31,8 @@ pub const BAD_CONTENT: u32 = 11;
 
 pub const BAD_SUM: u32 = 12;
 
+pub const BAD_MARKS: u32 = 13;
+
 // A message's kind.
 pub const VECTOR: u32 = 0;
 

@@ -13,6 +13,7 @@ use call_lock::Lock;
 use call_lock::LockAnswer;
 use call_party::Party;
 use call_party::PartyAnswer;
+use measure_table::Rule;
 use measure_table::Terms;
 
 // key0 is the camera box's, key1 the office box's.
@@ -39,14 +40,36 @@ pub extern "C" fn door_deal(
     out0: &mut [u8],
     out1: &mut [u8],
 ) -> DealerAnswer
-    ensures { λ r. ⌜ r ≡ deal dealer (dealFrom number (now (seed .entry)) terms t)
+    ensures { λ r. ⌜ r ≡ deal dealer (dealFrom number (now (seed .entry)) terms (Rule.Threshold t))
         (length (now (out0 .entry))) (length (now (out1 .entry))) ⌝ }
-    ensures { λ _. ⌜ now (out0 .exit)
-        ≡ dealOut dealer (dealFrom number (now (seed .entry)) terms t) (now (out0 .entry)) (now (out1 .entry)) 0 ⌝ }
-    ensures { λ _. ⌜ now (out1 .exit)
-        ≡ dealOut dealer (dealFrom number (now (seed .entry)) terms t) (now (out0 .entry)) (now (out1 .entry)) 1 ⌝ }
+    ensures { λ _. ⌜ now (out0 .exit) ≡ dealOut dealer (dealFrom number (now (seed .entry)) terms (Rule.Threshold t))
+        (now (out0 .entry)) (now (out1 .entry)) 0 ⌝ }
+    ensures { λ _. ⌜ now (out1 .exit) ≡ dealOut dealer (dealFrom number (now (seed .entry)) terms (Rule.Threshold t))
+        (now (out0 .entry)) (now (out1 .entry)) 1 ⌝ }
 {
-    dealer.deal(number, seed, terms, t, out0, out1)
+    dealer.deal(number, seed, terms, Rule::Threshold(t), out0, out1)
+}
+
+// The same for a set that answers yes from p to q.
+#[no_mangle]
+pub extern "C" fn door_deal_between(
+    dealer: Dealer,
+    number: u64,
+    seed: &[u8],
+    terms: Terms,
+    p: u32,
+    q: u32,
+    out0: &mut [u8],
+    out1: &mut [u8],
+) -> DealerAnswer
+    ensures { λ r. ⌜ r ≡ deal dealer (dealFrom number (now (seed .entry)) terms (Rule.Between p q))
+        (length (now (out0 .entry))) (length (now (out1 .entry))) ⌝ }
+    ensures { λ _. ⌜ now (out0 .exit) ≡ dealOut dealer (dealFrom number (now (seed .entry)) terms (Rule.Between p q))
+        (now (out0 .entry)) (now (out1 .entry)) 0 ⌝ }
+    ensures { λ _. ⌜ now (out1 .exit) ≡ dealOut dealer (dealFrom number (now (seed .entry)) terms (Rule.Between p q))
+        (now (out0 .entry)) (now (out1 .entry)) 1 ⌝ }
+{
+    dealer.deal(number, seed, terms, Rule::Between(p, q), out0, out1)
 }
 
 // Party 0 is the camera box, party 1 the office box.

@@ -10,11 +10,11 @@ use lib.Dec.{eqb, leb, ltb}
 use lib.ListN.{length}
 use Rattle.base_algebra.specs.Bit.{both}
 use Rattle.base_words.specs.List.{over, same}
-use Rattle.measure_table.specs.Measure.{mostElements, isCode, lengthFits, thresholdFits}
+use Rattle.measure_table.specs.Measure.{mostElements, isCode, lengthFits, ruleFits, inOrder}
 use Rattle.measure_table.specs.Laws.{length-fits}
 use Rattle.measure_table.specs.declared.Terms.{Terms}
-use Rattle.base_messages.specs.Messages.{badPartyOrCode, wrongLength, shortBuffer, wrongNumber, outOfRange, unless}
-use Rattle.base_messages.specs.Messages.{nameFits, padded, isKey}
+use Rattle.base_messages.specs.Messages.{badPartyOrCode, wrongLength, shortBuffer, wrongNumber, outOfRange}
+use Rattle.base_messages.specs.Messages.{badMarks, unless, nameFits, padded, isKey}
 use Rattle.base_messages.specs.Laws.{unless-false, unless-true, turned-down, goes-on, taken, refused}
 use Rattle.half_content.specs.declared.Set.{Set}
 use Rattle.half_content.specs.Content.{blockBytes, blockCount, Proper}
@@ -93,6 +93,10 @@ few long terms fits ef h k e =
 -- for any dealer with this last number, and any seed of this length
 module _ {last long : ℕ} (s : Dealer) (d : Deal) (el : s .last ≡ last) (es : length (d .seed) ≡ long)
     (room0 room1 : ℕ) (known : Bool) (ek : known ≡ isCode (d .terms .code)) where
+  -- what is tested of the rule
+  abbrev by-rule : ℕ
+  by-rule = unless (ruleFits (d .terms) (d .rule)) outOfRange (unless (inOrder (d .rule)) badMarks 0)
+
   pub unknown-code : not known ≡ true → badPartyOrCode ≡ whyNotDeal s d room0 room1
   unfolding whyNotDeal
   unknown-code h = turned-down _ _ _ (ap not (sym ek) ∙ h)
@@ -102,7 +106,7 @@ module _ {last long : ℕ} (s : Dealer) (d : Deal) (el : s .last ≡ last) (es :
         → r
         ≡ unless (isKey (d .seed) && lengthFits (d .terms)) wrongLength
         (unless (leb (halfSize (d .terms .n)) room0 && leb (halfSize (d .terms .n)) room1) shortBuffer
-        (unless (ltb (s .last) (d .number)) wrongNumber (unless (thresholdFits (d .terms) (d .t)) outOfRange 0)))
+        (unless (ltb (s .last) (d .number)) wrongNumber by-rule))
         → r ≡ whyNotDeal s d room0 room1
     unfolding whyNotDeal
     past-code h = goes-on _ _ _ (ap not (sym ek) ∙ coded) h
@@ -126,7 +130,7 @@ module _ {last long : ℕ} (s : Dealer) (d : Deal) (el : s .last ≡ last) (es :
 
       module _ (roomy : not (leb (blockBytes * k) room0 && leb (blockBytes * k) room1) ≡ false) where
         past-rooms : {r : ℕ}
-            → r ≡ unless (ltb (s .last) (d .number)) wrongNumber (unless (thresholdFits (d .terms) (d .t)) outOfRange 0)
+            → r ≡ unless (ltb (s .last) (d .number)) wrongNumber by-rule
             → r ≡ whyNotDeal s d room0 room1
         past-rooms h = past-code (goes-on _ _ _ (lengths fit) (goes-on _ _ _ (rooms roomy) h))
 
@@ -137,20 +141,30 @@ module _ {last long : ℕ} (s : Dealer) (d : Deal) (el : s .last ≡ last) (es :
         stale h = past-rooms (turned-down _ _ _ (above h))
 
         module _ (fresh : not (ltb last (d .number)) ≡ false) (fits : Bool)
-            (et : fits ≡ thresholdFits (d .terms) (d .t)) where
-          pub out-of-range : not fits ≡ true → outOfRange ≡ whyNotDeal s d room0 room1
-          out-of-range h = past-rooms (goes-on _ _ _ (above fresh) (turned-down _ _ _ (ap not (sym et) ∙ h)))
+            (et : fits ≡ ruleFits (d .terms) (d .rule)) where
+          past-number : {r : ℕ} → r ≡ by-rule → r ≡ whyNotDeal s d room0 room1
+          past-number h = past-rooms (goes-on _ _ _ (above fresh) h)
 
-          pub deal-taken : not fits ≡ false → 0 ≡ whyNotDeal s d room0 room1
-          deal-taken h = past-rooms (goes-on _ _ _ (above fresh) (goes-on _ _ _ (ap not (sym et) ∙ h) refl))
+          pub out-of-range : not fits ≡ true → outOfRange ≡ whyNotDeal s d room0 room1
+          out-of-range h = past-number (turned-down _ _ _ (ap not (sym et) ∙ h))
+
+          module _ (in-range : not fits ≡ false) (ordered : Bool) (eo : ordered ≡ inOrder (d .rule)) where
+            pub bad-marks : not ordered ≡ true → badMarks ≡ whyNotDeal s d room0 room1
+            bad-marks h =
+                past-number (goes-on _ _ _ (ap not (sym et) ∙ in-range) (turned-down _ _ _ (ap not (sym eo) ∙ h)))
+
+            pub deal-taken : not ordered ≡ false → 0 ≡ whyNotDeal s d room0 room1
+            deal-taken h =
+                past-number
+                (goes-on _ _ _ (ap not (sym et) ∙ in-range) (goes-on _ _ _ (ap not (sym eo) ∙ h) refl))
 
 -- ---- the two halves
 
 module _ (s : Dealer) (d : Deal) (room0 room1 : ℕ) (a : DealTells s d room0 room1)
     (party : ℕ) (seed : List ℕ) (es : seed ≡ d .seed) (set : Set)
-    (e : set ≡ dealtSet (dealFrom (d .number) seed (d .terms) (d .t)) party) where
+    (e : set ≡ dealtSet (dealFrom (d .number) seed (d .terms) (d .rule)) party) where
   is-dealt : set ≡ dealtSet d party
-  is-dealt = e ∙ ap (λ (l : List ℕ). dealtSet (dealFrom (d .number) l (d .terms) (d .t)) party) es
+  is-dealt = e ∙ ap (λ (l : List ℕ). dealtSet (dealFrom (d .number) l (d .terms) (d .rule)) party) es
 
   -- what writing a half asks
   pub half-asks : (room : ℕ) → halfSize (d .terms .n) ≤ room → d .number < 2 ^ 64 → party ≤ 1

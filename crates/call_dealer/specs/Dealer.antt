@@ -1,15 +1,16 @@
--- The dealer (01, "Dealing a set", "The sealed half" and "When a call is turned down"): why a start or a deal is turned
--- down, the next state, and what a deal leaves in its two lent buffers, for any state and anything handed in.
--- Assumes nothing. [SPEC 13.1, 13.2, 13.4, 13.5, 14.1 to 14.4, 24.1, 24.4]
+-- The dealer (01, "Dealing a set", "The sealed half" and "When a call is turned down"; 02, §4): why a start or a deal is
+-- turned down, the next state, and what a deal leaves in its two lent buffers, for any state and anything handed in. One
+-- definition has both deals, by a threshold and between two marks: which of them it is, the rule says. Assumes nothing.
+-- [SPEC 13.1, 13.2, 13.4, 13.5, 14.1 to 14.4, 24.1, 24.4]
 use mathlib.Core.Bool.{cond, _&&_, not}
 use mathlib.Core.List.{List}
 use Prim.Native.Nat.{ℕ, _*_}
 use lib.Dec.{eqb, leb, ltb}
 use lib.ListN.{length, replicate}
 use Rattle.base_words.specs.List.{over, same}
-use Rattle.measure_table.specs.Measure.{isCode, lengthFits, thresholdFits}
+use Rattle.measure_table.specs.Measure.{isCode, lengthFits, ruleFits, inOrder}
 use Rattle.base_messages.specs.Messages.{badName, badPartyOrCode, wrongLength, shortBuffer, wrongNumber, outOfRange}
-use Rattle.base_messages.specs.Messages.{equalKeys, cameraParty, unless, ifTaken, nameFits, padded, isKey}
+use Rattle.base_messages.specs.Messages.{equalKeys, badMarks, cameraParty, unless, ifTaken, nameFits, padded, isKey}
 use Rattle.half_content.specs.Content.{blockBytes, blockCount}
 use Rattle.half_deal.specs.Dealing.{Deal, dealtSet}
 use Rattle.half_seal.specs.Half.{half}
@@ -38,14 +39,15 @@ startDealer name key0 key1 floor =
 unfoldable pub halfSize : ℕ → ℕ
 halfSize n = blockBytes * blockCount n
 
--- why a deal is turned down, where its two buffers have this many bytes
+-- why a deal is turned down, where its two buffers have this many bytes. 13 is "tested after 8", and no threshold is
+-- turned down by it (Laws.`never-marks`).
 unfoldable pub whyNotDeal : Dealer → Deal → ℕ → ℕ → ℕ
 whyNotDeal s d room0 room1 =
     unless (isCode (d .terms .code)) badPartyOrCode
     (unless (isKey (d .seed) && lengthFits (d .terms)) wrongLength
     (unless (leb (halfSize (d .terms .n)) room0 && leb (halfSize (d .terms .n)) room1) shortBuffer
     (unless (ltb (s .last) (d .number)) wrongNumber
-    (unless (thresholdFits (d .terms) (d .t)) outOfRange 0))))
+    (unless (ruleFits (d .terms) (d .rule)) outOfRange (unless (inOrder (d .rule)) badMarks 0)))))
 
 unfoldable pub keyOf : Dealer → ℕ → List ℕ
 keyOf s party = cond (eqb party cameraParty) (s .key0) (s .key1)

@@ -1,17 +1,22 @@
 -- What an accepted start and an accepted deal have been tested for, that the set which a deal gives each party is
 -- proper, and what 02, §2, moves of a half. Assumes nothing.
 use mathlib.Core.Path.{_≡_, ap}
-use mathlib.Core.Bool.{true, not}
+use mathlib.Core.Bool.{Bool, true, false, not, _&&_}
 use mathlib.Core.List.{List}
 use Prim.Native.Nat.{ℕ, _^_, _<_, _≤_}
+use native.Mathlib.Omega.{arith}
 use borrow.Author.Tests.{eqb-true, leb-true, ltb-true}
+use lib.Dec.{leb, ltb}
 use Rattle.base_algebra.specs.Bit.{both}
 use Rattle.base_words.specs.List.{same}
 use lib.ListN.{length}
 use Rattle.measure_table.specs.declared.Terms.{Terms}
-use Rattle.measure_table.specs.Measure.{isCode, lengthFits, thresholdFits}
+use Rattle.measure_table.specs.declared.Rule.{Rule}
+use Rattle.measure_table.specs.declared.Rule.the-variants.{Threshold}
+use Rattle.measure_table.specs.Measure.{isCode, lengthFits, ruleFits, inOrder, widthOf, markOf}
 use Rattle.measure_table.specs.Laws.{scalar-sign}
-use Rattle.base_messages.specs.Messages.{nameFits, isKey}
+use Rattle.base_messages.specs.Messages.{badPartyOrCode, wrongLength, shortBuffer, wrongNumber, outOfRange, badMarks}
+use Rattle.base_messages.specs.Messages.{unless, nameFits, isKey}
 use Rattle.base_messages.specs.Laws.{passed}
 use Rattle.half_content.specs.Content.{Proper}
 use Rattle.half_deal.specs.Dealing.{Deal, dealFrom, dealtSet}
@@ -51,7 +56,8 @@ pub record DealTells (s : Dealer) (d : Deal) (room0 room1 : ℕ) : Type 0 where
   pub room-0 : halfSize (d .terms .n) ≤ room0
   pub room-1 : halfSize (d .terms .n) ≤ room1
   pub above : s .last < d .number
-  pub threshold-fits : thresholdFits (d .terms) (d .t) ≡ true
+  pub rule-fits : ruleFits (d .terms) (d .rule) ≡ true
+  pub in-order : inOrder (d .rule) ≡ true
 
 pub deal-tells : (s : Dealer) (d : Deal) (room0 room1 : ℕ) → whyNotDeal s d room0 room1 ≡ 0 → DealTells s d room0 room1
 unfolding whyNotDeal isKey
@@ -60,6 +66,7 @@ deal-tells s d room0 room1 h =
     let b = passed _ (a .1) in
     let c = passed _ (b .1) in
     let e = passed _ (c .1) in
+    let f = passed _ (e .1) in
     let lengths = both _ _ (b .0) in
     let rooms = both _ _ (c .0) in
     record {
@@ -69,30 +76,54 @@ deal-tells s d room0 room1 h =
       room-0 = leb-true _ _ (rooms .0);
       room-1 = leb-true _ _ (rooms .1);
       above = ltb-true _ _ (e .0);
-      threshold-fits = passed _ (e .1) .0;
+      rule-fits = f .0;
+      in-order = passed _ (f .1) .0;
     }
 
 -- what an accepted deal gives each party
 pub dealt-proper : (s : Dealer) (d : Deal) (room0 room1 party : ℕ)
     → DealTells s d room0 room1 → d .number < 2 ^ 64 → party ≤ 1
     → Proper (dealtSet d party)
-dealt-proper s d room0 room1 party a number low = proper d party number (a .code-fits) (a .length-fits) low
+dealt-proper s d room0 room1 party a number low = proper d party number (a .code-fits) (a .length-fits) (a .in-order) low
 
 -- ---- what T and the measure's sign do to the halves [SPEC 5.8, 5.13]
 
--- party 0's half is the one with 01's r1, whatever the code, and the same for every T
+-- party 0's half is the one with 01's r1, whatever the code, and the same for every T, and for every two marks that are
+-- as far apart
 pub camera-half : (s : Dealer) (d : Deal) → halfFor s d 0 ≡ half (keyOf s 0) (s .name) 0 (setBy01 d 0)
 unfolding halfFor
 camera-half s d = ap (half (keyOf s 0) (s .name) 0) (camera-by-01 d)
 
-pub camera-any-half : (s : Dealer) (number : ℕ) (seed : List ℕ) (terms : Terms) (t u : ℕ)
-    → halfFor s (dealFrom number seed terms t) 0 ≡ halfFor s (dealFrom number seed terms u) 0
+pub camera-any-half : (s : Dealer) (number : ℕ) (seed : List ℕ) (terms : Terms) (rule other : Rule)
+    → widthOf rule ≡ widthOf other → markOf rule ≡ markOf other
+    → halfFor s (dealFrom number seed terms rule) 0 ≡ halfFor s (dealFrom number seed terms other) 0
 unfolding halfFor
-camera-any-half s number seed terms t u = ap (half (keyOf s 0) (s .name) 0) (camera-any number seed terms t u)
+camera-any-half s number seed terms rule other ew em =
+    ap (half (keyOf s 0) (s .name) 0) (camera-any number seed terms rule other ew em)
 
 -- under code 0 so is party 1's
 pub scalar-half : (s : Dealer) (d : Deal) → d .terms .code ≡ 0 → (party : ℕ)
     → halfFor s d party ≡ half (keyOf s party) (s .name) party (setBy01 d party)
 unfolding halfFor
 scalar-half s d e party =
-    ap (half (keyOf s party) (s .name) party) (plain-by-01 d (scalar-sign (d .terms) e) party)
+    ap (half (keyOf s party) (s .name) party) (plain-by-01 d (scalar-sign (d .terms) (markOf (d .rule)) e) party)
+
+-- ---- 13 "at the deal between alone": a deal by a threshold is never turned down by it [SPEC 23.13]
+
+pub never-marks : (s : Dealer) (number : ℕ) (seed : List ℕ) (terms : Terms) (t room0 room1 : ℕ)
+    → whyNotDeal s (dealFrom number seed terms (Threshold t)) room0 room1 ≡ badMarks → ⊥
+unfolding whyNotDeal inOrder unless
+never-marks s number seed terms t room0 room1 =
+    none (isCode (terms .code)) (isKey seed && lengthFits terms)
+    (leb (halfSize (terms .n)) room0 && leb (halfSize (terms .n)) room1) (ltb (s .last) number)
+    (ruleFits terms (Threshold t))
+  where
+    none : (code lengths rooms numbers range : Bool)
+        → unless code badPartyOrCode (unless lengths wrongLength (unless rooms shortBuffer
+        (unless numbers wrongNumber (unless range outOfRange (unless true badMarks 0))))) ≡ badMarks → ⊥
+    none false lengths rooms numbers range e = omega (arith, e)
+    none true false rooms numbers range e = omega (arith, e)
+    none true true false numbers range e = omega (arith, e)
+    none true true true false range e = omega (arith, e)
+    none true true true true false e = omega (arith, e)
+    none true true true true true e = omega (arith, e)

@@ -11,6 +11,7 @@ ghost use Rattle.call_dealer.specs.declared.Dealer.{Dealer};
 use base_messages::KEY;
 use base_messages::NAME;
 use half_content::BLOCK;
+use measure_table::Rule;
 use measure_table::Terms;
 
 // What the dealer keeps: the door's padded name, the keys of the two boxes, and its last set number.
@@ -57,21 +58,22 @@ impl Dealer {
         }
     }
 
-    // Party 0's half is written to out0, party 1's to out1.
+    // Deals a set that answers by a threshold, or between two marks. Party 0's half is written to out0,
+    // party 1's to out1.
     pub fn deal(
         self,
         number: u64,
         seed: &[u8],
         terms: Terms,
-        t: u32,
+        rule: Rule,
         out0: &mut [u8],
         out1: &mut [u8],
     ) -> DealerAnswer
-        ensures { λ r. ⌜ r ≡ dealOf self (dealFrom number (now (seed .entry)) terms t)
+        ensures { λ r. ⌜ r ≡ dealOf self (dealFrom number (now (seed .entry)) terms rule)
             (length (now (out0 .entry))) (length (now (out1 .entry))) ⌝ }
-        ensures { λ _. ⌜ now (out0 .exit) ≡ dealOut self (dealFrom number (now (seed .entry)) terms t)
+        ensures { λ _. ⌜ now (out0 .exit) ≡ dealOut self (dealFrom number (now (seed .entry)) terms rule)
             (now (out0 .entry)) (now (out1 .entry)) 0 ⌝ }
-        ensures { λ _. ⌜ now (out1 .exit) ≡ dealOut self (dealFrom number (now (seed .entry)) terms t)
+        ensures { λ _. ⌜ now (out1 .exit) ≡ dealOut self (dealFrom number (now (seed .entry)) terms rule)
             (now (out0 .entry)) (now (out1 .entry)) 1 ⌝ }
     {
         let why = why_not_deal(
@@ -79,14 +81,14 @@ impl Dealer {
             number,
             seed.len(),
             terms,
-            t,
+            rule,
             out0.len(),
             out1.len(),
         );
         if why != 0 {
             return DealerAnswer { why, dealer: self };
         }
-        write_halves(self, number, seed, terms, t, out0, out1);
+        write_halves(self, number, seed, terms, rule, out0, out1);
         let name = self.name;
         let key0 = self.key0;
         let key1 = self.key1;
@@ -123,12 +125,12 @@ fn why_not_deal(
     number: u64,
     long: usize,
     terms: Terms,
-    t: u32,
+    rule: Rule,
     room0: usize,
     room1: usize,
 ) -> u32
     ensures { λ r. ⌜ ((s : Dealer) (seed : List ℕ) → s .last ≡ last → length seed ≡ long
-        → r ≡ whyNotDeal s (dealFrom number seed terms t) room0 room1) ⌝ }
+        → r ≡ whyNotDeal s (dealFrom number seed terms rule) room0 room1) ⌝ }
 {
     if !measure_table::is_code(terms.code) {
         return base_messages::BAD_PARTY_OR_CODE;
@@ -143,8 +145,11 @@ fn why_not_deal(
     if !(last < number) {
         return base_messages::WRONG_NUMBER;
     }
-    if !measure_table::threshold_fits(terms, t) {
+    if !measure_table::rule_fits(terms, rule) {
         return base_messages::OUT_OF_RANGE;
+    }
+    if !measure_table::in_order(rule) {
+        return base_messages::BAD_MARKS;
     }
     0
 }
@@ -155,18 +160,18 @@ fn write_halves(
     number: u64,
     seed: &[u8],
     terms: Terms,
-    t: u32,
+    rule: Rule,
     out0: &mut [u8],
     out1: &mut [u8],
 )
-    requires { ⌜ whyNotDeal dealer (dealFrom number (now seed) terms t) (length (now out0)) (length (now out1)) ≡ 0 ⌝ }
+    requires { ⌜ whyNotDeal dealer (dealFrom number (now seed) terms rule) (length (now out0)) (length (now out1)) ≡ 0 ⌝ }
     ensures { λ _. ⌜ now (out0 .exit)
-        ≡ over 0 (halfFor dealer (dealFrom number (now (seed .entry)) terms t) 0) (now (out0 .entry)) ⌝ }
+        ≡ over 0 (halfFor dealer (dealFrom number (now (seed .entry)) terms rule) 0) (now (out0 .entry)) ⌝ }
     ensures { λ _. ⌜ now (out1 .exit)
-        ≡ over 0 (halfFor dealer (dealFrom number (now (seed .entry)) terms t) 1) (now (out1 .entry)) ⌝ }
+        ≡ over 0 (halfFor dealer (dealFrom number (now (seed .entry)) terms rule) 1) (now (out1 .entry)) ⌝ }
 {
     let seed = base_slices::bytes_32(seed);
-    let dealt = half_deal::sets(&seed, number, terms, t);
+    let dealt = half_deal::sets(&seed, number, terms, rule);
     let name = dealer.name;
     let key0 = dealer.key0;
     let key1 = dealer.key1;

@@ -10,7 +10,7 @@ use lib.ListN.{length, replicate}
 use Rattle.base_algebra.specs.Bit.{both}
 use Rattle.base_algebra.specs.Word.{add}
 use Rattle.base_words.specs.List.{over, length-tab}
-use Rattle.measure_table.specs.Measure.{mostElements, isCode, lengthFits, allInRange, ownWord, carried, ordinaryWidth}
+use Rattle.measure_table.specs.Measure.{mostElements, isCode, lengthFits, allInRange, ownWord, carried}
 use Rattle.measure_table.specs.Laws.{length-fits}
 use Rattle.share_vectors.specs.Share as Share
 use Rattle.share_vectors.specs.Share.{plus}
@@ -235,7 +235,7 @@ module _ (s : Party) (t : Bool) (et : t ≡ inTurn maskedPhase s) (l : Label) (n
         → x
         ≡ boxShare (s .who .party) (s .check .set .terms .n) (s .check .set .c) (s .check .masked) v (s .check .set .x)
         (s .check .set .y)
-        → w ≡ Share.boxWord (s .check .set .terms) x (s .check .own) (s .check .set .r)
+        → w ≡ Share.boxWord (s .check .set .terms) (s .check .set .mark) x (s .check .own) (s .check .set .r)
         → told k
         (record {
           who = s .who;
@@ -254,7 +254,9 @@ module _ (s : Party) (t : Bool) (et : t ≡ inTurn maskedPhase s) (l : Label) (n
     unfolding P.takeVector worded wordOf
     take-taken x w none ex ew =
         let is : w ≡ wordOf (s .check .set) (s .who .party) (s .check .masked) (s .check .own) v =
-        ew ∙ ap (λ (y : ℕ). Share.boxWord (s .check .set .terms) y (s .check .own) (s .check .set .r)) ex in
+        ew
+        ∙ ap (λ (y : ℕ). Share.boxWord (s .check .set .terms) (s .check .set .mark) y (s .check .own) (s .check .set .r))
+        ex in
         moves k _ _ _ s w _ why-take none (ap (worded s) is) is
 
 module _ (s : Party) (t : Bool) (et : t ≡ inTurn takenPhase s) (l : Label) (name : List ℕ) (w k : ℕ)
@@ -268,12 +270,12 @@ module _ (s : Party) (t : Bool) (et : t ≡ inTurn takenPhase s) (l : Label) (na
   finish-refused some = keeps k _ _ s _ why-finish some
 
   pub finish-taken : (q : Party) (z x : ℕ) → k ≡ 0 → q ≡ ended s → z ≡ add (s .check .word) w
-      → x ≡ Share.answer ordinaryWidth (s .who .party) (s .check .set .key) (s .check .set .seed) z
+      → x ≡ Share.answer (s .check .set .width) (s .who .party) (s .check .set .key) (s .check .set .seed) z
       → told k q x ≡ P.finish s l name w
   unfolding P.finish closed answerOf
   finish-taken q z x none eq ez ex =
       moves k _ _ _ s x _ why-finish none eq
-      (ex ∙ ap (Share.answer ordinaryWidth (s .who .party) (s .check .set .key) (s .check .set .seed)) ez)
+      (ex ∙ ap (Share.answer (s .check .set .width) (s .who .party) (s .check .set .key) (s .check .set .seed)) ez)
 
 -- ---- drop
 

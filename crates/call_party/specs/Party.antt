@@ -1,4 +1,4 @@
--- A box (01, "One check at a box" and "When a call is turned down"): for each call why it is turned down, the next
+-- A box (01, "One check at a box" and "When a call is turned down"; 02, §1 and §4): for each call why it is turned down, the next
 -- state, what it sends, and what it leaves in a lent buffer, for any state and anything handed in. Assumes nothing.
 -- [SPEC 12.5, 13.3, 15.3, 16.3, 17.5, 18.5, 19.2, 24.2, 24.5 to 24.9]
 use mathlib.Core.Bool.{Bool, cond, _&&_, not}
@@ -9,7 +9,7 @@ use lib.ListN.{length, replicate}
 use Rattle.base_algebra.specs.Word.{add}
 use Rattle.base_words.specs.List.{over}
 use Rattle.measure_table.specs.declared.Terms.{Terms}
-use Rattle.measure_table.specs.Measure.{mostElements, isCode, lengthFits, allInRange, ownWord, carried, ordinaryWidth}
+use Rattle.measure_table.specs.Measure.{mostElements, isCode, lengthFits, allInRange, ownWord, carried}
 use Rattle.share_vectors.specs.Share as Share
 use Rattle.share_vectors.specs.Share.{plus}
 use Rattle.base_messages.specs.declared.Label.{Label}
@@ -193,7 +193,8 @@ boxShare party n c ownMasked other x y =
 -- "its word: k × (share) + own + its r" (Share.`boxWord`) [SPEC 17.4]
 unfoldable pub wordOf : Set → ℕ → List ℕ → ℕ → List ℕ → ℕ
 wordOf set party ownMasked own other =
-    Share.boxWord (set .terms) (boxShare party (set .terms .n) (set .c) ownMasked other (set .x) (set .y)) own (set .r)
+    Share.boxWord (set .terms) (set .mark)
+    (boxShare party (set .terms .n) (set .c) ownMasked other (set .x) (set .y)) own (set .r)
 
 unfoldable pub worded : Party → ℕ → Party
 worded s w =
@@ -217,9 +218,9 @@ nextCheck waiting = cond (eqb (waiting .terms .n) 0) noCheck (opened waiting)
 unfoldable pub closed : Party → Party
 closed s = record { who = s .who; last = s .last; check = nextCheck (s .waiting); waiting = noSet }
 
--- "With Z the sum of both words" [SPEC 18.2]
+-- "With Z the sum of both words", over the set's width [SPEC 18.2]
 unfoldable pub answerOf : Set → ℕ → ℕ → ℕ → ℕ
-answerOf set party word other = Share.answer ordinaryWidth party (set .key) (set .seed) (add word other)
+answerOf set party word other = Share.answer (set .width) party (set .key) (set .seed) (add word other)
 
 unfoldable pub finish : Party → Label → List ℕ → ℕ → PartyAnswer
 finish s l name w = answered (whyNotFinish s l name) (closed s) s

@@ -22,7 +22,6 @@ use base_messages::Label;
 use base_messages::NAME;
 use half_content::Set;
 use measure_table::MOST_ELEMENTS;
-use measure_table::ORDINARY_WIDTH;
 use measure_table::Terms;
 
 // A check's phase: with no set open, and after calls 1, 2 and 3.
@@ -419,7 +418,8 @@ impl Party {
         let x = self.check.set.x;
         let y = self.check.set.y;
         let share = box_share(party, terms.n, self.check.set.c, masked, v, x, y);
-        let word = share_answers::word(terms, share, self.check.own, self.check.set.r);
+        let mark = self.check.set.mark;
+        let word = share_answers::word(terms, mark, share, self.check.own, self.check.set.r);
         let mut next = self;
         next.check.phase = TAKEN;
         next.check.word = word;
@@ -455,7 +455,7 @@ impl Party {
         let key = self.check.set.key;
         let seed = self.check.set.seed;
         let z = base_words::add(self.check.word, word);
-        let answer = share_answers::answer(ORDINARY_WIDTH, party, key, seed, z);
+        let answer = share_answers::answer(self.check.set.width, party, key, seed, z);
         let next = closed(self.who, self.last, self.waiting);
         PartyAnswer {
             why,

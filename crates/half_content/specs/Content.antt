@@ -1,11 +1,11 @@
--- What a half holds (01, "The sealed half"): the plain content of a set for a party, as a list of fields in order, and
--- the set read back from it. A field more is a name for its place, its width, its bytes, and where it is read back.
+-- What a half holds (01, "The sealed half"; 02, §4): the plain content of a set for a party, as a list of fields in
+-- order, and the set read back from it. A field more is a name for its place, its width, its bytes, and where it is read back.
 -- Bytes are numbers below 256. Assumes nothing. [SPEC 9.1 to 9.6]
 use mathlib.Core.Path.{_≡_}
-use mathlib.Core.Bool.{Bool, true, _&&_}
+use mathlib.Core.Bool.{Bool, true, cond, _&&_}
 use mathlib.Core.List.{List, [], _∷_, _++_, map}
 use Prim.Native.Nat.{ℕ, zero, suc, _+_, _*_, _-_, _/_, _^_, _<_}
-use lib.Dec.{eqb, ltb}
+use lib.Dec.{eqb, leb, ltb}
 use lib.ListN.{length, getD, take, drop, replicate}
 use Rattle.base_words.specs.Numbers.{bytes, number}
 use Rattle.base_words.specs.List.{same, flat}
@@ -13,7 +13,7 @@ use Rattle.base_words.specs.Bytes.{le32, bytesOf, wordAt, wordsAt}
 use Rattle.dcf_node.specs.declared.Correction.{Correction}
 use Rattle.dcf_node.specs.declared.Key.{Key}
 use Rattle.measure_table.specs.declared.Terms.{Terms}
-use Rattle.measure_table.specs.Measure.{mostElements, isCode, lengthFits}
+use Rattle.measure_table.specs.Measure.{mostElements, ordinaryMark, betweenMark, ordinaryWidth, isCode, lengthFits}
 use Rattle.half_content.specs.declared.Set.{Set}
 
 -- n elements of a list, from `at` on
@@ -46,7 +46,8 @@ correctionBytes c = bytesOf (c .seed) ++ (le32 (c .word) ++ (c .flags ∷ []))
 
 -- "name (16 bytes, zero after its end), party, measure code, L (2 bytes, little-endian), own mask (L words), the
 -- party's share of X's mask, then of Y's (L words each), its c and r words, key seed, 32 corrections of 37 bytes (..),
--- final word": each field by its place among them, .. [SPEC 9.1]
+-- final word", and 02, §4: "the width w = Q - P as one more word after the final word, then a mark byte": each field by
+-- its place among them, .. [SPEC 9.1]
 abbrev pub nameField : ℕ
 nameField = 0
 
@@ -83,9 +84,15 @@ correctionsField = 10
 abbrev pub lastField : ℕ
 lastField = 11
 
+abbrev pub widthField : ℕ
+widthField = 12
+
+abbrev pub markField : ℕ
+markField = 13
+
 -- .. how many bytes each has, where vectors have n elements, ..
 unfoldable pub widths : ℕ → List ℕ
-widths n = 16 ∷ 1 ∷ 1 ∷ 2 ∷ 4 * n ∷ 4 * n ∷ 4 * n ∷ 4 ∷ 4 ∷ 32 ∷ 32 * 37 ∷ 4 ∷ []
+widths n = 16 ∷ 1 ∷ 1 ∷ 2 ∷ 4 * n ∷ 4 * n ∷ 4 * n ∷ 4 ∷ 4 ∷ 32 ∷ 32 * 37 ∷ 4 ∷ 4 ∷ 1 ∷ []
 
 -- .. and which
 unfoldable pub fields : List ℕ → ℕ → Set → List (List ℕ)
@@ -93,7 +100,7 @@ fields name party s =
     let n : ℕ = s .terms .n in
     name ∷ (party ∷ []) ∷ (s .terms .code ∷ []) ∷ bytes 2 n ∷ bytesOf (take n (s .mask)) ∷ bytesOf (take n (s .x))
     ∷ bytesOf (take n (s .y)) ∷ le32 (s .c) ∷ le32 (s .r) ∷ bytesOf (s .seed)
-    ∷ flat (map correctionBytes (s .key .corrections)) ∷ le32 (s .key .last) ∷ []
+    ∷ flat (map correctionBytes (s .key .corrections)) ∷ le32 (s .key .last) ∷ le32 (s .width) ∷ (s .mark ∷ []) ∷ []
 
 -- the sum of a list's first k numbers
 unfoldable pub sumFirst : List ℕ → ℕ → ℕ
@@ -108,7 +115,8 @@ offset n f = sumFirst (widths n) f
 unfoldable pub width : ℕ → ℕ → ℕ
 width n f = getD (widths n) f 0
 
--- all of them: "That is 1,248 + 12 × L bytes, zero-filled to whole blocks of 484" (Laws.`size-is`) [SPEC 9.4 to 9.6]
+-- all of them: "Content is then 1,253 + 12 × L bytes" (02, §4), "zero-filled to whole blocks of 484" (Laws.`size-is`)
+-- [SPEC 9.4 to 9.6]
 unfoldable pub size : ℕ → ℕ
 size n = sumFirst (widths n) (length (widths n))
 
@@ -147,6 +155,12 @@ correctionsIn f (suc i) = correctionsIn f i ++ (correctionIn f i ∷ [])
 unfoldable pub keyIn : List ℕ → Key
 keyIn b = record { corrections = correctionsIn (field b correctionsField) 32; last = wordAt (field b lastField) 0 }
 
+unfoldable pub widthIn : List ℕ → ℕ
+widthIn b = wordAt (field b widthField) 0
+
+unfoldable pub markIn : List ℕ → ℕ
+markIn b = getD (field b markField) 0 0
+
 -- the set of this number that plain content holds
 unfoldable pub setIn : ℕ → List ℕ → Set
 setIn set b =
@@ -161,6 +175,8 @@ setIn set b =
       r = wordAt (field b rField) 0;
       seed = wordsAt 8 (field b seedField);
       key = keyIn b;
+      width = widthIn b;
+      mark = markIn b;
     }
 
 -- no set: all that a set brings is zero, "code and L included" [SPEC 12.10]
@@ -179,14 +195,22 @@ noSet =
       r = 0;
       seed = replicate 8 0;
       key = record { corrections = replicate 32 noCorrection; last = 0 };
+      width = 0;
+      mark = 0;
     }
 
 -- ---- 01's eleventh refusal: "Opened content has another name or party, a code, L or flag byte out of range, a block
--- count that doesn't fit L, or non-zero fill" [SPEC 23.11]
+-- count that doesn't fit L, or non-zero fill", and it "takes in a mark above 1, a w above 2^31 - 1, and another w under
+-- mark 0" (02, §4) [SPEC 23.11]
 
 unfoldable pub flagsFit : List Correction → Bool
 flagsFit [] = true
 flagsFit (c ∷ l) = ltb (c .flags) 4 && flagsFit l
+
+-- width, mark
+unfoldable pub widthFits : ℕ → ℕ → Bool
+widthFits w mark =
+    leb mark betweenMark && (leb w ordinaryWidth && cond (eqb mark ordinaryMark) (eqb w ordinaryWidth) true)
 
 unfoldable pub zeros : List ℕ → Bool
 zeros [] = true
@@ -201,7 +225,8 @@ contentFits name party count b =
     && (isCode (terms .code)
     && (lengthFits terms
     && (eqb (blockCount (terms .n)) count
-    && (flagsFit (keyIn b .corrections) && zeros (drop (size (terms .n)) b))))))
+    && (flagsFit (keyIn b .corrections)
+    && (widthFits (widthIn b) (markIn b) && zeros (drop (size (terms .n)) b)))))))
 
 -- ---- a set as a deal makes it: what lies in the ranges of its fields
 
@@ -236,3 +261,4 @@ pub record Proper (s : Set) : Type 0 where
   pub levels : length (s .key .corrections) ≡ 32
   pub corrections-fit : Corrections (s .key .corrections)
   pub last-fits : s .key .last < 2 ^ 32
+  pub width-fits : widthFits (s .width) (s .mark) ≡ true

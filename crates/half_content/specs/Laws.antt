@@ -4,8 +4,8 @@ use mathlib.Core.Bool.{Bool, true, _&&_}
 use mathlib.Core.List.{List, [], _∷_, _++_, map, append-nil}
 use Prim.Native.Nat.{ℕ, zero, suc, _+_, _*_, _-_, _^_, _<_, _≤_}
 use native.Mathlib.Omega.{arith}
-use borrow.Author.Tests.{eq-eqb, eqb-true, lt-ltb}
-use lib.Dec.{eqb}
+use borrow.Author.Tests.{eq-eqb, eqb-true, leb-true, lt-ltb}
+use lib.Dec.{eqb, leb}
 use lib.ListN.{length, getD, take, drop, replicate, length-append, length-replicate, length-map}
 use lib.Seq.{take-at, drop-at, take-suc, take-all, getD-take, getD-drop, take-append-add}
 use Rattle.base_algebra.specs.Bit.{both}
@@ -15,23 +15,23 @@ use Rattle.base_words.specs.Bytes.{le32, bytesOf, wordAt, wordsAt, length-bytes
 use Rattle.dcf_node.specs.declared.Correction.{Correction}
 use Rattle.dcf_node.specs.declared.Key.{Key}
 use Rattle.measure_table.specs.declared.Terms.{Terms}
-use Rattle.measure_table.specs.Measure.{mostElements, isCode, lengthFits}
+use Rattle.measure_table.specs.Measure.{mostElements, betweenMark, ordinaryWidth, isCode, lengthFits}
 use Rattle.measure_table.specs.Laws.{code-lt, length-fits}
 use Rattle.half_content.specs.declared.Set.{Set}
 use Rattle.half_content.specs.Content.{textBytes, mostBlocks, roomBytes, part, fill, correctionBytes}
 use Rattle.half_content.specs.Content.{nameField, partyField, codeField, lengthField, maskField, xField, yField}
-use Rattle.half_content.specs.Content.{cField, rField, seedField, correctionsField, lastField}
+use Rattle.half_content.specs.Content.{cField, rField, seedField, correctionsField, lastField, widthField, markField}
 use Rattle.half_content.specs.Content.{fields, widths, sumFirst, offset, width, size, blockCount, plain}
 use Rattle.half_content.specs.Content.{lengthIn, field, termsIn, correctionIn, correctionsIn, keyIn, setIn}
-use Rattle.half_content.specs.Content.{noCorrection, flagsFit, zeros, contentFits}
+use Rattle.half_content.specs.Content.{widthIn, markIn, noCorrection, flagsFit, widthFits, zeros, contentFits}
 use Rattle.half_content.specs.Content.{Words, Filled, Corrections, FlagBytes, Proper}
 use Rattle.half_content.specs.Pieces.{sumFirst-suc, length-flat, piece-at, part-flat, take-replicate, wordAt-past}
 use Rattle.half_content.specs.Pieces.{getD-past, length-even, wordsAt-bytesOf, words-back, wordAt-le32}
 
 -- ---- sizes
 
--- "That is 1,248 + 12 × L bytes"
-pub size-is : (n : ℕ) → size n ≡ 1248 + 12 * n
+-- "Content is then 1,253 + 12 × L bytes"
+pub size-is : (n : ℕ) → size n ≡ 1253 + 12 * n
 unfolding size widths sumFirst
 size-is n = omega arith
 
@@ -165,6 +165,15 @@ lengthIn-take k b h =
     ∙ ap₂ (λ (x y : ℕ). x + 256 * y) (getD-take k b at 0 (omega arith)) (getD-take k b (at + 1) 0 (omega arith))
     ∙ sym (lengthIn-bytes b)
 
+-- ---- width and mark
+
+pub width-tells : (w mark : ℕ) → widthFits w mark ≡ true → (mark ≤ betweenMark) × (w < 2 ^ 32)
+unfolding widthFits
+width-tells w mark h =
+    let parts = both (leb mark betweenMark) _ h in
+    let narrow = leb-true w ordinaryWidth (both (leb w ordinaryWidth) _ (parts .1) .0) in
+    (leb-true mark betweenMark (parts .0), omega (arith, narrow))
+
 -- ---- plain content
 
 module _ (name : List ℕ) (party : ℕ) (s : Set) (named : length name ≡ 16) (p : Proper s) where
@@ -195,7 +204,7 @@ module _ (name : List ℕ) (party : ℕ) (s : Set) (named : length name ≡ 16) 
       let e : length (bytesOf (s .seed)) ≡ 32 = length-bytesOf (s .seed) ∙ omega (arith, p .seed-fits .long) in
       let c : length (flat (map correctionBytes cs)) ≡ 32 * 37 =
       length-corrections cs (p .corrections-fit) ∙ omega (arith, p .levels) in
-      λ k. named k ∷ 1 ∷ 1 ∷ 2 ∷ m k ∷ x k ∷ y k ∷ 4 ∷ 4 ∷ e k ∷ c k ∷ 4 ∷ []
+      λ k. named k ∷ 1 ∷ 1 ∷ 2 ∷ m k ∷ x k ∷ y k ∷ 4 ∷ 4 ∷ e k ∷ c k ∷ 4 ∷ 4 ∷ 1 ∷ []
 
   pub length-fields : length laid ≡ size n
   unfolding size fields
@@ -264,6 +273,14 @@ module _ (name : List ℕ) (party : ℕ) (s : Set) (named : length name ≡ 16) 
       let last = word lastField (s .key .last) refl (p .last-fits) in
       λ k. record { corrections = corrections k; last = last k }
 
+  its-width : widthIn (plain name party s) ≡ s .width
+  unfolding widthIn fields
+  its-width = word widthField (s .width) refl (width-tells (s .width) (s .mark) (p .width-fits) .1)
+
+  its-mark : markIn (plain name party s) ≡ s .mark
+  unfolding markIn fields
+  its-mark = ap (λ (b : List ℕ). getD b 0 0) (field-plain markField)
+
   -- what was laid out is read back
   pub setIn-plain : setIn (s .number) (plain name party s) ≡ s
   unfolding setIn fields
@@ -284,6 +301,8 @@ module _ (name : List ℕ) (party : ℕ) (s : Set) (named : length name ≡ 16) 
         r = r k;
         seed = seed k;
         key = key k;
+        width = its-width k;
+        mark = its-mark k;
       }
 
   -- and it fits
@@ -293,16 +312,17 @@ module _ (name : List ℕ) (party : ℕ) (s : Set) (named : length name ≡ 16) 
       let b : List ℕ = plain name party s in
       let asked : Terms → Bool =
       λ t. isCode (t .code) && (lengthFits t && (eqb (blockCount (t .n)) (blockCount n)
-      && (flagsFit (keyIn b .corrections) && zeros (drop (size (t .n)) b)))) in
+      && (flagsFit (keyIn b .corrections) && (widthFits (widthIn b) (markIn b) && zeros (drop (size (t .n)) b))))) in
       let its-name = ap (λ (l : List ℕ). same l name) (field-plain nameField) ∙ same-refl name in
       let its-party =
       eq-eqb (getD (field b partyField) 0 0) party (ap (λ (l : List ℕ). getD l 0 0) (field-plain partyField)) in
       let count = eq-eqb (blockCount n) (blockCount n) refl in
       let flags =
       ap (λ (k : Key). flagsFit (k .corrections)) key ∙ flags-fit (s .key .corrections) (p .corrections-fit) in
+      let wide = ap₂ widthFits its-width its-mark ∙ p .width-fits in
       let filled = ap zeros drop-plain ∙ zeros-replicate (textBytes * blockCount n - size n) in
       ap₂ _&&_ its-name (ap₂ _&&_ its-party (ap asked terms
-      ∙ ap₂ _&&_ (p .code-fits) (ap₂ _&&_ (p .length-fits) (ap₂ _&&_ count (ap₂ _&&_ flags filled)))))
+      ∙ ap₂ _&&_ (p .code-fits) (ap₂ _&&_ (p .length-fits) (ap₂ _&&_ count (ap₂ _&&_ flags (ap₂ _&&_ wide filled))))))
 
 -- ---- what the code asks of its callers
 
@@ -314,6 +334,9 @@ few-blocks s p =
 -- lay_out asks of a set what Proper says of it
 pub code-byte : (s : Set) → Proper s → s .terms .code < 256
 code-byte s p = omega (arith, code-lt (s .terms .code) (p .code-fits))
+
+pub mark-byte : (s : Set) → Proper s → s .mark < 256
+mark-byte s p = omega (arith, width-tells (s .width) (s .mark) (p .width-fits) .0)
 
 pub flag-bytes : (s : Set) → Proper s → FlagBytes (s .key .corrections)
 unfolding FlagBytes Corrections

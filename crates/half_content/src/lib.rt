@@ -3,10 +3,14 @@
 ghost use mathlib.Core.Path.{_≡_};
 ghost use Prim.Native.Nat.{_≤_};
 ghost use Rattle.half_content.specs.Content.{xField, yField, cField, rField, seedField, correctionsField};
-ghost use Rattle.half_content.specs.Content.{lastField, offset, size, blockCount, noCorrection, noSet};
+ghost use Rattle.half_content.specs.Content.{lastField, widthField, markField, offset, size, blockCount};
+ghost use Rattle.half_content.specs.Content.{noCorrection, noSet, widthFits};
 use dcf_node::Correction;
 use dcf_node::Key;
+use measure_table::BETWEEN_MARK;
 use measure_table::MOST_ELEMENTS;
+use measure_table::ORDINARY_MARK;
+use measure_table::ORDINARY_WIDTH;
 use measure_table::Terms;
 
 // The bytes of a block, and how many of them are sealed text. It stands past twelve bytes, the set's
@@ -23,7 +27,8 @@ pub const MOST_BLOCKS: usize = 16;
 pub const ROOM: usize = MOST_BLOCKS * TEXT;
 
 // An opened set: the mask of the party's own vector, its shares of X's mask and of Y's, its c and r
-// words, its key seed, and the comparison key. Arrays are zero past the terms' length. [SPEC 3.1, 12.11]
+// words, its key seed, the comparison key, and the width and mark of the rule that it was dealt by.
+// Arrays are zero past the terms' length. [SPEC 3.1, 3.14, 12.11]
 #[repr(C)]
 pub struct Set {
     pub number: u64,
@@ -35,6 +40,8 @@ pub struct Set {
     pub r: u32,
     pub seed: [u32; 8],
     pub key: Key,
+    pub width: u32,
+    pub mark: u32,
 }
 
 // A correction word of zeros.
@@ -67,6 +74,8 @@ pub fn no_set() -> Set
         r: 0,
         seed: [0; 8],
         key,
+        width: 0,
+        mark: 0,
     }
 }
 
@@ -82,7 +91,8 @@ pub const LENGTH_AT: usize = CODE_AT + 1;
 
 pub const HEAD: usize = LENGTH_AT + 2;
 
-// c, r, the key seed, the corrections and the final word: the bytes past the vectors, counted from c.
+// c, r, the key seed, the corrections, the final word, the width and the mark: the bytes past the
+// vectors, counted from c.
 pub const R_IN_TAIL: usize = 4;
 
 pub const SEED_IN_TAIL: usize = R_IN_TAIL + 4;
@@ -91,7 +101,11 @@ pub const CORRECTIONS_IN_TAIL: usize = SEED_IN_TAIL + 32;
 
 pub const LAST_IN_TAIL: usize = CORRECTIONS_IN_TAIL + 32 * 37;
 
-pub const TAIL: usize = LAST_IN_TAIL + 4;
+pub const WIDTH_IN_TAIL: usize = LAST_IN_TAIL + 4;
+
+pub const MARK_IN_TAIL: usize = WIDTH_IN_TAIL + 4;
+
+pub const TAIL: usize = MARK_IN_TAIL + 1;
 
 // The share of X's mask.
 pub fn x_at(n: usize) -> usize
@@ -144,6 +158,31 @@ pub fn last_at(n: usize) -> usize
     ensures { λ r. ⌜ r ≡ offset n lastField ⌝ }
 {
     c_at(n) + LAST_IN_TAIL
+}
+
+pub fn width_at(n: usize) -> usize
+    requires { ⌜ n ≤ 65535 ⌝ }
+    ensures { λ r. ⌜ r ≡ offset n widthField ⌝ }
+{
+    c_at(n) + WIDTH_IN_TAIL
+}
+
+pub fn mark_at(n: usize) -> usize
+    requires { ⌜ n ≤ 65535 ⌝ }
+    ensures { λ r. ⌜ r ≡ offset n markField ⌝ }
+{
+    c_at(n) + MARK_IN_TAIL
+}
+
+// Whether a set may have this width and this mark.
+pub fn width_fits(width: u32, mark: u32) -> bool
+    ensures { λ r. ⌜ r ≡ widthFits width mark ⌝ }
+{
+    let fits = (mark <= BETWEEN_MARK) & (width <= ORDINARY_WIDTH);
+    if mark == ORDINARY_MARK {
+        return fits & (width == ORDINARY_WIDTH);
+    }
+    fits
 }
 
 // The bytes of all fields.

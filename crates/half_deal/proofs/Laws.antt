@@ -14,14 +14,15 @@ use Rattle.chacha20_stream.specs.Keystream.{stream}
 use Rattle.dcf_node.specs.declared.Key.{Key}
 use Rattle.dcf_node.specs.Node.{keyFor}
 use Rattle.measure_table.specs.declared.Terms.{Terms}
+use Rattle.measure_table.specs.declared.Rule.{Rule}
 use Rattle.share_vectors.specs.Share.{plus, otherC, otherR}
 use Rattle.half_content.specs.declared.Set.{Set}
-use Rattle.measure_table.specs.Measure.{mostElements}
+use Rattle.measure_table.specs.Measure.{mostElements, offsetOf, widthOf, markOf}
 use Rattle.half_content.specs.Content.{part, fill}
 use Rattle.half_content.specs.Laws.{fill-rest, fill-over}
 use Rattle.half_content.specs.Pieces.{length-part}
-use Rattle.half_deal.specs.Dealing.{setWords, x, y, c0, r, r0, keySeed, maskX, maskY, ownMask, cOf, dealFrom, rOf}
-use Rattle.half_deal.specs.Dealing.{setFrom}
+use Rattle.half_deal.specs.Dealing.{setWords, x, y, c0, r, r0, keySeed, maskX, maskY, ownMask, cOf, Deal, rOf}
+use Rattle.half_deal.specs.Dealing.{dealFrom, setFrom}
 use Rattle.half_deal.specs.Laws.{other-c-fill}
 
 -- ---- copies
@@ -89,8 +90,8 @@ pub at-most : (party n : ℕ) → party ≤ 1 → party * n ≤ 1 * n
 at-most party n h = mul-le-mul-right n h
 
 -- a party's set, from what is made for it and its own words
-abbrev pub setWith : ℕ → ℕ → Terms → List ℕ → List ℕ → ℕ → ℕ → Key → Set
-setWith party number terms w m c r′ key =
+abbrev pub setWith : ℕ → ℕ → Terms → Rule → List ℕ → List ℕ → ℕ → ℕ → Key → Set
+setWith party number terms rule w m c r′ key =
     let n : ℕ = terms .n in
     record {
       number = number;
@@ -102,6 +103,8 @@ setWith party number terms w m c r′ key =
       r = r′;
       seed = keySeed n w party;
       key = key;
+      width = widthOf rule;
+      mark = markOf rule;
     }
 
 -- what is made for the two of them, X's shares standing from 0 on and Y's from 2 n on
@@ -109,7 +112,7 @@ module _ (terms : Terms) where
   abbrev n : ℕ
   n = terms .n
 
-  module _ (number t : ℕ) (w mx my k0 k1 : List ℕ) (key : Key)
+  module _ (number : ℕ) (rule : Rule) (w mx my k0 k1 : List ℕ) (key : Key)
       (emx : mx ≡ fill (plus n (part 0 n w) (part (0 + n) n w)))
       (emy : my ≡ fill (plus n (part (2 * n) n w) (part (2 * n + n) n w)))
       (e0 : k0 ≡ keySeed n w 0) (e1 : k1 ≡ keySeed n w 1) (ek : key ≡ keyFor k0 k1 (getD w (4 * n + 1) 0)) where
@@ -130,17 +133,21 @@ module _ (terms : Terms) where
     unfolding r
     is-key = ek ∙ ap₂ (λ (a b : List ℕ). keyFor a b (getD w (4 * n + 1) 0)) e0 e1
 
-    pub sets-law : (camera office : Set) (c1 r1 : ℕ)
-        → camera ≡ setWith 0 number terms w mx (getD w (4 * n) 0) (getD w (4 * n + 2) 0) key
-        → c1 ≡ otherC n mx my (getD w (4 * n) 0) → r1 ≡ otherR terms (getD w (4 * n + 1) 0) t (getD w (4 * n + 2) 0)
-        → office ≡ setWith 1 number terms w my c1 r1 key
+    pub sets-law : (camera office : Set) (c1 mark t r1 : ℕ)
+        → camera ≡ setWith 0 number terms rule w mx (getD w (4 * n) 0) (getD w (4 * n + 2) 0) key
+        → c1 ≡ otherC n mx my (getD w (4 * n) 0) → mark ≡ markOf rule → t ≡ offsetOf rule
+        → r1 ≡ otherR terms mark (getD w (4 * n + 1) 0) t (getD w (4 * n + 2) 0)
+        → office ≡ setWith 1 number terms rule w my c1 r1 key
         → (seed : List ℕ)
-        → (camera ≡ setFrom (dealFrom number seed terms t) w 0) × (office ≡ setFrom (dealFrom number seed terms t) w 1)
+        → (let d : Deal = dealFrom number seed terms rule in
+        (camera ≡ setFrom d w 0) × (office ≡ setFrom d w 1))
     unfolding setFrom ownMask cOf rOf c0 r r0
-    sets-law camera office c1 r1 e ec er f seed =
+    sets-law camera office c1 mark t r1 e ec em et er f seed =
         let first : ℕ = getD w (4 * n) 0 in
         let is-c1 : c1 ≡ otherC n (maskX n w) (maskY n w) first =
-        ec ∙ ap₂ (λ (a b : List ℕ). otherC n a b first) is-x is-y ∙ other-c-fill n (maskX n w) (maskY n w) first in (
-          e ∙ (λ i. setWith 0 number terms w (is-x i) first (getD w (4 * n + 2) 0) (is-key i)),
-          f ∙ (λ i. setWith 1 number terms w (is-y i) (is-c1 i) (er i) (is-key i)),
+        ec ∙ ap₂ (λ (a b : List ℕ). otherC n a b first) is-x is-y ∙ other-c-fill n (maskX n w) (maskY n w) first in
+        let is-r1 : r1 ≡ otherR terms (markOf rule) (getD w (4 * n + 1) 0) (offsetOf rule) (getD w (4 * n + 2) 0) =
+        er ∙ ap₂ (λ (g s : ℕ). otherR terms g (getD w (4 * n + 1) 0) s (getD w (4 * n + 2) 0)) em et in (
+          e ∙ (λ i. setWith 0 number terms rule w (is-x i) first (getD w (4 * n + 2) 0) (is-key i)),
+          f ∙ (λ i. setWith 1 number terms rule w (is-y i) (is-c1 i) (is-r1 i) (is-key i)),
         )

@@ -1,4 +1,4 @@
--- Dealing a set (01, "Dealing a set"; 02, §2): the words that the dealer draws, and the set that each party gets. A
+-- Dealing a set (01, "Dealing a set"; 02, §2 and §4): the words that the dealer draws, and the set that each party gets. A
 -- party is its number. Assumes nothing. [SPEC 5.1, 5.9 to 5.11, 5.13]
 use mathlib.Core.Bool.{cond}
 use mathlib.Core.List.{List, [], _∷_}
@@ -9,6 +9,8 @@ use Rattle.base_words.specs.Bytes.{wordsAt}
 use Rattle.chacha20_stream.specs.Keystream.{stream}
 use Rattle.dcf_node.specs.Node.{keyFor}
 use Rattle.measure_table.specs.declared.Terms.{Terms}
+use Rattle.measure_table.specs.declared.Rule.{Rule}
+use Rattle.measure_table.specs.Measure.{offsetOf, widthOf, markOf}
 use Rattle.share_vectors.specs.Share.{plus, otherC, otherR}
 use Rattle.half_content.specs.declared.Set.{Set}
 use Rattle.half_content.specs.Content.{part, fill}
@@ -53,29 +55,29 @@ module _ (n : ℕ) (w : List ℕ) where
   unfoldable pub cOf : ℕ → ℕ
   cOf party = cond (eqb party 0) c0 (otherC n maskX maskY c0)
 
--- what is dealt: a set's number and seed, its terms, and the threshold T, which no box knows
+-- what is dealt: a set's number and seed, its terms, and its rule, a threshold T or two marks P and Q
 pub record Deal : Type 0 where
   pub number : ℕ
   pub seed : List ℕ
   pub terms : Terms
-  pub t : ℕ
+  pub rule : Rule
 
-abbrev pub dealFrom : ℕ → List ℕ → Terms → ℕ → Deal
-dealFrom number seed terms t = record { number = number; seed = seed; terms = terms; t = t }
+abbrev pub dealFrom : ℕ → List ℕ → Terms → Rule → Deal
+dealFrom number seed terms rule = record { number = number; seed = seed; terms = terms; rule = rule }
 
--- r0 at party 0, r1 at party 1, from the words that were drawn [SPEC 5.8, 5.9]
+-- r0 at party 0, r1 at party 1, from the words that were drawn; T or P is in no other word [SPEC 5.8, 5.9]
 unfoldable pub rOf : Deal → List ℕ → ℕ → ℕ
 rOf d w party =
     let n : ℕ = d .terms .n in
-    cond (eqb party 0) (r0 n w) (otherR (d .terms) (r n w) (d .t) (r0 n w))
+    cond (eqb party 0) (r0 n w) (otherR (d .terms) (markOf (d .rule)) (r n w) (offsetOf (d .rule)) (r0 n w))
 
--- a party's set of this number and these terms, from the words that were drawn and its r word: T is in no other word
-abbrev pub setWith : ℕ → Terms → List ℕ → ℕ → ℕ → Set
-setWith number terms w party its-r =
-    let n : ℕ = terms .n in
+-- a party's set of this deal, from the words that were drawn and its r word
+abbrev pub setWith : Deal → List ℕ → ℕ → ℕ → Set
+setWith d w party its-r =
+    let n : ℕ = d .terms .n in
     record {
-      number = number;
-      terms = terms;
+      number = d .number;
+      terms = d .terms;
       mask = fill (ownMask n w party);
       x = fill (x n w party);
       y = fill (y n w party);
@@ -83,11 +85,13 @@ setWith number terms w party its-r =
       r = its-r;
       seed = keySeed n w party;
       key = keyFor (keySeed n w 0) (keySeed n w 1) (r n w);
+      width = widthOf (d .rule);
+      mark = markOf (d .rule);
     }
 
 -- the set that a party gets from them
 unfoldable pub setFrom : Deal → List ℕ → ℕ → Set
-setFrom d w party = setWith (d .number) (d .terms) w party (rOf d w party)
+setFrom d w party = setWith d w party (rOf d w party)
 
 -- what a deal gives a party
 unfoldable pub dealtSet : Deal → ℕ → Set

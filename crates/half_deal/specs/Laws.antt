@@ -2,15 +2,16 @@
 -- the two sets of a deal get the join law's sum (01, "One check at a box"). For every set seed. Assumes nothing.
 -- [SPEC 9.1, 18.7]
 use mathlib.Core.Path.{_≡_, refl, ap, ap₂}
-use mathlib.Core.Bool.{Bool, true, false, cond}
+use mathlib.Core.Bool.{Bool, true, false, cond, _&&_}
 use mathlib.Core.List.{List, [], _∷_, _++_}
 use Prim.Native.Nat.{ℕ, zero, suc, _+_, _-_, _*_, _^_, _<_, _≤_}
 use native.Mathlib.Nat.{mul-le-mul-right}
 use native.Mathlib.Omega.{arith}
+use borrow.Author.Tests.{le-leb}
 use lib.Dec.{eqb}
 use lib.ListN.{length, getD, drop, replicate}
 use lib.Seq.{getD-drop}
-use Rattle.base_algebra.specs.Word.{add, sub, mul, signed, add-lt, sub-lt}
+use Rattle.base_algebra.specs.Word.{add, sub, mul, add-lt, sub-lt}
 use Rattle.base_algebra.specs.Bit.{only, odd}
 use Rattle.base_algebra.specs.Sum.{sum-ext}
 use Rattle.base_words.specs.List.{tab, length-tab, tab-ext}
@@ -19,12 +20,15 @@ use Rattle.chacha20_stream.specs.Keystream.{keyWord, stream}
 use Rattle.dcf_node.specs.declared.Correction.{Correction}
 use Rattle.dcf_node.specs.Bounds.{Below, Fits, take-below, block-below, key-long, key-fits, last-below}
 use Rattle.measure_table.specs.declared.Terms.{Terms}
-use Rattle.measure_table.specs.Measure.{mostElements, isCode, lengthFits, measure, reached, allInRange, thresholdFits}
-use Rattle.measure_table.specs.Measure.{ownWord, carried, ordinaryWidth}
+use Rattle.measure_table.specs.declared.Rule.{Rule}
+use Rattle.measure_table.specs.declared.Rule.the-variants.{Threshold, Between}
+use Rattle.measure_table.specs.Measure.{mostElements, ordinaryWidth, isCode, lengthFits, measure, allInRange}
+use Rattle.measure_table.specs.Measure.{meets, ruleFits, inOrder, widthOf, markOf, ownWord, carried}
+use Rattle.measure_table.specs.Laws.{width-most}
 use Rattle.share_vectors.specs.Share.{plus, inner, otherC, otherR, share, boxWord, answer}
 use Rattle.share_vectors.specs.Claims.{join-law}
 use Rattle.half_content.specs.declared.Set.{Set}
-use Rattle.half_content.specs.Content.{part, fill, noCorrection, Words, Filled, Corrections, Proper}
+use Rattle.half_content.specs.Content.{part, fill, noCorrection, widthFits, Words, Filled, Corrections, Proper}
 use Rattle.half_content.specs.Pieces.{length-part}
 use Rattle.half_deal.specs.Dealing.{setWords, x, y, c0, r, r0, keySeed, maskX, maskY, ownMask, cOf, Deal, rOf}
 use Rattle.half_deal.specs.Dealing.{setFrom, dealtSet}
@@ -67,14 +71,21 @@ plus-words n a b = record { long = length-tab _ n; below = tab-below _ n (λ i. 
 
 -- ---- a dealt set is proper
 
+-- a rule has the width and the mark that 11 asks for
+rule-width : (rule : Rule) → inOrder rule ≡ true → widthFits (widthOf rule) (markOf rule) ≡ true
+unfolding widthOf markOf widthFits
+rule-width (Threshold t) h = refl
+rule-width (Between p q) h =
+    ap (λ (b : Bool). b && true) (le-leb (sub q p) ordinaryWidth (width-most (Between p q) h))
+
 module _ (d : Deal) (w : List ℕ) (long : length w ≡ 4 * d .terms .n + 19) (below : Below w) where
   abbrev n : ℕ
   n = d .terms .n
 
   proper-from : (party : ℕ) → d .number < 2 ^ 64 → isCode (d .terms .code) ≡ true → lengthFits (d .terms) ≡ true
-      → party ≤ 1 → Proper (setFrom d w party)
+      → inOrder (d .rule) ≡ true → party ≤ 1 → Proper (setFrom d w party)
   unfolding setFrom ownMask maskX maskY cOf rOf x y c0 r0 keySeed Filled Corrections otherC otherR
-  proper-from party hnumber hcode hlength hparty =
+  proper-from party hnumber hcode hlength hrule hparty =
       let before : party * n ≤ 1 * n = mul-le-mul-right n hparty in
       record {
         number-fits = hnumber;
@@ -90,6 +101,7 @@ module _ (d : Deal) (w : List ℕ) (long : length w ≡ 4 * d .terms .n + 19) (b
         corrections-fit = λ i h.
             fits (key-fits _ _ _ noCorrection i (omega (arith, key-long (keySeed n w 0) (keySeed n w 1) (r n w))));
         last-fits = last-below _ _ _;
+        width-fits = rule-width (d .rule) hrule;
       }
     where
       either : (b : Bool) → Words n (cond b (plus n (x n w 0) (x n w 1)) (plus n (y n w 0) (y n w 1)))
@@ -104,7 +116,7 @@ module _ (d : Deal) (w : List ℕ) (long : length w ≡ 4 * d .terms .n + 19) (b
       fits f = (record { long = f .seed-long; below = f .seed-below }, f .word-below, f .flags-below)
 
 pub proper : (d : Deal) (party : ℕ) → d .number < 2 ^ 64 → isCode (d .terms .code) ≡ true
-    → lengthFits (d .terms) ≡ true → party ≤ 1 → Proper (dealtSet d party)
+    → lengthFits (d .terms) ≡ true → inOrder (d .rule) ≡ true → party ≤ 1 → Proper (dealtSet d party)
 unfolding dealtSet
 proper d party =
     let n = d .terms .n in
@@ -174,20 +186,20 @@ unfolding r
 point-below seed n = dealt-below seed n (4 * n + 1)
 
 pub dealt-join : (d : Deal) (v0 v1 : List ℕ) → lengthFits (d .terms) ≡ true → allInRange (d .terms) v0 ≡ true
-    → allInRange (d .terms) v1 ≡ true → thresholdFits (d .terms) (d .t) ≡ true
+    → allInRange (d .terms) v1 ≡ true → ruleFits (d .terms) (d .rule) ≡ true → inOrder (d .rule) ≡ true
     → (let terms : Terms = d .terms in
     let n : ℕ = terms .n in
     let s0 : Set = dealtSet d 0 in
     let s1 : Set = dealtSet d 1 in
     let m0 : List ℕ = plus n (carried terms 0 v0) (s0 .mask) in
     let m1 : List ℕ = plus n (carried terms 1 v1) (s1 .mask) in
-    let w0 : ℕ = boxWord terms (share 0 n (s0 .c) m0 m1 (s0 .x) (s0 .y)) (ownWord terms v0) (s0 .r) in
-    let w1 : ℕ = boxWord terms (share 1 n (s1 .c) m0 m1 (s1 .x) (s1 .y)) (ownWord terms v1) (s1 .r) in
+    let w0 : ℕ = boxWord terms (s0 .mark) (share 0 n (s0 .c) m0 m1 (s0 .x) (s0 .y)) (ownWord terms v0) (s0 .r) in
+    let w1 : ℕ = boxWord terms (s1 .mark) (share 1 n (s1 .c) m0 m1 (s1 .x) (s1 .y)) (ownWord terms v1) (s1 .r) in
     let z : ℕ = add w0 w1 in
-    add (answer ordinaryWidth 0 (s0 .key) (s0 .seed) z) (answer ordinaryWidth 1 (s1 .key) (s1 .seed) z))
-    ≡ only (reached (d .terms) (measure (d .terms) v0 v1) (signed (d .t))) 1
+    add (answer (s0 .width) 0 (s0 .key) (s0 .seed) z) (answer (s1 .width) 1 (s1 .key) (s1 .seed) z))
+    ≡ only (meets (d .terms) (d .rule) (measure (d .terms) v0 v1)) 1
 unfolding dealtSet setFrom ownMask maskX maskY cOf rOf
-dealt-join d v0 v1 long in0 in1 fits =
+dealt-join d v0 v1 long in0 in1 fits ordered =
     let terms : Terms = d .terms in
     let n : ℕ = terms .n in
     let w : List ℕ = setWords (d .seed) n in
@@ -202,5 +214,5 @@ dealt-join d v0 v1 long in0 in1 fits =
     ≡ share party n c (plus n cx mx) (plus n cy my) (X party) (Y party) =
     λ party c. rw (plus-fill n cx mx, plus-fill n cy my) (share-fills party n c _ _ (X party) (Y party)) in
     rw (s 0 (c0 n w), s 1 (otherC n mx my (c0 n w)))
-    (join-law terms (d .t) v0 v1 (X 0) (X 1) (Y 0) (Y 1) (c0 n w) (r n w) (r0 n w) (keySeed n w 0) (keySeed n w 1)
-    long in0 in1 fits (point-below (d .seed) n))
+    (join-law terms (d .rule) v0 v1 (X 0) (X 1) (Y 0) (Y 1) (c0 n w) (r n w) (r0 n w) (keySeed n w 0) (keySeed n w 1)
+    long in0 in1 fits ordered (point-below (d .seed) n))

@@ -1,4 +1,5 @@
 pub mod Dealing
 pub mod Laws
 pub mod Close
+pub mod Between
 pub mod Opening

@@ -9,6 +9,7 @@ use Rattle.base_words.specs.Bytes.{le32}
 use Rattle.base_words.specs.List.{flat}
 use Rattle.dcf_node.specs.declared.Key.{Key}
 use Rattle.dcf_node.specs.Node.{keyFor}
+use Rattle.measure_table.specs.Measure.{widthOf, markOf}
 use Rattle.half_content.specs.declared.Set.{Set}
 use Rattle.half_content.specs.Content.{correctionsField, lastField, correctionBytes, fields, fill, plain, blockCount}
 use Rattle.half_content.specs.Content.{contentFits, Corrections, Proper}
@@ -36,6 +37,8 @@ module _ (d : Deal) (party : ℕ) where
         r = rOf d w party;
         seed = keySeed n w party;
         key = key;
+        width = widthOf (d .rule);
+        mark = markOf (d .rule);
       }
 
   pub dealt-over : dealtSet d party ≡ setOver (keyFor (keySeed n w 0) (keySeed n w 1) (r n w))
@@ -69,6 +72,7 @@ module _ (d : Deal) (party : ℕ) where
           levels = levels;
           corrections-fit = corrections-fit;
           last-fits = last-fits;
+          width-fits = dealt .width-fits;
         }
 
     pub over-fits : (name : List ℕ) → length name ≡ 16

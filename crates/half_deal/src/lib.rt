@@ -6,13 +6,14 @@ ghost use mathlib.Core.List.{List};
 ghost use Prim.Native.Nat.{ℕ, _+_, _*_, _≤_};
 ghost use lib.ListN.{length, take};
 ghost use Rattle.share_vectors.specs.Share.{plus};
-ghost use Rattle.measure_table.specs.Measure.{mostElements};
+ghost use Rattle.measure_table.specs.Measure.{mostElements, widthOf, markOf};
 ghost use Rattle.half_content.specs.Content.{part, fill};
 ghost use Rattle.half_deal.specs.Dealing.{setWords, x as shareX, y as shareY, keySeed, dealFrom, setFrom};
 ghost use Rattle.half_deal.specs.Dealing.{dealtSet};
 use dcf_node::Key;
 use half_content::Set;
 use measure_table::MOST_ELEMENTS;
+use measure_table::Rule;
 use measure_table::Terms;
 
 // The words that are drawn for the longest vectors.
@@ -84,6 +85,7 @@ fn set_for(
     party: usize,
     number: u64,
     terms: Terms,
+    rule: Rule,
     mask: [u32; MOST_ELEMENTS],
     c: u32,
     r: u32,
@@ -100,6 +102,8 @@ fn set_for(
       r = r;
       seed = keySeed (terms .n) (now (w .entry)) party;
       key = key;
+      width = widthOf rule;
+      mark = markOf rule;
     } ⌝ }
 {
     let n = terms.n;
@@ -116,14 +120,16 @@ fn set_for(
         r,
         seed,
         key,
+        width: measure_table::width_of(rule),
+        mark: measure_table::mark_of(rule),
     }
 }
 
 // Both parties' sets, from the words that were drawn from any seed. They hold one key.
-fn sets_from(w: &[u32], number: u64, terms: Terms, t: u32) -> Dealt
+fn sets_from(w: &[u32], number: u64, terms: Terms, rule: Rule) -> Dealt
     requires { ⌜ (terms .n ≤ mostElements) × (4 * terms .n + 19 ≤ length (now w)) ⌝ }
-    ensures { λ s. ⌜ ((seed : List ℕ) → (s .camera ≡ setFrom (dealFrom number seed terms t) (now (w .entry)) 0)
-        × (s .office ≡ setFrom (dealFrom number seed terms t) (now (w .entry)) 1)) ⌝ }
+    ensures { λ s. ⌜ ((seed : List ℕ) → (s .camera ≡ setFrom (dealFrom number seed terms rule) (now (w .entry)) 0)
+        × (s .office ≡ setFrom (dealFrom number seed terms rule) (now (w .entry)) 1)) ⌝ }
 {
     let n = terms.n;
     let mask_x = mask(w, 0, n);
@@ -135,20 +141,21 @@ fn sets_from(w: &[u32], number: u64, terms: Terms, t: u32) -> Dealt
     let seed1 = key_seed(w, n, 1);
     let key = dcf_keys::make(seed0, seed1, r);
     let c1 = share_vectors::other_c(n, &mask_x, &mask_y, c0);
-    let r1 = share_vectors::other_r(terms, r, t, r0);
-    let camera = set_for(w, 0, number, terms, mask_x, c0, r0, key);
-    let office = set_for(w, 1, number, terms, mask_y, c1, r1, key);
+    let mark = measure_table::mark_of(rule);
+    let r1 = share_vectors::other_r(terms, mark, r, measure_table::offset_of(rule), r0);
+    let camera = set_for(w, 0, number, terms, rule, mask_x, c0, r0, key);
+    let office = set_for(w, 1, number, terms, rule, mask_y, c1, r1, key);
     Dealt { camera, office }
 }
 
 // Both parties' sets of a deal.
-pub fn sets(seed: &[u8; 32], number: u64, terms: Terms, t: u32) -> Dealt
+pub fn sets(seed: &[u8; 32], number: u64, terms: Terms, rule: Rule) -> Dealt
     requires { ⌜ terms .n ≤ mostElements ⌝ }
-    ensures { λ s. ⌜ (s .camera ≡ dealtSet (dealFrom number (now (seed .entry)) terms t) 0)
-        × (s .office ≡ dealtSet (dealFrom number (now (seed .entry)) terms t) 1) ⌝ }
+    ensures { λ s. ⌜ (s .camera ≡ dealtSet (dealFrom number (now (seed .entry)) terms rule) 0)
+        × (s .office ≡ dealtSet (dealFrom number (now (seed .entry)) terms rule) 1) ⌝ }
 {
     let n = terms.n;
     let w = draw(seed, n);
     let end = 4 * n + 19;
-    sets_from(&w[..end], number, terms, t)
+    sets_from(&w[..end], number, terms, rule)
 }

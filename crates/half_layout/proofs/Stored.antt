@@ -95,26 +95,30 @@ stand-next ps q z t u at l e f =
     (ap (λ (x : List ℕ). flat ps ++ x) (sym (append-nil q)) ∙ sym (flat-append ps (q ∷ [])))
 
 -- all that follows the vectors
-pub tail-law : (c r last : ℕ) (seed cs z t₁ t₂ t₃ t₄ u : List ℕ) → length seed ≡ 8 → length cs ≡ 32 * 37
-    → length z ≡ 1228
+pub tail-law : (c r last width mark : ℕ) (seed cs z t₁ t₂ t₃ t₄ t₅ t₆ u : List ℕ) → length seed ≡ 8
+    → length cs ≡ 32 * 37 → length z ≡ 1233
     → t₁ ≡ over 0 (le32 c) z → t₂ ≡ over 4 (le32 r) t₁ → t₃ ≡ over 8 (bytesOf seed) t₂ → t₄ ≡ over 40 cs t₃
-    → u ≡ over 1224 (le32 last) t₄ → u ≡ flat (le32 c ∷ le32 r ∷ bytesOf seed ∷ cs ∷ le32 last ∷ [])
+    → t₅ ≡ over 1224 (le32 last) t₄ → t₆ ≡ over 1228 (le32 width) t₅ → u ≡ over 1232 (mark ∷ []) t₆
+    → u ≡ flat (le32 c ∷ le32 r ∷ bytesOf seed ∷ cs ∷ le32 last ∷ le32 width ∷ (mark ∷ []) ∷ [])
 unfolding le32 sumFirst
-tail-law c r last seed cs z t₁ t₂ t₃ t₄ u ls lc lz e₁ e₂ e₃ e₄ e₅ =
+tail-law c r last width mark seed cs z t₁ t₂ t₃ t₄ t₅ t₆ u ls lc lz e₁ e₂ e₃ e₄ e₅ e₆ e₇ =
     let s = bytesOf seed in
     let k : length s ≡ 32 = length-bytesOf seed ∙ omega arith in
     let p₁ = stand-one (le32 c) z t₁ e₁ in
     let p₂ = stand-next (le32 c ∷ []) (le32 r) z t₁ t₂ 4 refl p₁ e₂ in
     let p₃ = stand-next (le32 c ∷ le32 r ∷ []) s z t₂ t₃ 8 refl p₂ e₃ in
     let p₄ = stand-next (le32 c ∷ le32 r ∷ s ∷ []) cs z t₃ t₄ 40 (omega arith) p₃ e₄ in
-    let p₅ = stand-next (le32 c ∷ le32 r ∷ s ∷ cs ∷ []) (le32 last) z t₄ u 1224 (omega arith) p₄ e₅ in
-    let all = length-flat (le32 c ∷ le32 r ∷ s ∷ cs ∷ le32 last ∷ []) in
-    whole (flat (le32 c ∷ le32 r ∷ s ∷ cs ∷ le32 last ∷ [])) z u 1228 (omega arith) lz p₅
+    let p₅ = stand-next (le32 c ∷ le32 r ∷ s ∷ cs ∷ []) (le32 last) z t₄ t₅ 1224 (omega arith) p₄ e₅ in
+    let p₆ = stand-next (le32 c ∷ le32 r ∷ s ∷ cs ∷ le32 last ∷ []) (le32 width) z t₅ t₆ 1228 (omega arith) p₅ e₆ in
+    let six : List (List ℕ) = le32 c ∷ le32 r ∷ s ∷ cs ∷ le32 last ∷ le32 width ∷ [] in
+    let p₇ = stand-next six (mark ∷ []) z t₆ u 1232 (omega arith) p₆ e₇ in
+    let all = length-flat (six ++ ((mark ∷ []) ∷ [])) in
+    whole (flat (six ++ ((mark ∷ []) ∷ []))) z u 1233 (omega arith) lz p₇
 
 -- the three vectors between a head and a tail, each where its offset says
 module _ (n : ℕ) (h mask x y t z t₁ t₂ t₃ t₄ u : List ℕ) (le : n ≤ mostElements) (lh : length h ≡ 20)
     (lm : length mask ≡ mostElements) (lx : length x ≡ mostElements) (ly : length y ≡ mostElements)
-    (lt : length t ≡ 1228)
+    (lt : length t ≡ 1233)
     (ez : z ≡ replicate roomBytes 0) where
   abbrev own : List ℕ
   own = bytesOf (take n mask)
@@ -164,7 +168,7 @@ module _ (name : List ℕ) (party : ℕ) (s : Set) where
   abbrev past : List (List ℕ)
   past =
       le32 (s .c) ∷ le32 (s .r) ∷ bytesOf (s .seed) ∷ flat (map correctionBytes (s .key .corrections))
-      ∷ le32 (s .key .last) ∷ []
+      ∷ le32 (s .key .last) ∷ le32 (s .width) ∷ (s .mark ∷ []) ∷ []
 
   pub fields-law : (h t u rest : List ℕ) → h ≡ flat before → t ≡ flat past
       → u ≡ flat (h ∷ own-mask ∷ share-x ∷ share-y ∷ t ∷ []) ++ rest → u ≡ flat (fields name party s) ++ rest

@@ -14,12 +14,14 @@ use half_content::CORRECTIONS_IN_TAIL;
 use half_content::HEAD;
 use half_content::LAST_IN_TAIL;
 use half_content::LENGTH_AT;
+use half_content::MARK_IN_TAIL;
 use half_content::PARTY_AT;
 use half_content::R_IN_TAIL;
 use half_content::ROOM;
 use half_content::SEED_IN_TAIL;
 use half_content::Set;
 use half_content::TAIL;
+use half_content::WIDTH_IN_TAIL;
 use measure_table::MOST_ELEMENTS;
 use measure_table::Terms;
 
@@ -66,10 +68,21 @@ fn store_corrections(out: &mut [u8], at: usize, cs: [Correction; 32])
     }
 }
 
-// What follows the three vectors: c, r, the key seed, the corrections and the final word.
-fn tail(c: u32, r: u32, seed: [u32; 8], cs: [Correction; 32], last: u32) -> [u8; TAIL]
+// What follows the three vectors: c, r, the key seed, the corrections, the final word, the width and
+// the mark.
+fn tail(
+    c: u32,
+    r: u32,
+    seed: [u32; 8],
+    cs: [Correction; 32],
+    last: u32,
+    width: u32,
+    mark: u32,
+) -> [u8; TAIL]
     requires { ⌜ FlagBytes cs ⌝ }
-    ensures { λ t. ⌜ t ≡ flat (le32 c ∷ le32 r ∷ bytesOf seed ∷ flat (map correctionBytes cs) ∷ le32 last ∷ []) ⌝ }
+    requires { ⌜ mark < 256 ⌝ }
+    ensures { λ t. ⌜ t ≡ flat (le32 c ∷ le32 r ∷ bytesOf seed ∷ flat (map correctionBytes cs)
+        ∷ le32 last ∷ le32 width ∷ (mark ∷ []) ∷ []) ⌝ }
 {
     let mut t = [0u8; TAIL];
     base_slices::store(&mut t, 0, c);
@@ -77,6 +90,8 @@ fn tail(c: u32, r: u32, seed: [u32; 8], cs: [Correction; 32], last: u32) -> [u8;
     base_slices::store_all(&mut t, SEED_IN_TAIL, &seed);
     store_corrections(&mut t, CORRECTIONS_IN_TAIL, cs);
     base_slices::store(&mut t, LAST_IN_TAIL, last);
+    base_slices::store(&mut t, WIDTH_IN_TAIL, width);
+    t[MARK_IN_TAIL] = mark as u8;
     t
 }
 
@@ -114,6 +129,7 @@ fn joined(
 pub fn lay_out(name: [u8; 16], party: u32, s: Set) -> [u8; ROOM]
     requires { ⌜ (party < 256) × (s .terms .code < 256) × (s .terms .n ≤ mostElements) ⌝ }
     requires { ⌜ FlagBytes (s .key .corrections) ⌝ }
+    requires { ⌜ s .mark < 256 ⌝ }
     ensures { λ r. ⌜ r ≡ flat (fields name party s) ++ replicate (roomBytes - size (s .terms .n)) 0 ⌝ }
 {
     let mask = s.mask;
@@ -124,6 +140,6 @@ pub fn lay_out(name: [u8; 16], party: u32, s: Set) -> [u8; ROOM]
     let corrections = key.corrections;
     let terms = s.terms;
     let h = head(name, party, terms);
-    let t = tail(s.c, s.r, seed, corrections, key.last);
+    let t = tail(s.c, s.r, seed, corrections, key.last, s.width, s.mark);
     joined(h, terms.n, mask, x, y, t)
 }

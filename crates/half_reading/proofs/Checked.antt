@@ -10,14 +10,16 @@ use lib.Dec.{eqb, ltb}
 use lib.ListN.{length, getD, take, drop, length-drop}
 use lib.Seq.{take-suc, take-all}
 use Rattle.base_words.specs.List.{same}
+use Rattle.base_words.specs.Bytes.{wordAt}
 use Rattle.dcf_node.specs.declared.Correction.{Correction}
 use Rattle.measure_table.specs.declared.Terms.{Terms}
 use Rattle.measure_table.specs.Measure.{isCode, lengthFits}
-use Rattle.half_content.specs.Content.{nameField, partyField, correctionsField, lastField}
+use Rattle.half_content.specs.Content.{nameField, partyField, correctionsField, lastField, widthField, markField}
 use Rattle.half_content.specs.Content.{widths, sumFirst, offset, width, size, blockCount, lengthIn, field, termsIn}
-use Rattle.half_content.specs.Content.{correctionIn, correctionsIn, keyIn, flagsFit, zeros, contentFits}
+use Rattle.half_content.specs.Content.{correctionIn, correctionsIn, keyIn, widthIn, markIn, flagsFit, widthFits}
+use Rattle.half_content.specs.Content.{zeros, contentFits}
 use Rattle.half_content.specs.Pieces.{getD-part}
-use Rattle.half_reading.proofs.Read.{between, byte-at}
+use Rattle.half_reading.proofs.Read.{between, word-at, byte-at}
 
 flagsFit-snoc : (l : List Correction) (c : Correction) → flagsFit (l ++ (c ∷ [])) ≡ flagsFit l && ltb (c .flags) 4
 unfolding flagsFit
@@ -52,8 +54,10 @@ refused x y z e =
     sym (ap (λ (b : Bool). x && (y && (z && b))) e ∙ ap (λ (b : Bool). x && (y && b)) (and-false z)
     ∙ ap (λ (b : Bool). x && b) (and-false y) ∙ and-false x)
 
-regroup : (x y z f w : Bool) → (((x && y) && z) && f) && w ≡ x && (y && (z && (f && w)))
-regroup x y z f w = and-assoc (x && y && z) f w ∙ and-assoc (x && y) z (f && w) ∙ and-assoc x y (z && (f && w))
+regroup : (x y z f v w : Bool) → ((((x && y) && z) && f) && v) && w ≡ x && (y && (z && (f && (v && w))))
+regroup x y z f v w =
+    and-assoc (x && y && z && f) v w ∙ and-assoc (x && y && z) f (v && w) ∙ and-assoc (x && y) z (f && (v && w))
+    ∙ and-assoc x y (z && (f && (v && w)))
 
 module _ (name : List ℕ) (party count : ℕ) (b : List ℕ) (terms : Terms) (et : terms ≡ termsIn b) where
   abbrev n : ℕ
@@ -68,11 +72,14 @@ module _ (name : List ℕ) (party count : ℕ) (b : List ℕ) (terms : Terms) (e
   abbrev flags? : Bool
   flags? = flagsFit (keyIn b .corrections)
 
+  abbrev width? : Bool
+  width? = widthFits (widthIn b) (markIn b)
+
   -- the test, at these terms
   abbrev asked : Terms → Bool
   asked t =
       isCode (t .code)
-      && (lengthFits t && (eqb (blockCount (t .n)) count && (flags? && zeros (drop (size (t .n)) b))))
+      && (lengthFits t && (eqb (blockCount (t .n)) count && (flags? && (width? && zeros (drop (size (t .n)) b)))))
 
   fits-at : contentFits name party count b ≡ named? && (owned? && asked terms)
   unfolding contentFits
@@ -81,7 +88,7 @@ module _ (name : List ℕ) (party count : ℕ) (b : List ℕ) (terms : Terms) (e
   -- L out of its measure's range
   pub out-of-range : (fits : Bool) → fits ≡ lengthFits terms → not fits ≡ true → false ≡ contentFits name party count b
   out-of-range fits e h =
-      let others : Bool = eqb (blockCount n) count && (flags? && zeros (drop (size n) b)) in
+      let others : Bool = eqb (blockCount n) count && (flags? && (width? && zeros (drop (size n) b))) in
       refused named? owned? (isCode (terms .code)) (ap (λ (l : Bool). l && others) (sym e ∙ not-true fits h))
       ∙ sym fits-at
 
@@ -89,21 +96,24 @@ module _ (name : List ℕ) (party count : ℕ) (b : List ℕ) (terms : Terms) (e
   pub other-count : (k : ℕ) → k ≡ blockCount n → (k ≡ count → ⊥) → false ≡ contentFits name party count b
   other-count k e h =
       let other : eqb (blockCount n) count ≡ false = ap (λ (m : ℕ). eqb m count) (sym e) ∙ ne-eqb k count h in
-      let others : Bool = flags? && zeros (drop (size n) b) in
+      let others : Bool = flags? && (width? && zeros (drop (size n) b)) in
       refused named? owned? (isCode (terms .code))
       (ap (λ (l : Bool). lengthFits terms && (l && others)) other ∙ and-false (lengthFits terms))
       ∙ sym fits-at
 
   -- all that is tested where L and the count fit, each where its field stands
-  pub fits-law : (fits : Bool) (k owner csAt lastAt end : ℕ) (named coded flags filled : Bool)
+  pub fits-law : (fits : Bool) (k owner csAt lastAt widthAt markAt end w m : ℕ) (named coded flags wide filled : Bool)
       → fits ≡ lengthFits terms → not fits ≡ false → k ≡ blockCount n → k ≡ count
-      → csAt ≡ offset n correctionsField → lastAt ≡ offset n lastField → end ≡ size n
+      → csAt ≡ offset n correctionsField → lastAt ≡ offset n lastField → widthAt ≡ offset n widthField
+      → markAt ≡ offset n markField → end ≡ size n
       → named ≡ same (take 16 b) name → owner ≡ getD b 16 0 → coded ≡ isCode (terms .code)
       → flags ≡ flagsFit (correctionsIn (take (lastAt - csAt) (drop csAt b)) 32)
+      → w ≡ wordAt b widthAt → m ≡ getD b markAt 0 → wide ≡ widthFits w m
       → filled ≡ zeros (take (length b - end) (drop end b))
-      → (((named && eqb owner party) && coded) && flags) && filled ≡ contentFits name party count b
-  unfolding termsIn keyIn offset width widths sumFirst
-  fits-law fits k owner csAt lastAt end named coded flags filled ef hf ek e ec el ee e₀ e₁ e₂ e₃ e₄ =
+      → ((((named && eqb owner party) && coded) && flags) && wide) && filled ≡ contentFits name party count b
+  unfolding termsIn keyIn widthIn markIn offset width widths sumFirst
+  fits-law fits k owner csAt lastAt widthAt markAt end w m named coded flags wide filled
+      ef hf ek e ec el ew em ee e₀ e₁ e₂ e₃ e-w e-m e₄ e₅ =
       let long : n ≡ lengthIn b = ap (λ (t : Terms). t .n) et in
       let range : lengthFits terms ≡ true = sym ef ∙ not-false fits hf in
       let many : eqb (blockCount n) count ≡ true = eq-eqb (blockCount n) count (sym ek ∙ e) in
@@ -112,7 +122,11 @@ module _ (name : List ℕ) (party count : ℕ) (b : List ℕ) (terms : Terms) (e
       let all-corrections = between b n long correctionsField csAt lastAt ec el in
       let p₃ = e₃ ∙ ap (λ (f : List ℕ). flagsFit (correctionsIn f 32)) all-corrections in
       let all = take-all (length b - end) (drop end b) (omega (arith, length-drop end b)) in
-      let p₄ = e₄ ∙ ap zeros all ∙ ap (λ (m : ℕ). zeros (drop m b)) ee in
-      regroup named (eqb owner party) coded flags filled
-      ∙ ap₂ _&&_ p₀ (ap₂ _&&_ p₁ (ap₂ _&&_ e₂ (ap₂ _&&_ (sym range) (ap₂ _&&_ (sym many) (ap₂ _&&_ p₃ p₄)))))
+      let its-width = e-w ∙ word-at b n long widthField widthAt ew refl in
+      let its-mark = e-m ∙ byte-at b n long markField markAt em refl in
+      let p₄ = e₄ ∙ ap₂ widthFits its-width its-mark in
+      let p₅ = e₅ ∙ ap zeros all ∙ ap (λ (m : ℕ). zeros (drop m b)) ee in
+      let behind = ap₂ _&&_ (sym many) (ap₂ _&&_ p₃ (ap₂ _&&_ p₄ p₅)) in
+      regroup named (eqb owner party) coded flags wide filled
+      ∙ ap₂ _&&_ p₀ (ap₂ _&&_ p₁ (ap₂ _&&_ e₂ (ap₂ _&&_ (sym range) behind)))
       ∙ sym fits-at

@@ -16,7 +16,8 @@ use Rattle.half_content.specs.declared.Set.{Set}
 use Rattle.measure_table.specs.Measure.{mostElements}
 use Rattle.half_content.specs.Content.{part, fill, lengthIn, field, termsIn, correctionIn, correctionsIn, keyIn, setIn}
 use Rattle.half_content.specs.Content.{codeField, maskField, xField, yField, cField, rField, seedField}
-use Rattle.half_content.specs.Content.{correctionsField, lastField, widths, sumFirst, offset, width}
+use Rattle.half_content.specs.Content.{correctionsField, lastField, widthField, markField, widths, sumFirst, offset}
+use Rattle.half_content.specs.Content.{width as fieldWidth, widthIn, markIn}
 use Rattle.half_content.specs.Laws.{head-is, offset-next, fill-rest}
 use Rattle.half_content.specs.Pieces.{getD-part, wordAt-part, wordsAt-part}
 
@@ -75,28 +76,28 @@ module _ (b : List ℕ) (n : ℕ) (en : n ≡ lengthIn b) where
   abbrev L : ℕ
   L = lengthIn b
 
-  field-at : (f at : ℕ) → at ≡ offset n f → field b f ≡ part at (width L f) b
+  field-at : (f at : ℕ) → at ≡ offset n f → field b f ≡ part at (fieldWidth L f) b
   unfolding field
-  field-at f at e = ap (λ (i : ℕ). part i (width L f) b) (ap (λ (m : ℕ). offset m f) (sym en) ∙ sym e)
+  field-at f at e = ap (λ (i : ℕ). part i (fieldWidth L f) b) (ap (λ (m : ℕ). offset m f) (sym en) ∙ sym e)
 
   -- the bytes up to the next field
   pub between : (f at end : ℕ) → at ≡ offset n f → end ≡ offset n (suc f) → take (end - at) (drop at b) ≡ field b f
   unfolding part
   between f at end e e′ =
-      let wide : end - at ≡ width L f = omega (arith, offset-next n f, ap (λ (m : ℕ). width m f) en) in
+      let wide : end - at ≡ fieldWidth L f = omega (arith, offset-next n f, ap (λ (m : ℕ). fieldWidth m f) en) in
       ap (λ (i : ℕ). take i (drop at b)) wide ∙ sym (field-at f at e)
 
   pub vector-at : (f at end : ℕ) (v : List ℕ) → at ≡ offset n f → end ≡ offset n (suc f)
       → v ≡ fill (wordsAt n (take (end - at) (drop at b))) → v ≡ fill (wordsAt L (field b f))
   vector-at f at end v e e′ ev = ev ∙ ap₂ (λ (m : ℕ) (l : List ℕ). fill (wordsAt m l)) en (between f at end e e′)
 
-  pub word-at : (f at : ℕ) → at ≡ offset n f → width L f ≡ 4 → wordAt b at ≡ wordAt (field b f) 0
+  pub word-at : (f at : ℕ) → at ≡ offset n f → fieldWidth L f ≡ 4 → wordAt b at ≡ wordAt (field b f) 0
   word-at f at e w =
       let here = field-at f at e ∙ ap (λ (i : ℕ). part at i b) w in
       let start : at + 0 ≡ at = omega arith in
       sym (ap (λ (l : List ℕ). wordAt l 0) here ∙ wordAt-part at 4 b 0 (omega arith) ∙ ap (wordAt b) start)
 
-  pub byte-at : (f at : ℕ) → at ≡ offset n f → width L f ≡ 1 → getD b at 0 ≡ getD (field b f) 0 0
+  pub byte-at : (f at : ℕ) → at ≡ offset n f → fieldWidth L f ≡ 1 → getD b at 0 ≡ getD (field b f) 0 0
   byte-at f at e w =
       let here = field-at f at e ∙ ap (λ (i : ℕ). part at i b) w in
       let start : at + 0 ≡ at = omega arith in
@@ -107,7 +108,7 @@ module _ (b : List ℕ) (n : ℕ) (en : n ≡ lengthIn b) where
       → lastAt ≡ offset n lastField
       → cs ≡ correctionsIn (take (lastAt - csAt) (drop csAt b)) 32 → last ≡ wordAt b lastAt
       → _≡_ {A = Key} (record { corrections = cs; last = last }) (keyIn b)
-  unfolding keyIn width widths
+  unfolding keyIn fieldWidth widths
   key-law csAt lastAt last cs ec el es ew =
       let corrections = es ∙ ap (λ (l : List ℕ). correctionsIn l 32) (between correctionsField csAt lastAt ec el) in
       let final = ew ∙ word-at lastField lastAt el refl in
@@ -115,16 +116,17 @@ module _ (b : List ℕ) (n : ℕ) (en : n ≡ lengthIn b) where
 
   -- the code and L
   pub terms-law : (code : ℕ) → code ≡ getD b 17 0 → _≡_ {A = Terms} (record { code = code; n = n }) (termsIn b)
-  unfolding termsIn offset width widths sumFirst
+  unfolding termsIn offset fieldWidth widths sumFirst
   terms-law code e =
       let coded = e ∙ byte-at codeField 17 refl refl in
       λ k. record { code = coded k; n = en k }
 
 -- the set: each of its fields where it stands
-module _ (set : ℕ) (b : List ℕ) (terms : Terms) (et : terms ≡ termsIn b) (xAt yAt cAt rAt seedAt csAt : ℕ)
+module _ (set : ℕ) (b : List ℕ) (terms : Terms) (et : terms ≡ termsIn b) (xAt yAt cAt rAt seedAt csAt widthAt markAt : ℕ)
     (ex : xAt ≡ offset (terms .n) xField) (ey : yAt ≡ offset (terms .n) yField) (ec : cAt ≡ offset (terms .n) cField)
     (er : rAt ≡ offset (terms .n) rField) (es : seedAt ≡ offset (terms .n) seedField)
-    (ek : csAt ≡ offset (terms .n) correctionsField) where
+    (ek : csAt ≡ offset (terms .n) correctionsField) (ew : widthAt ≡ offset (terms .n) widthField)
+    (em : markAt ≡ offset (terms .n) markField) where
   abbrev n : ℕ
   n = terms .n
 
@@ -132,21 +134,36 @@ module _ (set : ℕ) (b : List ℕ) (terms : Terms) (et : terms ≡ termsIn b) (
   unfolding termsIn
   long = ap (λ (t : Terms). t .n) et
 
-  pub set-law : (c r : ℕ) (mask x y seed : List ℕ) (key : Key)
+  pub set-law : (c r width mark : ℕ) (mask x y seed : List ℕ) (key : Key)
       → mask ≡ fill (wordsAt n (take (xAt - 20) (drop 20 b))) → x ≡ fill (wordsAt n (take (yAt - xAt) (drop xAt b)))
       → y ≡ fill (wordsAt n (take (cAt - yAt) (drop yAt b))) → c ≡ wordAt b cAt → r ≡ wordAt b rAt
-      → seed ≡ wordsAt 8 (take (csAt - seedAt) (drop seedAt b)) → key ≡ keyIn b
+      → seed ≡ wordsAt 8 (take (csAt - seedAt) (drop seedAt b)) → key ≡ keyIn b → width ≡ wordAt b widthAt
+      → mark ≡ getD b markAt 0
       → _≡_ {A = Set}
-      (record { number = set; terms = terms; mask = mask; x = x; y = y; c = c; r = r; seed = seed; key = key })
+      (record {
+        number = set;
+        terms = terms;
+        mask = mask;
+        x = x;
+        y = y;
+        c = c;
+        r = r;
+        seed = seed;
+        key = key;
+        width = width;
+        mark = mark;
+      })
       (setIn set b)
-  unfolding setIn width widths
-  set-law c r mask x y seed key em e-x e-y e-c e-r e-s e-k =
-      let own = vector-at b n long maskField 20 xAt mask (sym (head-is n)) ex em in
+  unfolding setIn widthIn markIn fieldWidth widths
+  set-law c r width mark mask x y seed key e-m e-x e-y e-c e-r e-s e-k e-w e-mark =
+      let own = vector-at b n long maskField 20 xAt mask (sym (head-is n)) ex e-m in
       let of-x = vector-at b n long xField xAt yAt x ex ey e-x in
       let of-y = vector-at b n long yField yAt cAt y ey ec e-y in
       let c-word = e-c ∙ word-at b n long cField cAt ec refl in
       let r-word = e-r ∙ word-at b n long rField rAt er refl in
       let seeded = e-s ∙ ap (wordsAt 8) (between b n long seedField seedAt csAt es ek) in
+      let wide = e-w ∙ word-at b n long widthField widthAt ew refl in
+      let marked = e-mark ∙ byte-at b n long markField markAt em refl in
       λ k. record {
         number = set;
         terms = et k;
@@ -157,4 +174,6 @@ module _ (set : ℕ) (b : List ℕ) (terms : Terms) (et : terms ≡ termsIn b) (
         r = r-word k;
         seed = seeded k;
         key = e-k k;
+        width = wide k;
+        mark = marked k;
       }

@@ -129,6 +129,8 @@ pub fn read_set(number: u64, b: &[u8]) -> Set
         r: base_slices::load(b, half_content::r_at(n)),
         seed: seed_in(&b[seed_at..corrections_at]),
         key: key_in(b, n),
+        width: base_slices::load(b, half_content::width_at(n)),
+        mark: byte(b, half_content::mark_at(n)),
     }
 }
 
@@ -174,10 +176,13 @@ pub fn content_fits(name: [u8; 16], party: u32, count: usize, b: &[u8]) -> bool
     }
     let corrections_at = half_content::corrections_at(n);
     let last_at = half_content::last_at(n);
+    let width_at = half_content::width_at(n);
+    let mark_at = half_content::mark_at(n);
     let end = half_content::size_of(n);
     let named = base_slices::equal(&b[..PARTY_AT], &name);
     let owned = byte(b, PARTY_AT) == party;
     let code = measure_table::is_code(terms.code);
     let flags = flags_fit(&b[corrections_at..last_at]);
-    named & owned & code & flags & all_zero(&b[end..])
+    let width = half_content::width_fits(base_slices::load(b, width_at), byte(b, mark_at));
+    named & owned & code & flags & width & all_zero(&b[end..])
 }

@@ -1,19 +1,23 @@
 -- The rows of the table as code makes them: the range test on words, and every element of a slice. Assumes nothing.
 use mathlib.Core.Path.{_≡_, refl, sym, ap, ap₂, _∙_}
-use mathlib.Core.Bool.{Bool, _&&_, and-true, and-assoc}
+use mathlib.Core.Bool.{Bool, true, false, _&&_, and-true, and-assoc}
 use mathlib.Core.List.{List, [], _∷_}
-use Prim.Native.Nat.{ℕ, zero, suc, _+_, _^_, _<_}
+use Prim.Native.Nat.{ℕ, zero, suc, _+_, _-_, _^_, _<_}
 use native.Mathlib.Numerals.{add-one}
 use native.Mathlib.Omega.{arith}
 use lib.Dec.{leb}
-use lib.IntN.{ℤ}
+use lib.IntN.{ℤ, pos, negℤ, _-ℤ_}
 use lib.ListN.{length, take, getD}
 use lib.Seq.{take-all}
-use Rattle.base_algebra.specs.Word.{add, signed}
+use lib.Signed.{leZ}
+use Rattle.base_algebra.specs.Word.{add, sub, signed}
 use Rattle.measure_table.specs.declared.Terms.{Terms}
+use Rattle.measure_table.specs.declared.Rule.the-variants.{Between}
 use Rattle.measure_table.specs.Measure.{scalarProduct, squaredEuclid, hamming, row, within, inRange, allInRange}
-use Rattle.measure_table.specs.Measure.{thresholdFits}
-use Rattle.measure_table.proofs.Signed.{signed-order}
+use Rattle.measure_table.specs.Measure.{thresholdFits, ordinaryMark, ordinaryWidth, inOrder, word, sign, signWord}
+use Rattle.measure_table.specs.Laws.{apart, marked-sign, signWord-plain}
+use Rattle.measure_table.specs.Order.{Le, of-test, to-test, le-sub}
+use Rattle.measure_table.proofs.Signed.{signed-order, signed-least, signed-most}
 
 -- the row of each code
 pub row-0 : (code : ℕ) → code ≡ 0 → row code ≡ scalarProduct
@@ -35,6 +39,34 @@ pub within-words : (w low high : ℕ) → w < 2 ^ 32 → low < 2 ^ 32 → high <
     ≡ within (signed low) (signed high) (signed w)
 unfolding within
 within-words w low high lw ll lh = ap₂ _&&_ (signed-order low w ll lw) (signed-order w high lw lh)
+
+-- two marks as words
+pub order-words : (p q : ℕ) → p < 2 ^ 32 → q < 2 ^ 32
+    → leb (add p (2 ^ 31)) (add q (2 ^ 31)) && leb (sub q p) ordinaryWidth ≡ inOrder (Between p q)
+unfolding inOrder
+order-words p q lp lq =
+    ap (λ (b : Bool). b && leb (sub q p) ordinaryWidth) (signed-order p q lp lq)
+    ∙ go (leZ (signed p) (signed q)) refl
+  where
+    far : Le (signed q -ℤ signed p) (pos (2 ^ 32 - 1))
+    far =
+        le-sub
+        (of-test (signed q) (pos (2 ^ 31 - 1)) (signed-most q lq))
+        (of-test (negℤ (pos (2 ^ 31))) (signed p) (signed-least p lp))
+
+    go : (b : Bool) → leZ (signed p) (signed q) ≡ b
+        → b && leb (sub q p) ordinaryWidth ≡ b && leZ (signed q -ℤ signed p) (pos ordinaryWidth)
+    go true e = ap (λ (z : ℤ). leZ z (pos ordinaryWidth)) (sym (apart p q e (to-test far)))
+    go false e = refl
+
+-- the sign by mark
+module _ (terms : Terms) (mark : ℕ) where
+  pub ordinary-sign : (s : ℕ) → mark ≡ ordinaryMark → s ≡ word (row (terms .code) .sign) → s ≡ signWord terms mark
+  unfolding signWord sign
+  ordinary-sign s e h = rw e h
+
+  pub marked-word : (mark ≡ ordinaryMark → ⊥) → 1 ≡ signWord terms mark
+  marked-word h = sym (signWord-plain terms mark (marked-sign terms mark h))
 
 module _ (terms : Terms) where
   pub element-range : (w low high : ℕ) (r : Bool) → signed low ≡ row (terms .code) .low

@@ -1,10 +1,11 @@
 -- The order of signed words: 2^31 more, and it is the order of words. Assumes nothing.
-use mathlib.Core.Path.{_≡_, refl, sym, ap₂, _∙_}
+use mathlib.Core.Path.{_≡_, refl, sym, ap, ap₂, _∙_}
 use mathlib.Core.Bool.{Bool, true, false}
 use Prim.Native.Nat.{ℕ, suc, _+_, _-_, _%_, _^_, _<_, _≤_}
 use native.Mathlib.Omega.{arith}
-use borrow.Author.Tests.{ltb-true, ltb-false, leb-true, leb-false}
+use borrow.Author.Tests.{ltb-true, ltb-false, leb-true, leb-false, le-leb}
 use lib.Dec.{ltb, leb}
+use lib.IntN.{ℤ, pos, negℤ}
 use lib.Signed.{leZ}
 use Rattle.base_algebra.specs.Word.{add, signed}
 use Rattle.measure_table.specs.Laws.{signed-low, signed-high}
@@ -46,3 +47,25 @@ signed-order a b la lb = go (ltb a (2 ^ 31)) (ltb b (2 ^ 31)) refl refl
         let kb = ltb-false b (2 ^ 31) f in
         leb-same ((a + 2 ^ 31) % 2 ^ 32) ((b + 2 ^ 31) % 2 ^ 32) (2 ^ 32 - suc b) (2 ^ 32 - suc a)
         (λ h. omega arith) (λ h. omega arith) ∙ sym (ap₂ leZ (signed-high a ka la) (signed-high b kb lb))
+
+-- a word's signed value lies from -2^31 to 2^31 - 1
+pub signed-least : (w : ℕ) → w < 2 ^ 32 → leZ (negℤ (pos (2 ^ 31))) (signed w) ≡ true
+signed-least w l = go (ltb w (2 ^ 31)) refl
+  where
+    go : (b : Bool) → ltb w (2 ^ 31) ≡ b → leZ (negℤ (pos (2 ^ 31))) (signed w) ≡ true
+    go true e = ap (leZ (negℤ (pos (2 ^ 31)))) (signed-low w (ltb-true w (2 ^ 31) e))
+    go false e =
+        let k = ltb-false w (2 ^ 31) e in
+        ap (leZ (negℤ (pos (2 ^ 31)))) (signed-high w k l) ∙ le-leb (2 ^ 32 - suc w) (2 ^ 31 - 1) (omega arith)
+
+pub signed-most : (w : ℕ) → w < 2 ^ 32 → leZ (signed w) (pos (2 ^ 31 - 1)) ≡ true
+signed-most w l = go (ltb w (2 ^ 31)) refl
+  where
+    top : ℤ → Bool
+    top z = leZ z (pos (2 ^ 31 - 1))
+
+    go : (b : Bool) → ltb w (2 ^ 31) ≡ b → top (signed w) ≡ true
+    go true e =
+        let k = ltb-true w (2 ^ 31) e in
+        ap top (signed-low w k) ∙ le-leb w (2 ^ 31 - 1) (omega arith)
+    go false e = ap top (signed-high w (ltb-false w (2 ^ 31) e) l)

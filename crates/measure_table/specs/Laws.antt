@@ -1,27 +1,32 @@
 -- What a caller uses of the measures: how long a vector may be; their words are the residues of the whole numbers; the
--- difference of measure and threshold fits a signed word (01, "Measures"), with either sign of a row, and the word's
--- highest bit says whether the threshold is reached; and that this is the papers' rule for each code. Assumes nothing.
--- [SPEC 2.3, 2.4, 3.5, 3.6, 3.11, 3.12]
+-- difference of measure and threshold fits a signed word (01, "Measures"), with either sign, and whether that word is
+-- at most the rule's width says whether the rule is met; and that this is the papers' rule for each code and between
+-- two marks. Assumes nothing. [SPEC 2.3, 2.4, 3.5, 3.6, 3.11 to 3.15]
 use mathlib.Core.Path.{_≡_, refl, sym, ap, ap₂, _∙_, subst}
-use mathlib.Core.Bool.{Bool, true, false, cond, _&&_}
+use mathlib.Core.Bool.{Bool, true, false, cond, _&&_, and-true}
 use mathlib.Core.List.{List, [], _∷_}
 use Prim.Native.Nat.{ℕ, zero, suc, _+_, _*_, _-_, _%_, _^_, _<_, _≤_}
 use native.Mathlib.Omega.{arith}
-use borrow.Author.Tests.{leb-true, le-leb, ltb-true, ltb-false, lt-ltb, le-ltb}
-use lib.Dec.{ltb, leb·zero}
+use borrow.Author.Tests.{leb-true, leb-false, le-leb, ltb-true, lt-ltb, le-ltb, ne-eqb}
+use lib.Dec.{eqb, ltb, leb, leb·zero}
 use lib.IntN.{ℤ, pos, negsuc, negℤ, natAbs, _+ℤ_, _-ℤ_, _*ℤ_}
 use lib.ListN.{getD}
 use lib.Signed.{leZ}
 use Rattle.base_algebra.specs.Mod.{m-eq, m-sym, m-trans, m-mul, m-mod}
 use Rattle.base_algebra.specs.Integer.{residue, residue-pos, residue-mul, ringℤ, reifyℤ}
 use Rattle.base_algebra.specs.Ring.{ring}
-use Rattle.base_algebra.specs.Word.{words, add, neg, mul, signed, _≈_, mul≈, neg≈, neg-lt, signed≈, same-word}
+use Rattle.base_algebra.specs.Word.{words, add, sub, neg, mul, signed, _≈_, mul≈, neg≈, neg-lt, sub-lt, signed≈}
+use Rattle.base_algebra.specs.Word.{same-word}
 use Rattle.base_algebra.specs.Sum.{sum, sumℤ, sum≈, sum-lt}
-use Rattle.base_algebra.specs.Bit.{only, less, less-lt, less-ge, both}
+use Rattle.base_algebra.specs.Bit.{only, less, both, neither}
 use Rattle.measure_table.specs.declared.Terms.{Terms}
-use Rattle.measure_table.specs.Measure.{mostElements, Row, scalarProduct, squaredEuclid, hamming, row, isCode}
+use Rattle.measure_table.specs.declared.Rule.{Rule}
+use Rattle.measure_table.specs.declared.Rule.the-variants.{Threshold, Between}
+use Rattle.measure_table.specs.Measure.{mostElements, ordinaryMark, betweenMark, ordinaryWidth, Row}
+use Rattle.measure_table.specs.Measure.{scalarProduct, squaredEuclid, hamming, row, isCode}
 use Rattle.measure_table.specs.Measure.{lengthFits, element, own, cross, measure, sign, difference, reached}
-use Rattle.measure_table.specs.Measure.{within, inRange, allInRange, thresholdFits}
+use Rattle.measure_table.specs.Measure.{within, inRange, allInRange, thresholdFits, meets, ruleFits, inOrder}
+use Rattle.measure_table.specs.Measure.{offsetOf, widthOf, markOf}
 use Rattle.measure_table.specs.Measure.{word, kWord, signWord, ownWord, carried}
 use Rattle.measure_table.specs.Order.{above-zero, Le, of-test, to-test, le-trans, le-sub, le-neg}
 use Rattle.measure_table.specs.Order.{square-pos, product-most, product-least, sum-least, sum-most}
@@ -113,13 +118,13 @@ pub kWord-lt : (terms : Terms) → kWord terms < 2 ^ 32
 unfolding kWord
 kWord-lt terms = word-lt (row (terms .code) .k)
 
-pub signWord≈ : (terms : Terms) → signWord terms ≈ residue (2 ^ 32) (sign terms)
+pub signWord≈ : (terms : Terms) (mark : ℕ) → signWord terms mark ≈ residue (2 ^ 32) (sign terms mark)
 unfolding signWord
-signWord≈ terms = word≈ (sign terms)
+signWord≈ terms mark = word≈ (sign terms mark)
 
-pub signWord-lt : (terms : Terms) → signWord terms < 2 ^ 32
+pub signWord-lt : (terms : Terms) (mark : ℕ) → signWord terms mark < 2 ^ 32
 unfolding signWord
-signWord-lt terms = word-lt (sign terms)
+signWord-lt terms mark = word-lt (sign terms mark)
 
 pub product≈ : (x y : List ℕ) (i : ℕ)
     → mul (getD x i 0) (getD y i 0) ≈ residue (2 ^ 32) (element x i *ℤ element y i)
@@ -362,14 +367,19 @@ module _ (terms : Terms) (x y : List ℕ) (hn : lengthFits terms ≡ true)
       }
 
 -- a sign is 1 or -1 ..
-pub sign-square : (terms : Terms) → sign terms *ℤ sign terms ≡ pos 1
+pub sign-square : (terms : Terms) (mark : ℕ) → sign terms mark *ℤ sign terms mark ≡ pos 1
 unfolding sign row scalarProduct squaredEuclid hamming
-sign-square terms = go (terms .code)
+sign-square terms mark = either (eqb mark ordinaryMark)
   where
-    go : (code : ℕ) → row code .sign *ℤ row code .sign ≡ pos 1
-    go zero = refl
-    go (suc zero) = refl
-    go (suc (suc code)) = refl
+    of-row : (code : ℕ) → row code .sign *ℤ row code .sign ≡ pos 1
+    of-row zero = refl
+    of-row (suc zero) = refl
+    of-row (suc (suc code)) = refl
+
+    either : (b : Bool)
+        → (let s : ℤ = cond b (row (terms .code) .sign) (pos 1) in s *ℤ s) ≡ pos 1
+    either true = of-row (terms .code)
+    either false = refl
 
 -- .. so what lies from -h to h still does when it is multiplied by one
 by-sign : (s d : ℤ) (h : ℕ) → s *ℤ s ≡ pos 1 → Near h d → Near h (s *ℤ d)
@@ -400,58 +410,34 @@ bound-plain terms t x y hn hx hy ht =
     (to-test (k .from), to-test (k .to))
 
 -- .. and the difference, with either sign
-pub bound : (terms : Terms) (t : ℕ) (x y : List ℕ) → lengthFits terms ≡ true → allInRange terms x ≡ true
+pub bound : (terms : Terms) (mark t : ℕ) (x y : List ℕ) → lengthFits terms ≡ true → allInRange terms x ≡ true
     → allInRange terms y ≡ true → thresholdFits terms t ≡ true
-    → (let d : ℤ = difference terms (measure terms x y) (signed t) in
+    → (let d : ℤ = difference terms mark (measure terms x y) (signed t) in
     (leZ (negℤ (pos (2 ^ 31 - 1))) d ≡ true) × (leZ d (pos (2 ^ 31 - 1)) ≡ true))
 unfolding difference
-bound terms t x y hn hx hy ht =
-    let k = by-sign (sign terms) _ (2 ^ 31 - 1) (sign-square terms) (near terms x y hn hx hy t ht) in
+bound terms mark t x y hn hx hy ht =
+    let k = by-sign (sign terms mark) _ (2 ^ 31 - 1) (sign-square terms mark) (near terms x y hn hx hy t ht) in
     (to-test (k .from), to-test (k .to))
 
--- ---- the difference's sign, read off its word
+-- ---- the rule of an ordinary set, in the words of the papers: "scalar product keeps measure ≥ T", and "For squared
+-- Euclid and Hamming the lock's 1 means measure ≤ T" [SPEC 3.6]
 
-sign-bit : (w : ℕ) → w < 2 ^ 32 → less w (2 ^ 31) ≡ only (leZ (pos 0) (signed w)) 1
-unfolding only
-sign-bit w l = go (ltb w (2 ^ 31)) refl
-  where
-    of-sign : {a b : ℤ} → a ≡ b → only (leZ (pos 0) a) 1 ≡ only (leZ (pos 0) b) 1
-    of-sign e = ap (λ (z : ℤ). only (leZ (pos 0) z) 1) e
-
-    go : (c : Bool) → ltb w (2 ^ 31) ≡ c → less w (2 ^ 31) ≡ only (leZ (pos 0) (signed w)) 1
-    go true e =
-        let k = ltb-true w (2 ^ 31) e in
-        less-lt w (2 ^ 31) k ∙ sym (of-sign (signed-low w k) ∙ ap (λ (b : Bool). only b 1) (leb·zero w))
-    go false e = let k = ltb-false w (2 ^ 31) e in less-ge w (2 ^ 31) k ∙ sym (of-sign (signed-high w k l))
-
-word-sign : (w : ℕ) (d : ℤ) → w < 2 ^ 32 → leZ (negℤ (pos (2 ^ 31))) d ≡ true → leZ d (pos (2 ^ 31 - 1)) ≡ true
-    → w ≈ residue (2 ^ 32) d → less w (2 ^ 31) ≡ only (leZ (pos 0) d) 1
-word-sign w d l from to h =
-    let same : w ≡ word d = same-word (m-trans h (m-sym (word≈ d))) l (word-lt d) in
-    sign-bit w l ∙ ap (λ (z : ℤ). only (leZ (pos 0) z) 1) (ap signed same ∙ signed-word d from to)
-
--- the difference's word is below 2^31 exactly if the threshold is reached
-pub reached-sign : (terms : Terms) (t w : ℕ) (x y : List ℕ) → lengthFits terms ≡ true → allInRange terms x ≡ true
-    → allInRange terms y ≡ true → thresholdFits terms t ≡ true → w < 2 ^ 32
-    → w ≈ residue (2 ^ 32) (difference terms (measure terms x y) (signed t))
-    → less w (2 ^ 31) ≡ only (reached terms (measure terms x y) (signed t)) 1
-unfolding reached
-reached-sign terms t w x y hn hx hy ht lw h =
-    let b = bound terms t x y hn hx hy ht in
-    let d : ℤ = difference terms (measure terms x y) (signed t) in
-    let lower : Le (negℤ (pos (2 ^ 31))) (negℤ (pos (2 ^ 31 - 1))) = of-test _ _ refl in
-    let from : Le (negℤ (pos (2 ^ 31))) d = le-trans lower (of-test _ _ (b .0)) in
-    word-sign w d lw (to-test from) (b .1) h
-
--- ---- the rule, in the words of the papers: "scalar product keeps measure ≥ T", and "For squared Euclid and Hamming
--- the lock's 1 means measure ≤ T" [SPEC 3.6]
-
-pub scalar-sign : (terms : Terms) → terms .code ≡ 0 → sign terms ≡ pos 1
+-- the scalar product's sign is plain by any mark ..
+pub scalar-sign : (terms : Terms) (mark : ℕ) → terms .code ≡ 0 → sign terms mark ≡ pos 1
 unfolding sign row scalarProduct
-scalar-sign terms e = ap (λ (c : ℕ). row c .sign) e
+scalar-sign terms mark e = ap (λ (c : ℕ). cond (eqb mark ordinaryMark) (row c .sign) (pos 1)) e ∙ either (eqb mark ordinaryMark)
+  where
+    either : (b : Bool) → cond b (pos 1) (pos 1) ≡ pos 1
+    either true = refl
+    either false = refl
+
+-- .. and every code's by a mark that is not 0 (02, §4, "the plain sign for every code") [SPEC 3.14]
+pub marked-sign : (terms : Terms) (mark : ℕ) → (mark ≡ ordinaryMark → ⊥) → sign terms mark ≡ pos 1
+unfolding sign
+marked-sign terms mark h = rw (ne-eqb mark ordinaryMark h) refl
 
 -- every other code is a distance
-pub distance-sign : (terms : Terms) → (terms .code ≡ 0 → ⊥) → sign terms ≡ negℤ (pos 1)
+pub distance-sign : (terms : Terms) → (terms .code ≡ 0 → ⊥) → sign terms ordinaryMark ≡ negℤ (pos 1)
 unfolding sign row squaredEuclid hamming
 distance-sign terms h = go (terms .code) h
   where
@@ -461,43 +447,137 @@ distance-sign terms h = go (terms .code) h
     go (suc (suc code)) h = refl
 
 -- where the sign is plain, all is as 01 has it ..
-module _ (terms : Terms) (plain : sign terms ≡ pos 1) where
-  pub signWord-plain : signWord terms ≡ 1
+module _ (terms : Terms) (mark : ℕ) (plain : sign terms mark ≡ pos 1) where
+  pub signWord-plain : signWord terms mark ≡ 1
   unfolding signWord word
   signWord-plain = ap word plain
 
-  pub difference-plain : (m t : ℤ) → difference terms m t ≡ m -ℤ t
+  pub difference-plain : (m t : ℤ) → difference terms mark m t ≡ m -ℤ t
   unfolding difference
   difference-plain m t = ap (λ (s : ℤ). s *ℤ (m -ℤ t)) plain ∙ once (m -ℤ t)
     where
       once : (d : ℤ) → pos 1 *ℤ d ≡ d
       once d = ringℤ (d ∷ []) (search reifyℤ depth 20 fits 5000) refl
 
-  pub reached-plain : (m t : ℤ) → reached terms m t ≡ leZ t m
-  unfolding reached
-  reached-plain m t = ap (leZ (pos 0)) (difference-plain m t) ∙ above-zero m t
+pub reached-plain : (terms : Terms) → sign terms ordinaryMark ≡ pos 1 → (m t : ℤ) → reached terms m t ≡ leZ t m
+unfolding reached
+reached-plain terms plain m t = ap (leZ (pos 0)) (difference-plain terms ordinaryMark plain m t) ∙ above-zero m t
 
 -- .. and where it is -1, as 02, §2, has it
-module _ (terms : Terms) (close : sign terms ≡ negℤ (pos 1)) where
-  pub signWord-close : signWord terms ≡ neg 1
+module _ (terms : Terms) (mark : ℕ) (close : sign terms mark ≡ negℤ (pos 1)) where
+  pub signWord-close : signWord terms mark ≡ neg 1
   unfolding signWord word
   signWord-close = ap word close
 
-  pub difference-close : (m t : ℤ) → difference terms m t ≡ t -ℤ m
+  pub difference-close : (m t : ℤ) → difference terms mark m t ≡ t -ℤ m
   unfolding difference
   difference-close m t = ap (λ (s : ℤ). s *ℤ (m -ℤ t)) close ∙ turned m t
     where
       turned : (m t : ℤ) → negℤ (pos 1) *ℤ (m -ℤ t) ≡ t -ℤ m
       turned m t = ringℤ (m ∷ t ∷ []) (search reifyℤ depth 20 fits 5000) refl
 
-  pub reached-close : (m t : ℤ) → reached terms m t ≡ leZ m t
-  unfolding reached
-  reached-close m t = ap (leZ (pos 0)) (difference-close m t) ∙ above-zero t m
+pub reached-close : (terms : Terms) → sign terms ordinaryMark ≡ negℤ (pos 1) → (m t : ℤ)
+    → reached terms m t ≡ leZ m t
+unfolding reached
+reached-close terms close m t = ap (leZ (pos 0)) (difference-close terms ordinaryMark close m t) ∙ above-zero t m
+
+-- ---- whether the difference lies from 0 to a width, read off its word
+
+-- a word of at most the width w stands for a number from 0 to w, and any other for one that is not
+word-within : (v w : ℕ) (d : ℤ) → v < 2 ^ 32 → leZ (negℤ (pos (2 ^ 31))) d ≡ true → leZ d (pos (2 ^ 31 - 1)) ≡ true
+    → v ≈ residue (2 ^ 32) d → w ≤ ordinaryWidth → less v (w + 1) ≡ only (within (pos 0) (pos w) d) 1
+unfolding less within word neg
+word-within v w (pos n) lv from to h hw =
+    let small : n < 2 ^ 31 = omega (arith, leb-true n (2 ^ 31 - 1) to) in
+    let same : v ≡ n % 2 ^ 32 = same-word (m-trans h (m-sym (word≈ (pos n)))) lv (word-lt (pos n)) in
+    let is : v ≡ n = omega (arith, same, small) in
+    ap (λ (b : Bool). only b 1)
+    (ap (λ (k : ℕ). ltb k (w + 1)) is ∙ at-most n w ∙ ap (λ (b : Bool). b && leb n w) (sym (leb·zero n)))
+  where
+    at-most : (n w : ℕ) → ltb n (w + 1) ≡ leb n w
+    at-most n w = go (leb n w) refl
+      where
+        go : (b : Bool) → leb n w ≡ b → ltb n (w + 1) ≡ b
+        go true e = lt-ltb n (w + 1) (omega (arith, leb-true n w e))
+        go false e = le-ltb n (w + 1) (omega (arith, leb-false n w e))
+word-within v w (negsuc n) lv from to h hw =
+    let small : n < 2 ^ 31 = omega (arith, leb-true n (2 ^ 31 - 1) from) in
+    let same : v ≡ neg (suc n) = same-word (m-trans h (m-sym (word≈ (negsuc n)))) lv (word-lt (negsuc n)) in
+    let high : w + 1 ≤ v = omega (arith, same, small, hw) in
+    ap (λ (b : Bool). only b 1) (le-ltb v (w + 1) high)
+
+-- m - P lies from 0 to Q - P just if m lies from P to Q
+shifted : (p q m : ℤ) → within (pos 0) (q -ℤ p) (m -ℤ p) ≡ within p q m
+unfolding within
+shifted p q m =
+    ap₂ _&&_ (above-zero m p) (sym (above-zero (q -ℤ p) (m -ℤ p)) ∙ ap (leZ (pos 0)) (less-both p q m) ∙ above-zero q m)
+  where
+    less-both : (p q m : ℤ) → q -ℤ p -ℤ (m -ℤ p) ≡ q -ℤ m
+    less-both p q m = ringℤ (p ∷ q ∷ m ∷ []) (search reifyℤ depth 20 fits 5000) refl
+
+-- where Q is not below P, nor above it by more than a word holds, their words are as far apart as they are
+pub apart : (p q : ℕ) → leZ (signed p) (signed q) ≡ true → leZ (signed q -ℤ signed p) (pos (2 ^ 32 - 1)) ≡ true
+    → signed q -ℤ signed p ≡ pos (sub q p)
+apart p q from to = go (signed q -ℤ signed p) word-apart (above-zero (signed q) (signed p) ∙ from) to
+  where
+    word-apart : sub q p ≈ residue (2 ^ 32) (signed q -ℤ signed p)
+    word-apart = of (signed q) (signed p) (signed≈ q) (signed≈ p)
+      where
+        of : (Q P : ℤ) → residue (2 ^ 32) Q ≈ q → residue (2 ^ 32) P ≈ p → sub q p ≈ residue (2 ^ 32) (Q -ℤ P)
+        of Q P eq ep = ring (q ∷ p ∷ []) (search words depth 40 fits 5000) refl
+
+    go : (d : ℤ) → sub q p ≈ residue (2 ^ 32) d → leZ (pos 0) d ≡ true → leZ d (pos (2 ^ 32 - 1)) ≡ true
+        → d ≡ pos (sub q p)
+    go (pos n) e h k =
+        let fits : n < 2 ^ 32 = omega (arith, leb-true n (2 ^ 32 - 1) k) in
+        ap pos (sym (same-word (m-trans e (m-eq (sym (residue-pos (2 ^ 32) n)))) (sub-lt q p) fits))
+    go (negsuc n) e h k = neither h
+
+-- as are two marks in order
+marks-apart : (p q : ℕ) → inOrder (Between p q) ≡ true → signed q -ℤ signed p ≡ pos (sub q p)
+unfolding inOrder
+marks-apart p q h =
+    let ordered = both (leZ (signed p) (signed q)) _ h in
+    let wide = le-trans (of-test _ _ (ordered .1)) (of-test (pos ordinaryWidth) (pos (2 ^ 32 - 1)) refl) in
+    apart p q (ordered .0) (to-test {a = signed q -ℤ signed p} wide)
+
+-- a rule's width is at most an ordinary set's [SPEC 3.15]
+pub width-most : (rule : Rule) → inOrder rule ≡ true → widthOf rule ≤ ordinaryWidth
+unfolding inOrder widthOf
+width-most (Threshold t) h = omega arith
+width-most (Between p q) h =
+    leb-true _ _ (subst (λ (z : ℤ). leZ z (pos ordinaryWidth) ≡ true) (marks-apart p q h)
+    (both (leZ (signed p) (signed q)) _ h .1))
+
+lower : (d : ℤ) → leZ (negℤ (pos (2 ^ 31 - 1))) d ≡ true → leZ (negℤ (pos (2 ^ 31))) d ≡ true
+lower d h = to-test {b = d} (le-trans (of-test (negℤ (pos (2 ^ 31))) (negℤ (pos (2 ^ 31 - 1))) refl) (of-test _ _ h))
+
+-- a difference's word is at most the rule's width exactly if the rule is met
+pub meets-width : (terms : Terms) (rule : Rule) (v : ℕ) (x y : List ℕ) → lengthFits terms ≡ true
+    → allInRange terms x ≡ true → allInRange terms y ≡ true → ruleFits terms rule ≡ true → inOrder rule ≡ true
+    → v < 2 ^ 32
+    → v ≈ residue (2 ^ 32) (difference terms (markOf rule) (measure terms x y) (signed (offsetOf rule)))
+    → less v (widthOf rule + 1) ≡ only (meets terms rule (measure terms x y)) 1
+unfolding ruleFits markOf offsetOf widthOf meets reached within
+meets-width terms (Threshold t) v x y hn hx hy hr ho lv h =
+    let (from, to) = bound terms ordinaryMark t x y hn hx hy hr in
+    let d : ℤ = difference terms ordinaryMark (measure terms x y) (signed t) in
+    word-within v ordinaryWidth d lv (lower d from) to h (omega arith)
+    ∙ ap (λ (b : Bool). only b 1) (ap (λ (b : Bool). leZ (pos 0) d && b) to ∙ and-true (leZ (pos 0) d))
+meets-width terms (Between p q) v x y hn hx hy hr ho lv h =
+    let m : ℤ = measure terms x y in
+    let (from, to) = bound terms betweenMark p x y hn hx hy (both _ _ hr .0) in
+    let d : ℤ = difference terms betweenMark m (signed p) in
+    let between-plain = marked-sign terms betweenMark (λ e. absurd (omega (arith, e))) in
+    word-within v (sub q p) d lv (lower d from) to h (width-most (Between p q) ho)
+    ∙ ap (λ (b : Bool). only b 1)
+    (ap₂ (within (pos 0)) (sym (marks-apart p q ho)) (difference-plain terms betweenMark between-plain m (signed p))
+    ∙ shifted (signed p) (signed q) m)
 
 -- a measure equal to the threshold reaches it, by either sign
 pub reached-equal : (terms : Terms) (m : ℤ) → reached terms m m ≡ true
 unfolding reached difference
-reached-equal terms m = ap (leZ (pos 0)) (none (sign terms) m)
+reached-equal terms m = ap (leZ (pos 0)) (none (sign terms ordinaryMark) m)
   where
     none : (s m : ℤ) → s *ℤ (m -ℤ m) ≡ pos 0
     none s m = ringℤ (s ∷ m ∷ []) (search reifyℤ depth 20 fits 5000) refl

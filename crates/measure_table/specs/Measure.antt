@@ -1,21 +1,33 @@
--- The three measures (01, "Measures"; 02, §2, "Distances mean close"): the table, the whole number that a set's terms
--- and two vectors have, when that number meets the threshold, and the words that a box computes. Elements and
--- thresholds are words: a negative number stands for itself plus 2^32. The terms are what both boxes know of a set: its
--- measure's code, and L as `n`. Assumes nothing. [SPEC 2.3, 2.4, 3.1 to 3.3, 3.6]
+-- The three measures (01, "Measures"; 02, §2, "Distances mean close", and §4, "Between two marks"): the table, the
+-- whole number that a set's terms and two vectors have, when that number meets the rule that was dealt, and the words
+-- that a box computes. Elements, thresholds and marks are words: a negative number stands for itself plus 2^32. The
+-- terms are what a set's measure is of: its code, and L as `n`. Assumes nothing. [SPEC 2.3, 2.4, 3.1 to 3.3, 3.6, 3.13]
 use mathlib.Core.Bool.{Bool, true, false, cond, _&&_}
 use mathlib.Core.List.{List, [], _∷_}
 use Prim.Native.Nat.{ℕ, zero, suc, _*_, _-_, _%_, _^_}
-use lib.Dec.{ltb, leb}
+use lib.Dec.{eqb, ltb, leb}
 use lib.IntN.{ℤ, pos, negsuc, negℤ, _+ℤ_, _-ℤ_, _*ℤ_}
 use lib.ListN.{getD}
 use lib.Signed.{leZ}
-use Rattle.base_algebra.specs.Word.{neg, mul, signed}
+use Rattle.base_algebra.specs.Word.{neg, sub, mul, signed}
 use Rattle.base_algebra.specs.Sum.{sum, sumℤ}
 use Rattle.measure_table.specs.declared.Terms.{Terms}
+use Rattle.measure_table.specs.declared.Rule.{Rule}
+use Rattle.measure_table.specs.declared.Rule.the-variants.{Threshold, Between}
 
 -- the most elements that a vector has under any measure: the places of every array of a vector's words
 abbrev pub mostElements : ℕ
 mostElements = 512
+
+-- the mark of an ordinary set, and of one between two marks; and an ordinary set's width [SPEC 3.14]
+abbrev pub ordinaryMark : ℕ
+ordinaryMark = 0
+
+abbrev pub betweenMark : ℕ
+betweenMark = 1
+
+abbrev pub ordinaryWidth : ℕ
+ordinaryWidth = 2 ^ 31 - 1
 
 -- 01's table, a row for each code. `squares`: own is the sum of squares, else 0. An element lies from `low` to `high`,
 -- a threshold from `least` to `most`. Two columns more: a vector has at most `longest` elements; `sign` is 1 where more
@@ -88,18 +100,20 @@ cross terms x y = sumℤ (λ i. element x i *ℤ element y i) (terms .n)
 unfoldable pub measure : Terms → List ℕ → List ℕ → ℤ
 measure terms x y = own terms x +ℤ own terms y +ℤ row (terms .code) .k *ℤ cross terms x y
 
--- the sign in a set's row
-unfoldable pub sign : Terms → ℤ
-sign terms = row (terms .code) .sign
+-- the sign of a set's sum: an ordinary set, of mark 0, "keeps its code's sign", and one between two marks has "the
+-- plain sign for every code" (02, §4). Terms, mark [SPEC 3.6, 3.14]
+unfoldable pub sign : Terms → ℕ → ℤ
+sign terms mark = cond (eqb mark ordinaryMark) (row (terms .code) .sign) (pos 1)
 
--- what the two boxes open, less r: measure - T, and T - measure where the sign is -1. Terms, measure, T [SPEC 17.6]
-unfoldable pub difference : Terms → ℤ → ℤ → ℤ
-difference terms m t = sign terms *ℤ (m -ℤ t)
+-- what the two boxes open, less r: measure - T, and T - measure where the sign is -1. Terms, mark, measure, T
+-- [SPEC 17.6]
+unfoldable pub difference : Terms → ℕ → ℤ → ℤ → ℤ
+difference terms mark m t = sign terms mark *ℤ (m -ℤ t)
 
--- whether the threshold is reached: the difference is not below 0. With sign 1 that is "measure ≥ T"
+-- whether the threshold is reached: an ordinary set's difference is not below 0. With sign 1 that is "measure ≥ T"
 -- (Laws.`reached-plain`), with sign -1 it is "measure ≤ T" (`reached-close`). Terms, measure, T [SPEC 3.6]
 unfoldable pub reached : Terms → ℤ → ℤ → Bool
-reached terms m t = leZ (pos 0) (difference terms m t)
+reached terms m t = leZ (pos 0) (difference terms ordinaryMark m t)
 
 -- whether z lies from low to high
 unfoldable pub within : ℤ → ℤ → ℤ → Bool
@@ -117,6 +131,38 @@ allInRange terms (w ∷ v) = inRange terms w && allInRange terms v
 unfoldable pub thresholdFits : Terms → ℕ → Bool
 thresholdFits terms t = within (row (terms .code) .least) (row (terms .code) .most) (signed t)
 
+-- ---- the rule of a set, which the dealer is handed: a threshold T, or two marks P and Q (02, §4)
+
+-- whether a measure meets it: "The lock's 1 is now proved to mean P ≤ measure ≤ Q for such sets" [SPEC 3.6, 3.13]
+unfoldable pub meets : Terms → Rule → ℤ → Bool
+meets terms (Threshold t) m = reached terms m (signed t)
+meets terms (Between p q) m = within (signed p) (signed q) m
+
+-- "The dealer takes P and Q, each within the measure's threshold range" [SPEC 3.13, 23.8]
+unfoldable pub ruleFits : Terms → Rule → Bool
+ruleFits terms (Threshold t) = thresholdFits terms t
+ruleFits terms (Between p q) = thresholdFits terms p && thresholdFits terms q
+
+-- "Number 13, tested after 8, means Q < P or Q - P above 2^31 - 1" [SPEC 23.13]
+unfoldable pub inOrder : Rule → Bool
+inOrder (Threshold t) = true
+inOrder (Between p q) = leZ (signed p) (signed q) && leZ (signed q -ℤ signed p) (pos ordinaryWidth)
+
+-- "It deals as for T = P" [SPEC 3.14, 5.8]
+unfoldable pub offsetOf : Rule → ℕ
+offsetOf (Threshold t) = t
+offsetOf (Between p q) = p
+
+-- "the width w = Q - P", and "An ordinary set has w = 2^31 - 1" [SPEC 3.14]
+unfoldable pub widthOf : Rule → ℕ
+widthOf (Threshold t) = ordinaryWidth
+widthOf (Between p q) = sub q p
+
+-- "a mark byte, 1 for such a set and 0 for an ordinary one" [SPEC 3.14]
+unfoldable pub markOf : Rule → ℕ
+markOf (Threshold t) = ordinaryMark
+markOf (Between p q) = betweenMark
+
 -- ---- as words (01, "Measures": "word sums, differences and products are taken modulo 2^32") [SPEC 2.2, 3.7]
 
 -- "A negative number stands for itself plus 2^32" [SPEC 2.3]
@@ -127,8 +173,8 @@ word (negsuc n) = neg (suc n)
 unfoldable pub kWord : Terms → ℕ
 kWord terms = word (row (terms .code) .k)
 
-unfoldable pub signWord : Terms → ℕ
-signWord terms = word (sign terms)
+unfoldable pub signWord : Terms → ℕ → ℕ
+signWord terms mark = word (sign terms mark)
 
 unfoldable pub ownWord : Terms → List ℕ → ℕ
 ownWord terms v = cond (row (terms .code) .squares) (sum (λ i. mul (getD v i 0) (getD v i 0)) (terms .n)) 0
@@ -137,10 +183,6 @@ ownWord terms v = cond (row (terms .code) .squares) (sum (λ i. mul (getD v i 0)
 -- products of what the two carry is `cross` (Laws.`cross≈`). Terms, party, vector
 unfoldable pub carried : Terms → ℕ → List ℕ → List ℕ
 carried terms party v = v
-
--- the width of the interval that a set answers for: its difference lies from 0 to this just if the threshold is reached
-abbrev pub ordinaryWidth : ℕ
-ordinaryWidth = 2 ^ 31 - 1
 
 -- the table of squares: n of them, from that of i on. The checker computes this list and holds the constant to it,
 -- entry by entry [SPEC 3.8]

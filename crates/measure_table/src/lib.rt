@@ -1,25 +1,38 @@
-// The three measures (01, "Measures"; 02, §2): what the table says of each code, as words. Elements and
-// thresholds are words; a negative number stands for itself plus 2^32. No public function asks
-// anything of its caller. (1073741824 is 2^30, and 2147483648 is 2^31.) `measure_own` has the own term.
-// [SPEC 2.3, 2.4, 3.3, 3.7]
+// The three measures (01, "Measures"; 02, §2 and §4): what the table says of each code, as words, and
+// the rule that a set is dealt by. Elements, thresholds and marks are words; a negative number stands
+// for itself plus 2^32. No public function asks anything of its caller. (1073741824 is 2^30, and
+// 2147483648 is 2^31.) `measure_own` has the own term. [SPEC 2.3, 2.4, 3.3, 3.7, 3.13]
 ghost use mathlib.Core.Path.{_≡_};
 ghost use Rattle.base_algebra.specs.Word.{signed};
 ghost use Rattle.measure_table.specs.Measure.{row, isCode, lengthFits, inRange, allInRange, thresholdFits};
-ghost use Rattle.measure_table.specs.Measure.{within, word, kWord, signWord};
+ghost use Rattle.measure_table.specs.Measure.{within, word, kWord, signWord, ruleFits, inOrder, offsetOf};
+ghost use Rattle.measure_table.specs.Measure.{widthOf, markOf};
 
 // The most elements that a vector has under any measure: the places of every array of a vector's words.
 pub const MOST_ELEMENTS: usize = 512;
 
-// What both boxes know of a set: its measure's code, and how many elements a vector has (01's L). No
-// box knows the threshold.
+// What a set's measure is of: its code, and how many elements a vector has (01's L).
 #[repr(C)]
 pub struct Terms {
     pub code: u32,
     pub n: usize,
 }
 
-// The width of the interval that an ordinary set answers for (2^31 - 1): what its boxes open lies from
-// 0 to this if the threshold is reached.
+// What a set answers yes to: a measure that reaches the threshold, or one that lies from the first
+// mark to the second, both included. Only the dealer knows it: of two marks the boxes know how far
+// they are apart.
+pub enum Rule {
+    Threshold(u32),
+    Between(u32, u32),
+}
+
+// The mark of a set that was dealt by a threshold, and of one between two marks.
+pub const ORDINARY_MARK: u32 = 0;
+
+pub const BETWEEN_MARK: u32 = 1;
+
+// The width of an ordinary set (2^31 - 1): what its boxes open lies from 0 to this if the threshold is
+// reached.
 pub const ORDINARY_WIDTH: u32 = 2147483647;
 
 // -1, -2, -1024 and -2^30
@@ -145,10 +158,67 @@ pub fn k(terms: Terms) -> u32
     row.k
 }
 
-// The sign that a set's sum is opened by, as a word.
-pub fn sign(terms: Terms) -> u32
-    ensures { λ r. ⌜ r ≡ signWord terms ⌝ }
+// The sign that a set of this mark has its sum opened by, as a word.
+pub fn sign(terms: Terms, mark: u32) -> u32
+    ensures { λ r. ⌜ r ≡ signWord terms mark ⌝ }
 {
     let row = row_of(terms.code);
-    row.sign
+    if mark == ORDINARY_MARK { row.sign } else { 1 }
+}
+
+// Whether the threshold, or each of the two marks, is in range.
+pub fn rule_fits(terms: Terms, rule: Rule) -> bool
+    ensures { λ r. ⌜ r ≡ ruleFits terms rule ⌝ }
+{
+    match rule {
+        Rule::Threshold(t) => threshold_fits(terms, t),
+        Rule::Between(p, q) => threshold_fits(terms, p) & threshold_fits(terms, q),
+    }
+}
+
+// Whether q, read as signed, is not below p, and above it by at most an ordinary set's width. (Where it
+// is not below, the difference of the words is that of the numbers.)
+fn ordered(p: u32, q: u32) -> bool
+    ensures { λ r. ⌜ r ≡ inOrder (Rule.Between p q) ⌝ }
+{
+    (base_words::add(p, 2147483648) <= base_words::add(q, 2147483648))
+        & (base_words::sub(q, p) <= ORDINARY_WIDTH)
+}
+
+// Whether two marks are in order, and not too far apart.
+pub fn in_order(rule: Rule) -> bool
+    ensures { λ r. ⌜ r ≡ inOrder rule ⌝ }
+{
+    match rule {
+        Rule::Threshold(_) => true,
+        Rule::Between(p, q) => ordered(p, q),
+    }
+}
+
+// What is taken off the measure: the threshold, or the first mark.
+pub fn offset_of(rule: Rule) -> u32
+    ensures { λ r. ⌜ r ≡ offsetOf rule ⌝ }
+{
+    match rule {
+        Rule::Threshold(t) => t,
+        Rule::Between(p, _) => p,
+    }
+}
+
+pub fn width_of(rule: Rule) -> u32
+    ensures { λ r. ⌜ r ≡ widthOf rule ⌝ }
+{
+    match rule {
+        Rule::Threshold(_) => ORDINARY_WIDTH,
+        Rule::Between(p, q) => base_words::sub(q, p),
+    }
+}
+
+pub fn mark_of(rule: Rule) -> u32
+    ensures { λ r. ⌜ r ≡ markOf rule ⌝ }
+{
+    match rule {
+        Rule::Threshold(_) => ORDINARY_MARK,
+        Rule::Between(_, _) => BETWEEN_MARK,
+    }
 }

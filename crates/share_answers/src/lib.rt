@@ -6,12 +6,12 @@ ghost use Rattle.share_vectors.specs.Share.{boxWord as wordOf, answer as answer
 use dcf_node::Key;
 use measure_table::Terms;
 
-// A box's word, from its share, its own term and its r word.
-pub fn word(terms: Terms, share: u32, own: u32, r: u32) -> u32
-    ensures { λ w. ⌜ w ≡ wordOf terms share own r ⌝ }
+// A box's word, from the set's mark, the box's share, its own term and its r word.
+pub fn word(terms: Terms, mark: u32, share: u32, own: u32, r: u32) -> u32
+    ensures { λ w. ⌜ w ≡ wordOf terms mark share own r ⌝ }
 {
     let part = base_words::add(base_words::mul(measure_table::k(terms), share), own);
-    base_words::add(base_words::mul(measure_table::sign(terms), part), r)
+    base_words::add(base_words::mul(measure_table::sign(terms, mark), part), r)
 }
 
 // A box's answer, from the sum of both words: whether it lies from 0 to the width above the point, as

@@ -1,7 +1,7 @@
 -- Claim opened-sum: whatever the masks, the two boxes' words sum to measure - T + r, and with sign -1 to
--- T - measure + r. Claim join law: whatever the key seeds, their answers sum to 1 if the threshold is reached, else to
--- 0. Both over free words: where they come from is another layer's matter; and over either sign. And that the formulas
--- are equal to the papers'. Assumes nothing.
+-- T - measure + r. Claim join law: whatever the key seeds, their answers sum to 1 if the rule that was dealt is met,
+-- else to 0. Both over free words: where they come from is another layer's matter; and over either sign. And that the
+-- formulas are equal to the papers'. Assumes nothing.
 use mathlib.Core.Path.{_≡_, refl, sym, ap, ap₂, _∙_}
 use mathlib.Core.Bool.{true}
 use mathlib.Core.List.{List, [], _∷_}
@@ -21,30 +21,32 @@ use Rattle.dcf_node.specs.Node.{keyFor, valueAt}
 use Rattle.dcf_node.specs.Claims.{shares}
 use Rattle.dcf_node.specs.declared.Key.{Key}
 use Rattle.measure_table.specs.declared.Terms.{Terms}
-use Rattle.measure_table.specs.Measure.{lengthFits, allInRange, thresholdFits, measure, sign, difference, reached}
-use Rattle.measure_table.specs.Measure.{kWord, signWord, ownWord, carried, ordinaryWidth}
-use Rattle.measure_table.specs.Laws.{measure≈, signWord≈, signWord-plain, signWord-close, reached-sign}
+use Rattle.measure_table.specs.declared.Rule.{Rule}
+use Rattle.measure_table.specs.Measure.{lengthFits, allInRange, measure, sign, difference, ordinaryWidth}
+use Rattle.measure_table.specs.Measure.{meets, ruleFits, inOrder, offsetOf, widthOf, markOf}
+use Rattle.measure_table.specs.Measure.{kWord, signWord, ownWord, carried}
+use Rattle.measure_table.specs.Laws.{measure≈, signWord≈, signWord-plain, signWord-close, width-most, meets-width}
 use Rattle.measure_table.specs.Laws.{difference-plain, difference-close}
 use Rattle.share_vectors.specs.Share.{plus, inner, otherC, otherR, share, boxWord, answer, idealGate}
 
 -- ---- the papers' own formulas. With sign 1 they are 01's ..
 
-module _ (terms : Terms) (plain : sign terms ≡ pos 1) where
+module _ (terms : Terms) (mark : ℕ) (plain : sign terms mark ≡ pos 1) where
   -- "its word: k × (share) + own + its r" [SPEC 17.4]
-  pub word-plain : (s own r : ℕ) → boxWord terms s own r ≡ add (add (mul (kWord terms) s) own) r
+  pub word-plain : (s own r : ℕ) → boxWord terms mark s own r ≡ add (add (mul (kWord terms) s) own) r
   unfolding boxWord
   word-plain s own r =
-      ap (λ (g : ℕ). add (mul g (add (mul (kWord terms) s) own)) r) (signWord-plain terms plain)
+      ap (λ (g : ℕ). add (mul g (add (mul (kWord terms) s) own)) r) (signWord-plain terms mark plain)
       ∙ same-word (once (kWord terms) s own r) (add-lt _ _) (add-lt _ _)
     where
       once : (k s o r : ℕ) → add (mul 1 (add (mul k s) o)) r ≈ add (add (mul k s) o) r
       once k s o r = ring (k ∷ s ∷ o ∷ r ∷ []) (search words depth 40 fits 5000) refl
 
   -- "r1 = r - T - r0" [SPEC 5.8]
-  pub other-r-plain : (r t r0 : ℕ) → otherR terms r t r0 ≡ sub (sub r t) r0
+  pub other-r-plain : (r t r0 : ℕ) → otherR terms mark r t r0 ≡ sub (sub r t) r0
   unfolding otherR
   other-r-plain r t r0 =
-      ap (λ (g : ℕ). sub (sub r (mul g t)) r0) (signWord-plain terms plain)
+      ap (λ (g : ℕ). sub (sub r (mul g t)) r0) (signWord-plain terms mark plain)
       ∙ same-word (once r t r0) (sub-lt _ _) (sub-lt _ _)
     where
       once : (r t r0 : ℕ) → sub (sub r (mul 1 t)) r0 ≈ sub (sub r t) r0
@@ -52,22 +54,22 @@ module _ (terms : Terms) (plain : sign terms ≡ pos 1) where
 
 -- .. and with sign -1 those of 02, §2
 
-module _ (terms : Terms) (close : sign terms ≡ negℤ (pos 1)) where
+module _ (terms : Terms) (mark : ℕ) (close : sign terms mark ≡ negℤ (pos 1)) where
   -- "a box's word is its r minus (k × (share) + own)" [SPEC 17.4]
-  pub word-close : (s own r : ℕ) → boxWord terms s own r ≡ sub r (add (mul (kWord terms) s) own)
+  pub word-close : (s own r : ℕ) → boxWord terms mark s own r ≡ sub r (add (mul (kWord terms) s) own)
   unfolding boxWord
   word-close s own r =
-      ap (λ (g : ℕ). add (mul g (add (mul (kWord terms) s) own)) r) (signWord-close terms close)
+      ap (λ (g : ℕ). add (mul g (add (mul (kWord terms) s) own)) r) (signWord-close terms mark close)
       ∙ same-word (turned (kWord terms) s own r) (add-lt _ _) (sub-lt _ _)
     where
       turned : (k s o r : ℕ) → add (mul (neg 1) (add (mul k s) o)) r ≈ sub r (add (mul k s) o)
       turned k s o r = ring (k ∷ s ∷ o ∷ r ∷ []) (search words depth 40 fits 5000) refl
 
   -- "r1 = r + T - r0" [SPEC 5.8]
-  pub other-r-close : (r t r0 : ℕ) → otherR terms r t r0 ≡ sub (add r t) r0
+  pub other-r-close : (r t r0 : ℕ) → otherR terms mark r t r0 ≡ sub (add r t) r0
   unfolding otherR
   other-r-close r t r0 =
-      ap (λ (g : ℕ). sub (sub r (mul g t)) r0) (signWord-close terms close)
+      ap (λ (g : ℕ). sub (sub r (mul g t)) r0) (signWord-close terms mark close)
       ∙ same-word (turned r t r0) (sub-lt _ _) (sub-lt _ _)
     where
       turned : (r t r0 : ℕ) → sub (sub r (mul (neg 1) t)) r0 ≈ sub (add r t) r0
@@ -133,7 +135,7 @@ unfolding inner
 inner-of n a b f g ea eb = sum-ext _ _ n (λ i h. ap₂ mul (ea i h) (eb i h))
 
 -- a check's two words, in the names of 01 [SPEC 5.5, 5.6, 16.2, 17.2, 17.4]
-module _ (terms : Terms) (t : ℕ) (x y x0 x1 y0 y1 : List ℕ) (c0 r r0 : ℕ) where
+module _ (terms : Terms) (mark t : ℕ) (x y x0 x1 y0 y1 : List ℕ) (c0 r r0 : ℕ) where
   abbrev n : ℕ
   n = terms .n
 
@@ -157,14 +159,14 @@ module _ (terms : Terms) (t : ℕ) (x y x0 x1 y0 y1 : List ℕ) (c0 r r0 : ℕ) 
   maskedY = plus n cy maskY
 
   abbrev pub word0 : ℕ
-  word0 = boxWord terms (share 0 n c0 maskedX maskedY x0 y0) (ownWord terms x) r0
+  word0 = boxWord terms mark (share 0 n c0 maskedX maskedY x0 y0) (ownWord terms x) r0
 
   abbrev pub word1 : ℕ
   word1 =
-      boxWord terms
+      boxWord terms mark
       (share 1 n (otherC n maskX maskY c0) maskedX maskedY x1 y1)
       (ownWord terms y)
-      (otherR terms r t r0)
+      (otherR terms mark r t r0)
 
   inners : inner n cx cy
       ≈ sub
@@ -199,11 +201,11 @@ module _ (terms : Terms) (t : ℕ) (x y x0 x1 y0 y1 : List ℕ) (c0 r r0 : ℕ) 
   -- the words open to the products and the own terms, less T, by the sign, and under r
   words-open :
       (let m : ℕ = add (add (ownWord terms x) (ownWord terms y)) (mul (kWord terms) (inner n cx cy)) in
-      add word0 word1 ≈ add (mul (signWord terms) (sub m t)) r)
+      add word0 word1 ≈ add (mul (signWord terms mark) (sub m t)) r)
   unfolding boxWord share otherC otherR only odd
   words-open =
       open-sum (inner n cx cy) _ _ _ _ _ _
-      (signWord terms)
+      (signWord terms mark)
       (kWord terms)
       (ownWord terms x)
       (ownWord terms y)
@@ -225,12 +227,12 @@ module _ (terms : Terms) (t : ℕ) (x y x0 x1 y0 y1 : List ℕ) (c0 r r0 : ℕ) 
           refl
 
   -- Claim opened-sum
-  pub opened-sum : add word0 word1 ≈ residue (2 ^ 32) (difference terms (measure terms x y) (signed t)) + r
+  pub opened-sum : add word0 word1 ≈ residue (2 ^ 32) (difference terms mark (measure terms x y) (signed t)) + r
   unfolding inner difference
   opened-sum =
-      last (sign terms) (measure terms x y) (signed t) _ _ _ r t
+      last (sign terms mark) (measure terms x y) (signed t) _ _ _ r t
       words-open
-      (signWord≈ terms)
+      (signWord≈ terms mark)
       (measure≈ terms x y)
       (signed≈ t)
     where
@@ -240,14 +242,14 @@ module _ (terms : Terms) (t : ℕ) (x y x0 x1 y0 y1 : List ℕ) (c0 r r0 : ℕ) 
           ring (residue (2 ^ 32) G ∷ residue (2 ^ 32) M ∷ r ∷ t ∷ []) (search words depth 40 fits 5000) refl
 
   -- "measure - T + r" ..
-  pub opened-plain : sign terms ≡ pos 1
+  pub opened-plain : sign terms mark ≡ pos 1
       → add word0 word1 ≈ residue (2 ^ 32) (measure terms x y -ℤ signed t) + r
-  opened-plain plain = rw (sym (difference-plain terms plain (measure terms x y) (signed t))) opened-sum
+  opened-plain plain = rw (sym (difference-plain terms mark plain (measure terms x y) (signed t))) opened-sum
 
   -- .. and 02, §2: "The opened sum for those two codes is T - measure + r" [SPEC 17.6]
-  pub opened-close : sign terms ≡ negℤ (pos 1)
+  pub opened-close : sign terms mark ≡ negℤ (pos 1)
       → add word0 word1 ≈ residue (2 ^ 32) (signed t -ℤ measure terms x y) + r
-  opened-close close = rw (sym (difference-close terms close (measure terms x y) (signed t))) opened-sum
+  opened-close close = rw (sym (difference-close terms mark close (measure terms x y) (signed t))) opened-sum
 
 -- ---- the join law
 
@@ -280,20 +282,26 @@ width-test w r z hw hr hz = rw (next w hw) (interval r z w hr hz hw)
 pub sign-test : (r z : ℕ) → r < 2 ^ 32 → z < 2 ^ 32 → idealGate ordinaryWidth r z ≡ less (sub z r) (2 ^ 31)
 sign-test r z hr hz = width-test ordinaryWidth r z (omega arith) hr hz
 
--- Claim join law: for every vector in range, every threshold in range, every mask, every r and every two key seeds
-pub join-law : (terms : Terms) (t : ℕ) (x y x0 x1 y0 y1 : List ℕ) (c0 r r0 : ℕ) (k0 k1 : List ℕ)
-    → lengthFits terms ≡ true → allInRange terms x ≡ true → allInRange terms y ≡ true → thresholdFits terms t ≡ true
-    → r < 2 ^ 32
-    → (let z : ℕ = add (word0 terms t x y x0 x1 y0 y1 c0 r r0) (word1 terms t x y x0 x1 y0 y1 c0 r r0) in
-    add (answer ordinaryWidth 0 (keyFor k0 k1 r) k0 z) (answer ordinaryWidth 1 (keyFor k0 k1 r) k1 z))
-    ≡ only (reached terms (measure terms x y) (signed t)) 1
-join-law terms t x y x0 x1 y0 y1 c0 r r0 k0 k1 hn hx hy ht hr =
-    let z : ℕ = add (word0 terms t x y x0 x1 y0 y1 c0 r r0) (word1 terms t x y x0 x1 y0 y1 c0 r r0) in
-    let opened : sub z r ≈ residue (2 ^ 32) (difference terms (measure terms x y) (signed t)) =
-    less-r z _ r (opened-sum terms t x y x0 x1 y0 y1 c0 r r0) in
-    ideal ordinaryWidth k0 k1 r z hr (add-lt _ _)
-    ∙ sign-test r z hr (add-lt _ _)
-    ∙ reached-sign terms t (sub z r) x y hn hx hy ht (sub-lt z r) opened
+-- Claim join law: for every vector in range, every rule that a deal takes, every mask, every r and every two key seeds
+pub join-law : (terms : Terms) (rule : Rule) (x y x0 x1 y0 y1 : List ℕ) (c0 r r0 : ℕ) (k0 k1 : List ℕ)
+    → lengthFits terms ≡ true → allInRange terms x ≡ true → allInRange terms y ≡ true → ruleFits terms rule ≡ true
+    → inOrder rule ≡ true → r < 2 ^ 32
+    → (let m : ℕ = markOf rule in
+    let t : ℕ = offsetOf rule in
+    let w : ℕ = widthOf rule in
+    let z : ℕ = add (word0 terms m t x y x0 x1 y0 y1 c0 r r0) (word1 terms m t x y x0 x1 y0 y1 c0 r r0) in
+    add (answer w 0 (keyFor k0 k1 r) k0 z) (answer w 1 (keyFor k0 k1 r) k1 z))
+    ≡ only (meets terms rule (measure terms x y)) 1
+join-law terms rule x y x0 x1 y0 y1 c0 r r0 k0 k1 hn hx hy hr ho lr =
+    let m : ℕ = markOf rule in
+    let t : ℕ = offsetOf rule in
+    let w : ℕ = widthOf rule in
+    let z : ℕ = add (word0 terms m t x y x0 x1 y0 y1 c0 r r0) (word1 terms m t x y x0 x1 y0 y1 c0 r r0) in
+    let opened : sub z r ≈ residue (2 ^ 32) (difference terms m (measure terms x y) (signed t)) =
+    less-r z _ r (opened-sum terms m t x y x0 x1 y0 y1 c0 r r0) in
+    ideal w k0 k1 r z lr (add-lt _ _)
+    ∙ width-test w r z (omega (arith, width-most rule ho)) lr (add-lt _ _)
+    ∙ meets-width terms rule (sub z r) x y hn hx hy hr ho (sub-lt z r) opened
   where
     less-r : (z d r : ℕ) → z ≈ d + r → sub z r ≈ d
     less-r z d r e = ring (d ∷ r ∷ []) (search words depth 40 fits 5000) refl

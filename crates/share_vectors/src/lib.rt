@@ -43,12 +43,12 @@ pub fn other_c(n: usize, x: &[u32], y: &[u32], c0: u32) -> u32
     base_words::sub(inner(n, x, y), c0)
 }
 
-// Party 1's r word, from r, the threshold and party 0's.
-pub fn other_r(terms: Terms, r: u32, t: u32, r0: u32) -> u32
-    ensures { λ x. ⌜ x ≡ otherR terms r t r0 ⌝ }
+// Party 1's r word, from the set's mark, r, the threshold or first mark, and party 0's.
+pub fn other_r(terms: Terms, mark: u32, r: u32, t: u32, r0: u32) -> u32
+    ensures { λ x. ⌜ x ≡ otherR terms mark r t r0 ⌝ }
 {
     base_words::sub(
-        base_words::sub(r, base_words::mul(measure_table::sign(terms), t)),
+        base_words::sub(r, base_words::mul(measure_table::sign(terms, mark), t)),
         r0,
     )
 }

@@ -1,6 +1,6 @@
 use native.Mathlib.Omega.{arith}
 use Rattle.call_dealer.proofs.Laws.{short, few, unknown-code, bad-length, no-room, stale, out-of-range}
-use Rattle.call_dealer.proofs.Laws.{deal-taken}
+use Rattle.call_dealer.proofs.Laws.{bad-marks, deal-taken}
 use borrow.Author.Needs.{needs}
 use Rattle.call_dealer.proofs.why_not_deal.Statement.{statement}
 use Rattle.call_dealer.proofs.why_not_deal.Tie as tie
@@ -57,13 +57,13 @@ returns-4 c =
     (at-length .length-fits .ensures) (at-if2 .if2 .left) _ (at-blocks-of .blocks-of .ensures) (at-if3 .if3 .left)
     (c .if4 .taken)
 
-threshold-fits-requires : tie.Need-threshold-fits-requires
-threshold-fits-requires c κs = search needs
+rule-fits-requires : tie.Need-rule-fits-requires
+rule-fits-requires c κs = search needs
 
 returns-5 : tie.Need-returns-5
 returns-5 c =
-    let at-threshold = c .before in
-    let at-if4 = at-threshold .before in
+    let at-rule = c .before in
+    let at-if4 = at-rule .before in
     let at-if3 = at-if4 .before in
     let at-blocks-of = at-if3 .before in
     let at-if2 = at-blocks-of .before in
@@ -72,12 +72,34 @@ returns-5 c =
     let at-code = at-if1 .before in
     λ s seed el es. out-of-range s _ el es _ _ _ (at-code .is-code .ensures) (at-if1 .if1 .left) _
     (at-length .length-fits .ensures) (at-if2 .if2 .left) _ (at-blocks-of .blocks-of .ensures) (at-if3 .if3 .left)
-    (at-if4 .if4 .left) _ (at-threshold .threshold-fits .ensures) (c .if5 .taken)
+    (at-if4 .if4 .left) _ (at-rule .rule-fits .ensures) (c .if5 .taken)
+
+in-order-requires : tie.Need-in-order-requires
+in-order-requires c κs = search needs
 
 returns-6 : tie.Need-returns-6
 returns-6 c =
-    let at-threshold = c .before in
-    let at-if4 = at-threshold .before in
+    let at-order = c .before in
+    let at-if5 = at-order .before in
+    let at-rule = at-if5 .before in
+    let at-if4 = at-rule .before in
+    let at-if3 = at-if4 .before in
+    let at-blocks-of = at-if3 .before in
+    let at-if2 = at-blocks-of .before in
+    let at-length = at-if2 .before in
+    let at-if1 = at-length .before in
+    let at-code = at-if1 .before in
+    λ s seed el es. bad-marks s _ el es _ _ _ (at-code .is-code .ensures) (at-if1 .if1 .left) _
+    (at-length .length-fits .ensures) (at-if2 .if2 .left) _ (at-blocks-of .blocks-of .ensures) (at-if3 .if3 .left)
+    (at-if4 .if4 .left) _ (at-rule .rule-fits .ensures) (at-if5 .if5 .left) _ (at-order .in-order .ensures)
+    (c .if6 .taken)
+
+returns-7 : tie.Need-returns-7
+returns-7 c =
+    let at-order = c .before in
+    let at-if5 = at-order .before in
+    let at-rule = at-if5 .before in
+    let at-if4 = at-rule .before in
     let at-if3 = at-if4 .before in
     let at-blocks-of = at-if3 .before in
     let at-if2 = at-blocks-of .before in
@@ -86,7 +108,8 @@ returns-6 c =
     let at-code = at-if1 .before in
     λ s seed el es. deal-taken s _ el es _ _ _ (at-code .is-code .ensures) (at-if1 .if1 .left) _
     (at-length .length-fits .ensures) (at-if2 .if2 .left) _ (at-blocks-of .blocks-of .ensures) (at-if3 .if3 .left)
-    (at-if4 .if4 .left) _ (at-threshold .threshold-fits .ensures) (c .if5 .left)
+    (at-if4 .if4 .left) _ (at-rule .rule-fits .ensures) (at-if5 .if5 .left) _ (at-order .in-order .ensures)
+    (c .if6 .left)
 
 pub why-not-deal-spec : {M : Type 1} → statement M
 why-not-deal-spec =
@@ -100,6 +123,8 @@ why-not-deal-spec =
     mul-size
     returns-3
     returns-4
-    threshold-fits-requires
+    rule-fits-requires
     returns-5
-    returns-6)
+    in-order-requires
+    returns-6
+    returns-7)

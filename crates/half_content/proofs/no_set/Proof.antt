@@ -32,6 +32,8 @@ returns c = ap none-at (c .no-correction .ensures)
           r = 0;
           seed = replicate 8 0;
           key = record { corrections = replicate 32 d; last = 0 };
+          width = 0;
+          mark = 0;
         }
 
 pub no-set-spec : {M : Type 1} → statement M

@@ -31,10 +31,18 @@ words-from-requires-2 c κs =
 key-seed-requires : tie.Need-key-seed-requires
 key-seed-requires c κs = search needs
 
+width-of-requires : tie.Need-width-of-requires
+width-of-requires c κs = search needs
+
+mark-of-requires : tie.Need-mark-of-requires
+mark-of-requires c κs = search needs
+
 returns : tie.Need-returns
 unfolding x y
 returns c =
-    let at-y = c .before in
+    let at-width = c .before in
+    let at-seed = at-width .before in
+    let at-y = at-seed .before in
     let at-x = at-y .before in
     let a = at-x .before .before .args in
     λ i. record {
@@ -45,8 +53,10 @@ returns c =
       y = at-y .words-from2 .ensures i;
       c = a .c;
       r = a .r;
-      seed = c .key-seed .ensures i;
+      seed = at-seed .key-seed .ensures i;
       key = a .key;
+      width = at-width .width-of .ensures i;
+      mark = c .mark-of .ensures i;
     }
 
 pub set-for-spec : {M : Type 1} → statement M
@@ -59,4 +69,6 @@ set-for-spec =
     mul-words-from-2
     words-from-requires-2
     key-seed-requires
+    width-of-requires
+    mark-of-requires
     returns)

@@ -64,6 +64,12 @@ slice-aggregate-other-c-2 c = search needs
 other-c-requires : tie.Need-other-c-requires
 other-c-requires c κs = search needs
 
+mark-of-requires : tie.Need-mark-of-requires
+mark-of-requires c κs = search needs
+
+offset-of-requires : tie.Need-offset-of-requires
+offset-of-requires c κs = search needs
+
 other-r-requires : tie.Need-other-r-requires
 other-r-requires c κs = search needs
 
@@ -72,7 +78,8 @@ set-for-requires c κs = search needs
 
 set-for-requires-2 : tie.Need-set-for-requires-2
 set-for-requires-2 c κs =
-    let at-key = c .before .before .before .before in
+    let at-c = c .before .before .before .before in
+    let at-key = at-c .before .before in
     let at-seed = at-key .before .before .before in
     let at-mask2 = at-seed .before .before .before in
     let start = at-mask2 .before .before .before .before in
@@ -81,22 +88,26 @@ set-for-requires-2 c κs =
 returns : tie.Need-returns
 returns c =
     let at-r = c .before .before in
-    let at-c = at-r .before in
+    let at-offset = at-r .before in
+    let at-mark = at-offset .before in
+    let at-c = at-mark .before in
     let at-key = at-c .before .before .before in
     let at-seed1 = at-key .before in
     let at-seed0 = at-seed1 .before in
     let at-mask-y = at-seed0 .before .before .before .before in
     let at-mask-x = at-mask-y .before in
     let a = at-mask-x .before .before .args in
-    sets-law (a .terms) (a .number) (a .t) (a .w .now) _ _ _ _ _
+    sets-law (a .terms) (a .number) (a .rule) (a .w .now) _ _ _ _ _
     (at-mask-x .mask .ensures)
     (at-mask-y .mask2 .ensures)
     (at-seed0 .key-seed .ensures)
     (at-seed1 .key-seed2 .ensures)
     (at-key .make .ensures)
-    _ _ _ _
+    _ _ _ _ _ _
     (c .before .set-for .ensures)
     (at-c .other-c .ensures)
+    (at-mark .mark-of .ensures)
+    (at-offset .offset-of .ensures)
     (at-r .other-r .ensures)
     (c .set-for2 .ensures)
 
@@ -124,6 +135,8 @@ sets-from-spec =
     slice-aggregate-other-c
     slice-aggregate-other-c-2
     other-c-requires
+    mark-of-requires
+    offset-of-requires
     other-r-requires
     set-for-requires
     set-for-requires-2

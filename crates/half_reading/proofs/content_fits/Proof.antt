@@ -40,12 +40,19 @@ corrections-at-requires c κs = search needs
 last-at-requires : tie.Need-last-at-requires
 last-at-requires c κs = search needs
 
+width-at-requires : tie.Need-width-at-requires
+width-at-requires c κs = search needs
+
+mark-at-requires : tie.Need-mark-at-requires
+mark-at-requires c κs = search needs
+
 size-of-requires : tie.Need-size-of-requires
 size-of-requires c κs = search needs
 
 slice-aggregate-equal : tie.Need-slice-aggregate-equal
 slice-aggregate-equal c =
-    let at-if3 = c .before .before .before .before in
+    let at-last-at = c .before .before .before .before in
+    let at-if3 = at-last-at .before .before in
     let at-terms = at-if3 .before .before .before .before in
     sym (length-take-le 16 (at-terms .before .before .args .b .now) (search needs))
 
@@ -77,6 +84,17 @@ flags-fit-requires : tie.Need-flags-fit-requires
 unfolding offset widths sumFirst
 flags-fit-requires c κs = search needs
 
+load-requires : tie.Need-load-requires
+unfolding blockCount size offset widths sumFirst
+load-requires c κs = search needs
+
+byte-requires-2 : tie.Need-byte-requires-2
+unfolding blockCount size offset widths sumFirst
+byte-requires-2 c κs = search needs
+
+width-fits-requires : tie.Need-width-fits-requires
+width-fits-requires c κs = search needs
+
 sub-all-zero : tie.Need-sub-all-zero
 unfolding blockCount size offset widths sumFirst
 sub-all-zero c = search needs
@@ -93,12 +111,17 @@ all-zero-requires c κs = search needs
 
 returns-3 : tie.Need-returns-3
 returns-3 c =
-    let at-flags = c .before .before in
+    let at-fits-width = c .before .before in
+    let at-mark = at-fits-width .before in
+    let at-width = at-mark .before in
+    let at-flags = at-width .before in
     let at-code = at-flags .before .before in
     let at-byte = at-code .before in
     let at-equal = at-byte .before in
     let at-size = at-equal .before .before .before in
-    let at-last-at = at-size .before in
+    let at-mark-at = at-size .before in
+    let at-width-at = at-mark-at .before in
+    let at-last-at = at-width-at .before in
     let at-corrections-at = at-last-at .before in
     let at-blocks = at-corrections-at .before .before in
     let at-if1 = at-blocks .before in
@@ -107,11 +130,12 @@ returns-3 c =
     let start = at-terms .before .before in
     let a = start .args in
     fits-law (a .t1) (a .party) (a .count) (a .b .now) (at-terms .terms-in .result) (at-terms .terms-in .ensures .0)
-    (at-fits .length-fits .result) _ _ _ _ _ _ _ _ _ (at-fits .length-fits .ensures) (at-if1 .if1 .left)
+    (at-fits .length-fits .result) _ _ _ _ _ _ _ _ _ _ _ _ _ _ (at-fits .length-fits .ensures) (at-if1 .if1 .left)
     (at-blocks .blocks-of .ensures) (at-corrections-at .before .if2 .left)
-    (at-corrections-at .corrections-at .ensures) (at-last-at .last-at .ensures) (at-size .size-of .ensures)
+    (at-corrections-at .corrections-at .ensures) (at-last-at .last-at .ensures) (at-width-at .width-at .ensures)
+    (at-mark-at .mark-at .ensures) (at-size .size-of .ensures)
     (at-equal .equal .ensures) (at-byte .byte .ensures .0) (at-code .is-code .ensures) (at-flags .flags-fit .ensures)
-    (c .all-zero .ensures)
+    (at-width .load .ensures) (at-mark .byte2 .ensures .0) (at-fits-width .width-fits .ensures) (c .all-zero .ensures)
 
 pub content-fits-spec : {M : Type 1} → statement M
 content-fits-spec =
@@ -124,6 +148,8 @@ content-fits-spec =
     returns-2
     corrections-at-requires
     last-at-requires
+    width-at-requires
+    mark-at-requires
     size-of-requires
     slice-aggregate-equal
     slice-aggregate-equal-2
@@ -134,6 +160,9 @@ content-fits-spec =
     part-flags-fit-start
     part-flags-fit-end
     flags-fit-requires
+    load-requires
+    byte-requires-2
+    width-fits-requires
     sub-all-zero
     part-all-zero-start
     part-all-zero-end

@@ -1,3 +1,4 @@
+use native.Mathlib.Omega.{arith}
 use Rattle.half_content.specs.Content.{offset, size, widths, sumFirst}
 use Rattle.half_reading.proofs.Read.{set-law}
 use borrow.Author.Needs.{needs}
@@ -102,9 +103,34 @@ key-in-requires : tie.Need-key-in-requires
 unfolding size widths sumFirst
 key-in-requires c κs = search needs
 
+width-at-requires : tie.Need-width-at-requires
+width-at-requires c κs = search needs
+
+load-requires-3 : tie.Need-load-requires-3
+unfolding size offset widths sumFirst
+load-requires-3 c κs = search needs
+
+mark-at-requires : tie.Need-mark-at-requires
+mark-at-requires c κs = search needs
+
+byte-requires : tie.Need-byte-requires
+unfolding size offset widths sumFirst
+byte-requires c κs =
+    let at-key = c .before .before .before in
+    let at-r = at-key .before .before .before in
+    let at-y = at-r .before .before .before in
+    let at-mask = at-y .before .before .before .before in
+    let at-seed-at = at-mask .before .before .before in
+    let at-terms = at-seed-at .before .before .before .before in
+    omega (arith, c .mark-at .ensures, at-terms .terms-in .ensures .1, at-terms .before .before .pre .1)
+
 returns : tie.Need-returns
 returns c =
-    let at-seed = c .before in
+    let at-mark-at = c .before in
+    let at-width = at-mark-at .before in
+    let at-width-at = at-width .before in
+    let at-key = at-width-at .before in
+    let at-seed = at-key .before in
     let at-r = at-seed .before .before in
     let at-r-at = at-r .before in
     let at-c = at-r-at .before in
@@ -119,12 +145,13 @@ returns c =
     let at-terms = at-x-at .before in
     let start = at-terms .before .before in
     set-law (start .args .number) (start .args .b .now) (at-terms .terms-in .result) (at-terms .terms-in .ensures .0)
-    _ _ _ _ _ _
+    _ _ _ _ _ _ _ _
     (at-x-at .x-at .ensures) (at-y-at .y-at .ensures) (at-c-at .c-at .ensures) (at-r-at .r-at .ensures)
-    (at-seed-at .seed-at .ensures) (at-corrections-at .corrections-at .ensures) _ _ _ _ _ _ _
+    (at-seed-at .seed-at .ensures) (at-corrections-at .corrections-at .ensures) (at-width-at .width-at .ensures)
+    (at-mark-at .mark-at .ensures) _ _ _ _ _ _ _ _ _
     (at-mask .vector .ensures) (at-x .vector2 .ensures) (at-y .vector3 .ensures) (at-c .load .ensures)
     (at-r .load2 .ensures)
-    (at-seed .seed-in .ensures) (c .key-in .ensures)
+    (at-seed .seed-in .ensures) (at-key .key-in .ensures) (at-width .load3 .ensures) (c .byte .ensures .0)
 
 pub read-set-spec : {M : Type 1} → statement M
 read-set-spec =
@@ -156,4 +183,8 @@ read-set-spec =
     part-seed-in-end
     seed-in-requires
     key-in-requires
+    width-at-requires
+    load-requires-3
+    mark-at-requires
+    byte-requires
     returns)

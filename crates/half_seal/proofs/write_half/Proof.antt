@@ -1,6 +1,6 @@
 use native.Mathlib.Omega.{arith}
 use Rattle.measure_table.specs.Laws.{length-fits}
-use Rattle.half_content.specs.Laws.{few-blocks, code-byte, flag-bytes}
+use Rattle.half_content.specs.Laws.{few-blocks, code-byte, flag-bytes, mark-byte}
 use Rattle.half_seal.proofs.Laws.{half-law}
 use borrow.Author.Needs.{needs}
 use Rattle.half_seal.proofs.write_half.Statement.{statement}
@@ -15,8 +15,10 @@ lay-out-requires : tie.Need-lay-out-requires
 lay-out-requires c κs =
     let start = c .before .before in
     let s = start .args .s in
-    let proper = start .pre .1 in
-    ((start .pre .0 .0, code-byte s proper, length-fits (s .terms) (proper .length-fits) .1), flag-bytes s proper)
+    let proper = start .pre .1 in (
+      (start .pre .0 .0, code-byte s proper, length-fits (s .terms) (proper .length-fits) .1),
+      (flag-bytes s proper, mark-byte s proper),
+    )
 
 slice-aggregate-write-blocks : tie.Need-slice-aggregate-write-blocks
 slice-aggregate-write-blocks c = search needs

@@ -1,5 +1,7 @@
+use mathlib.Core.Path.{_∙_, sym, ap}
+use Rattle.measure_table.specs.Measure.{signWord}
+use Rattle.measure_table.proofs.Rows.{ordinary-sign, marked-word}
 use borrow.Author.Needs.{needs}
-use Rattle.measure_table.specs.Measure.{sign, signWord}
 use Rattle.measure_table.proofs.sign.Statement.{statement}
 use Rattle.measure_table.proofs.sign.Tie as tie
 
@@ -7,8 +9,10 @@ row-of-requires : tie.Need-row-of-requires
 row-of-requires c κs = search needs
 
 returns : tie.Need-returns
-unfolding signWord sign
-returns c = c .row-of .ensures .7
+returns c = ordinary-sign _ _ _ (c .if1 .taken) (c .before .row-of .ensures .7)
+
+returns-2 : tie.Need-returns-2
+returns-2 c = marked-word _ _ (c .if1 .left)
 
 pub sign-spec : {M : Type 1} → statement M
-sign-spec = tie.close (tie.spec row-of-requires returns)
+sign-spec = tie.close (tie.spec row-of-requires returns returns-2)

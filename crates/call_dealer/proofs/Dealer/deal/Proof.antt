@@ -12,7 +12,7 @@ returns : tie.Need-returns
 returns c =
     let at-why = c .before in
     let a = at-why .before .before .before .before .args in
-    let d = dealFrom (a .number) (a .seed .now) (a .terms) (a .t) in
+    let d = dealFrom (a .number) (a .seed .now) (a .terms) (a .rule) in
     let why = at-why .why-not-deal .ensures (a .self) (a .seed .now) refl refl in
     deal-refused (a .self) d (a .out0 .now) (a .out1 .now) _ why (c .if1 .taken)
 
@@ -37,7 +37,7 @@ returns-2 c =
     let at-if1 = at-write .before .before .before in
     let at-why-not-deal = at-if1 .before in
     let a = at-why-not-deal .before .before .before .before .args in
-    let d = dealFrom (a .number) (a .seed .now) (a .terms) (a .t) in
+    let d = dealFrom (a .number) (a .seed .now) (a .terms) (a .rule) in
     let why = at-why-not-deal .why-not-deal .ensures (a .self) (a .seed .now) refl refl in
     let written = at-write .write-halves .ensures in
     dealt (a .self) d (a .out0 .now) (a .out1 .now) _ why _ _ (at-if1 .if1 .left) (written .0) (written .1)
