@@ -1,18 +1,24 @@
 -- Demand 3, whole: no wrong report, no reuse, always answered, never stuck, can be ended, can be dropped, not empty,
 -- and what the verdict is. Assumes nothing.
-use mathlib.Core.Path.{_≡_, sym, ap, subst}
+use mathlib.Core.Path.{_≡_, refl, sym, ap, subst, _∙_}
 use mathlib.Core.Bool.{Bool, true, cond}
 use mathlib.Core.List.{List, [], _∷_}
-use Prim.Native.Nat.{ℕ, _<_}
+use Prim.Native.Nat.{ℕ, zero, suc, _<_, _≤_}
+use native.Mathlib.Omega.{arith}
 use borrow.Author.Tests.{lt-ltb}
 use Rattle.measure_table.specs.declared.Terms.{Terms}
-use Rattle.measure_table.specs.Measure.{isCode}
+use lib.IntN.{ℤ}
+use Rattle.base_algebra.specs.Word.{signed}
+use Rattle.measure_table.specs.declared.Rule.{Rule}
+use Rattle.measure_table.specs.declared.Rule.the-variants.{Threshold, Between}
+use Rattle.measure_table.specs.Measure.{ordinaryMark, isCode, measure, meets, within}
 use Rattle.measure_table.specs.Laws.{any-length, scalar-sign, distance-sign, reached-plain, reached-close}
 use Rattle.half_deal.specs.Dealing.{Deal}
 use Rattle.door_lists.specs.Lists.{Box, Starts, Started, beginning, Call, camera, office, joined, after, events}
 use Rattle.door_lists.specs.Lists.{history, Admissible}
 use Rattle.door_lists.specs.Demand.{nothingMade, Answered, Free, NoWrongReport, NoReuse, AlwaysAnswered}
-use Rattle.door_lists.specs.Demand.{NeverStuck, CanEnd, CanDrop, NotEmpty, VerdictIs, Demand3}
+use Rattle.door_lists.specs.Demand.{verdict, NeverStuck, CanEnd, CanDrop, Example, OfMark, NotEmpty, VerdictIs}
+use Rattle.door_lists.specs.Demand.{Demand3}
 use Rattle.door_lists.proofs.Once.{single}
 use Rattle.door_lists.proofs.History.{look, in-deals, in-vectors}
 use Rattle.door_lists.proofs.Invariant.{Inv, starts, door-long}
@@ -21,7 +27,7 @@ use Rattle.door_lists.proofs.Runs.{At, ready, run-goes, answered}
 use Rattle.door_lists.proofs.Stuck.{never}
 use Rattle.door_lists.proofs.Ends.{ended}
 use Rattle.door_lists.proofs.Drops.{dropped-then}
-use Rattle.door_lists.proofs.NotEmpty.{sample-1, sample-0, example, some-starts}
+use Rattle.door_lists.proofs.NotEmpty.{Sample, sample-any, sample-of, example, some-starts}
 
 pub always : (s : Starts) → Started s → (cs : List Call) → Admissible s cs
     → Inv s (history s cs) (after (beginning s) cs)
@@ -85,22 +91,35 @@ not-empty : NotEmpty
 unfolding NotEmpty
 not-empty = (
   λ s f cs a n terms small c some most F.
-      let fits = any-length terms some most in (
-        example n terms small (coded terms c) fits 1 (sample-1 terms) can-end s f cs a F,
-        example n terms small (coded terms c) fits 0 (sample-0 terms some) can-end s f cs a F,
+      let run : (rule : Rule) (bit : ℕ) → Sample terms rule bit → Example s cs n terms rule bit =
+      λ rule bit p.
+      example n terms small (coded terms c) (any-length terms some most) rule bit p can-end s f cs a F in
+      let of-mark : (mark bit : ℕ) → mark ≤ 1 → bit ≤ 1 → OfMark s cs n terms mark bit =
+      λ mark bit h k. let (rule, is, p) = sample-of terms some mark bit h k in (rule, is, run rule bit p) in (
+        λ mark h. (of-mark mark 1 h (omega arith), of-mark mark 0 h (omega arith)),
+        λ rule fits ordered. (_, run rule _ (sample-any terms rule fits ordered)),
       ),
   some-starts,
 )
 
 verdict-is : VerdictIs
-unfolding VerdictIs
+unfolding VerdictIs meets within
 verdict-is d x y = (
-  λ e. ap bit (reached-plain (d .terms) (scalar-sign (d .terms) e) _ _),
-  λ h. ap bit (reached-close (d .terms) (distance-sign (d .terms) h) _ _),
+  λ t is. (
+    λ e. by-rule (Threshold t) is ∙ ap bit (reached-plain (d .terms) (scalar-sign (d .terms) ordinaryMark e) m (signed t)),
+    λ h. by-rule (Threshold t) is ∙ ap bit (reached-close (d .terms) (distance-sign (d .terms) h) m (signed t)),
+  ),
+  λ p q is. by-rule (Between p q) is,
 )
   where
     bit : Bool → ℕ
     bit b = cond b 1 0
+
+    m : ℤ
+    m = measure (d .terms) x y
+
+    by-rule : (rule : Rule) → d .rule ≡ rule → verdict d x y ≡ bit (meets (d .terms) rule m)
+    by-rule rule is = ap (λ (r : Rule). bit (meets (d .terms) r m)) is
 
 pub demand-3 : Demand3
 unfolding Demand3

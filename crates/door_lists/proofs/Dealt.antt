@@ -10,7 +10,7 @@ use Rattle.base_algebra.specs.Word.{add}
 use Rattle.base_algebra.specs.Bit.{only}
 use Rattle.base_words.specs.List.{length-tab}
 use Rattle.measure_table.specs.declared.Terms.{Terms}
-use Rattle.measure_table.specs.Measure.{isCode, lengthFits, allInRange, thresholdFits, ownWord, carried}
+use Rattle.measure_table.specs.Measure.{isCode, lengthFits, allInRange, ruleFits, inOrder, ownWord, carried}
 use Rattle.share_vectors.specs.Share.{plus, answer, share}
 use Rattle.share_vectors.specs.Share as Share
 use Rattle.half_content.specs.declared.Set.{Set}
@@ -42,10 +42,11 @@ pub record Sound (d : Deal) : Type 0 where
   pub number-fits : d .number < 2 ^ 64
   pub code-fits : isCode (d .terms .code) ≡ true
   pub length-fits : lengthFits (d .terms) ≡ true
-  pub threshold-fits : thresholdFits (d .terms) (d .t) ≡ true
+  pub rule-fits : ruleFits (d .terms) (d .rule) ≡ true
+  pub in-order : inOrder (d .rule) ≡ true
 
 pub set-proper : (d : Deal) (b : Box) → Sound d → Proper (setOf d b)
-set-proper d b k = proper d (partyOf b) (k .number-fits) (k .code-fits) (k .length-fits) (party-fits b)
+set-proper d b k = proper d (partyOf b) (k .number-fits) (k .code-fits) (k .length-fits) (k .in-order) (party-fits b)
 
 -- a box's masked vector and own
 abbrev pub maskOf : Deal → Box → List ℕ → List ℕ
@@ -79,18 +80,18 @@ module _ (d : Deal) (v : Box → List ℕ) where
   abbrev plain : Box → ℕ
   plain b =
       let s : Set = setOf d b in
-      Share.boxWord (d .terms) (share (partyOf b) (d .terms .n) (s .c) (m camera) (m office) (s .x) (s .y))
+      Share.boxWord (d .terms) (s .mark) (share (partyOf b) (d .terms .n) (s .c) (m camera) (m office) (s .x) (s .y))
       (ownWord (d .terms) (v b)) (s .r)
 
   word-is : (b : Box) → wordBy d v b ≡ plain b
   unfolding wordOf boxShare
   word-is camera =
       rw (mask-is camera, mask-is office, set-terms d camera)
-      (ap (λ (k : ℕ). Share.boxWord (d .terms) k (ownWord (d .terms) (v camera)) (setOf d camera .r))
+      (ap (λ (k : ℕ). Share.boxWord (d .terms) (setOf d camera .mark) k (ownWord (d .terms) (v camera)) (setOf d camera .r))
       (share-fill-x 0 (d .terms .n) _ (m camera) (m office) _ _))
   word-is office =
       rw (mask-is camera, mask-is office, set-terms d office)
-      (ap (λ (k : ℕ). Share.boxWord (d .terms) k (ownWord (d .terms) (v office)) (setOf d office .r))
+      (ap (λ (k : ℕ). Share.boxWord (d .terms) (setOf d office .mark) k (ownWord (d .terms) (v office)) (setOf d office .r))
       (share-fill-y 1 (d .terms .n) _ (m camera) (m office) _ _))
 
   swap : (a b : ℕ) → add a b ≡ add b a
@@ -107,4 +108,5 @@ module _ (d : Deal) (v : Box → List ℕ) where
   unfolding answerOf
   answers-join k r =
       rw (word-is camera, word-is office, swap (plain office) (plain camera))
-      (dealt-join d (v camera) (v office) (k .length-fits) (r camera) (r office) (k .threshold-fits) ∙ as-bit _)
+      (dealt-join d (v camera) (v office) (k .length-fits) (r camera) (r office) (k .rule-fits) (k .in-order)
+      ∙ as-bit _)

@@ -10,7 +10,7 @@ use lib.Dec.{eqb}
 use lib.ListN.{length}
 use Rattle.base_algebra.specs.Word.{add}
 use Rattle.base_words.specs.List.{same-refl}
-use Rattle.measure_table.specs.Measure.{isCode, lengthFits, allInRange, thresholdFits}
+use Rattle.measure_table.specs.Measure.{isCode, lengthFits, allInRange, ruleFits, inOrder}
 use Rattle.measure_table.specs.Laws.{length-fits}
 use Rattle.base_messages.specs.declared.Label.{Label}
 use Rattle.base_messages.specs.Messages.{isKey, unless, isName, expected}
@@ -34,10 +34,11 @@ use Rattle.door_lists.proofs.Accepted.{Heard}
 
 pub deal-goes : (s : Dealer) (d : Deal) (room0 room1 : ℕ) → isCode (d .terms .code) ≡ true → length (d .seed) ≡ 32
     → lengthFits (d .terms) ≡ true → halfSize (d .terms .n) ≤ room0
-    → halfSize (d .terms .n) ≤ room1 → s .last < d .number → thresholdFits (d .terms) (d .t) ≡ true
+    → halfSize (d .terms .n) ≤ room1 → s .last < d .number → ruleFits (d .terms) (d .rule) ≡ true
+    → inOrder (d .rule) ≡ true
     → whyNotDeal s d room0 room1 ≡ 0
 unfolding whyNotDeal isKey unless
-deal-goes s d room0 room1 code seed long room-0 room-1 above threshold =
+deal-goes s d room0 room1 code seed long room-0 room-1 above rule ordered =
     rw (
       code,
       eq-eqb (length (d .seed)) 32 seed,
@@ -45,7 +46,8 @@ deal-goes s d room0 room1 code seed long room-0 room-1 above threshold =
       le-leb (halfSize (d .terms .n)) room0 room-0,
       le-leb (halfSize (d .terms .n)) room1 room-1,
       lt-ltb (s .last) (d .number) above,
-      threshold,
+      rule,
+      ordered,
     )
     refl
 

@@ -105,7 +105,8 @@ module _ (S : Starts) (h : List Event) (w : World) (I : Inv S h w) where
             number-fits = fits;
             code-fits = tells .code-fits;
             length-fits = tells .length-fits;
-            threshold-fits = tells .threshold-fits;
+            rule-fits = tells .rule-fits;
+            in-order = tells .in-order;
           } in
           let above : lastDealt (S .dealerFloor) h < d .number =
           subst (λ s. s .last < d .number) (I .dealer-is) (tells .above) in

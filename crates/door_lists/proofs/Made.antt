@@ -6,7 +6,7 @@ use Prim.Native.Nat.{ℕ, zero, suc, _<_, _≤_}
 use native.Mathlib.Omega.{arith}
 use lib.ListN.{length}
 use Rattle.base_algebra.specs.Word.{add, signed}
-use Rattle.measure_table.specs.Measure.{measure, reached}
+use Rattle.measure_table.specs.Measure.{measure, meets}
 use Rattle.share_vectors.specs.Share as Share
 use Rattle.half_content.specs.declared.Set.{Set}
 use Rattle.half_content.specs.Content.{fill, noSet}
@@ -78,7 +78,8 @@ module _ (S : Starts) (d : Deal) (v : Box → List ℕ) where
       number-fits = R .number-fits;
       code-fits = R .code-fits;
       length-fits = R .length-fits;
-      threshold-fits = R .threshold-fits;
+      rule-fits = R .rule-fits;
+      in-order = R .in-order;
     }
 
     -- ---- each call, at the state that the run gives it
@@ -218,7 +219,7 @@ module _ (S : Starts) (d : Deal) (v : Box → List ℕ) where
     unfolding DealerCalls.deal
     deal-made s last e l out0 out1 r0 r1 =
         let k = deal-goes s d (length out0) (length out1) (R .code-fits)
-        (R .seed-long) (R .length-fits) r0 r1 (rw e l) (R .threshold-fits) in
+        (R .seed-long) (R .length-fits) r0 r1 (rw e l) (R .rule-fits) (R .in-order) in
         (k, new _ _ _ k ∙ ap (dealtBy S d) e, ap (dealt d) (fun-ext (wrote S long s last e d sound out0 out1 k)))
 
     pub join-made : (s : Lock) (last : ℕ) → s ≡ lockWith S last → last < d .number
@@ -240,7 +241,7 @@ module _ (S : Starts) (d : Deal) (v : Box → List ℕ) where
           name-is = y .1 ∙ sym name;
         } in
         let bit : add (m .content) (n .content) ≤ 1 =
-        rw sum (bit-le (reached (d .terms) (measure (d .terms) (v camera) (v office)) (signed (d .t)))) in
+        rw sum (bit-le (meets (d .terms) (d .rule) (measure (d .terms) (v camera) (v office)))) in
         let k = join-goes s (m .label) (m .name) (m .content) (n .label) (n .name)
         (n .content) (rw name long) (at camera m a) (at office n b) (rw (e, number) l) bit in
         (k, new _ _ _ k ∙ ap₂ (λ x y. record { name = x; last = y }) name number, ap₂ joined number (new _ _ _ k ∙ sum))

@@ -1,6 +1,7 @@
--- The claims are not empty: at every measure and length both reports can be had, and there are accepted starts.
+-- The claims are not empty: at every measure and length both reports can be had, by a threshold and between two marks,
+-- every rule has a run, and there are accepted starts.
 -- Assumes nothing.
-use mathlib.Core.Path.{_≡_, refl, ap, ap₂, _∙_}
+use mathlib.Core.Path.{_≡_, refl, ap, ap₂, _∙_, subst}
 use mathlib.Core.Bool.{true, cond, _&&_}
 use mathlib.Core.List.{List, [], _∷_}
 use Prim.Native.Nat.{ℕ, zero, suc, _^_, _<_, _≤_}
@@ -11,8 +12,11 @@ use Rattle.base_algebra.specs.Integer.{ringℤ, reifyℤ}
 use Rattle.base_algebra.specs.Word.{signed}
 use Rattle.base_algebra.specs.Sum.{sumℤ}
 use Rattle.measure_table.specs.Measure.{row, scalarProduct, squaredEuclid, hamming, element, measure, reached}
-use Rattle.measure_table.specs.Measure.{isCode, lengthFits, within, inRange, allInRange, thresholdFits}
+use Rattle.measure_table.specs.Measure.{ordinaryMark, isCode, lengthFits, within, inRange, allInRange, thresholdFits}
+use Rattle.measure_table.specs.Measure.{meets, ruleFits, inOrder, markOf}
 use Rattle.measure_table.specs.declared.Terms.{Terms}
+use Rattle.measure_table.specs.declared.Rule.{Rule}
+use Rattle.measure_table.specs.declared.Rule.the-variants.{Threshold, Between}
 use Rattle.measure_table.specs.Laws.{scalar-sign, distance-sign, reached-plain, reached-close, reached-equal}
 use Rattle.measure_table.specs.Measure as Measure
 use Rattle.base_words.specs.List.{same}
@@ -109,11 +113,11 @@ far-measure (suc (suc code)) l = far-distance l
 bit-fits : (code n : ℕ)
     → (let terms : Terms = record { code = code; n = n } in
     (inRange terms 0 ≡ true) × (inRange terms 1 ≡ true)
-    × (thresholdFits terms 0 ≡ true) × (thresholdFits terms (beyond code) ≡ true))
+    × (thresholdFits terms 0 ≡ true) × (thresholdFits terms (beyond code) ≡ true) × (thresholdFits terms 1 ≡ true))
 unfolding inRange thresholdFits within row scalarProduct squaredEuclid hamming signed beyond
-bit-fits zero n = (refl, refl, refl, refl)
-bit-fits (suc zero) n = (refl, refl, refl, refl)
-bit-fits (suc (suc code)) n = (refl, refl, refl, refl)
+bit-fits zero n = (refl, refl, refl, refl, refl)
+bit-fits (suc zero) n = (refl, refl, refl, refl, refl)
+bit-fits (suc (suc code)) n = (refl, refl, refl, refl, refl)
 
 zeros-fit : (terms : Terms) (l : ℕ) → allInRange terms (zeros l) ≡ true
 unfolding allInRange
@@ -129,27 +133,47 @@ far-long : (l : ℕ) → length (far l) ≡ l
 far-long zero = refl
 far-long (suc l) = ap suc (length-replicate {A = ℕ} l 0)
 
--- ---- a threshold and two vectors in range of which the lock is to say this bit
+-- ---- two vectors in range of which the lock is to say this bit by this rule
 
-pub record Sample (terms : Terms) (bit : ℕ) : Type 0 where
-  pub t : ℕ
+pub record Sample (terms : Terms) (rule : Rule) (bit : ℕ) : Type 0 where
   pub v : Box → List ℕ
-  pub threshold-fits : thresholdFits terms t ≡ true
+  pub rule-fits : ruleFits terms rule ≡ true
+  pub in-order : inOrder rule ≡ true
   pub vector-long : (b : Box) → length (v b) ≡ terms .n
   pub elements-fit : (b : Box) → allInRange terms (v b) ≡ true
-  pub says : cond (reached terms (measure terms (v camera) (v office)) (signed t)) 1 0 ≡ bit
+  pub says : cond (meets terms rule (measure terms (v camera) (v office))) 1 0 ≡ bit
 
-pub sample-1 : (terms : Terms) → Sample terms 1
-unfolding signed
-sample-1 terms =
+-- vectors of zeros, by any rule
+pub sample-any : (terms : Terms) (rule : Rule) → ruleFits terms rule ≡ true → inOrder rule ≡ true
+    → Sample terms rule (cond (meets terms rule (pos 0)) 1 0)
+sample-any terms rule fits ordered =
     record {
-      t = 0;
       v = λ b. zeros (terms .n);
-      threshold-fits = bit-fits (terms .code) (terms .n) .2;
+      rule-fits = fits;
+      in-order = ordered;
       vector-long = λ b. length-replicate {A = ℕ} (terms .n) 0;
       elements-fit = λ b. zeros-fit terms (terms .n);
-      says = rw (no-measure (terms .code) (terms .n) (terms .n), reached-equal terms (pos 0)) refl;
+      says = rw (no-measure (terms .code) (terms .n) (terms .n)) refl;
     }
+
+sample-1 : (terms : Terms) → Sample terms (Threshold 0) 1
+unfolding signed ruleFits inOrder meets
+sample-1 terms =
+    subst (Sample terms (Threshold 0)) (rw (reached-equal terms (pos 0)) refl)
+    (sample-any terms (Threshold 0) (bit-fits (terms .code) (terms .n) .2) refl)
+
+-- a measure of 0 lies from 0 to 0, and not from 1 to 1
+between-1 : (terms : Terms) → Sample terms (Between 0 0) 1
+unfolding signed ruleFits inOrder meets within
+between-1 terms =
+    sample-any terms (Between 0 0)
+    (ap₂ _&&_ (bit-fits (terms .code) (terms .n) .2) (bit-fits (terms .code) (terms .n) .2)) refl
+
+between-0 : (terms : Terms) → Sample terms (Between 1 1) 0
+unfolding signed ruleFits inOrder meets within
+between-0 terms =
+    sample-any terms (Between 1 1)
+    (ap₂ _&&_ (bit-fits (terms .code) (terms .n) .4) (bit-fits (terms .code) (terms .n) .4)) refl
 
 far-says : (code n : ℕ) → 1 ≤ n
     → (let terms : Terms = record { code = code; n = n } in
@@ -158,7 +182,7 @@ unfolding beyond signed apart
 far-says code zero h = absurd (omega arith)
 far-says zero (suc l) h =
     let terms : Terms = record { code = 0; n = suc l } in
-    rw (far-measure 0 l, reached-plain terms (scalar-sign terms refl) (pos 0) (pos 1)) refl
+    rw (far-measure 0 l, reached-plain terms (scalar-sign terms ordinaryMark refl) (pos 0) (pos 1)) refl
 far-says (suc code) (suc l) h =
     let terms : Terms = record { code = suc code; n = suc l } in
     let distance : suc code ≡ 0 → ⊥ = λ e. absurd (omega (arith, e)) in
@@ -168,23 +192,36 @@ abbrev farAndZeros : ℕ → Box → List ℕ
 farAndZeros l camera = far l
 farAndZeros l office = zeros l
 
-pub sample-0 : (terms : Terms) → 1 ≤ terms .n → Sample terms 0
+sample-0 : (terms : Terms) → 1 ≤ terms .n → Sample terms (Threshold (beyond (terms .code))) 0
+unfolding ruleFits inOrder meets
 sample-0 terms h =
     record {
-      t = beyond (terms .code);
       v = farAndZeros (terms .n);
-      threshold-fits = bit-fits (terms .code) (terms .n) .3;
+      rule-fits = bit-fits (terms .code) (terms .n) .3;
+      in-order = refl;
       vector-long = both _ (far-long (terms .n)) (length-replicate {A = ℕ} (terms .n) 0);
       elements-fit = both _ (far-fits terms (terms .n)) (zeros-fit terms (terms .n));
       says = far-says (terms .code) (terms .n) h;
     }
 
+-- one of either mark and either bit
+pub sample-of : (terms : Terms) → 1 ≤ terms .n → (mark bit : ℕ) → mark ≤ 1 → bit ≤ 1
+    → (rule : Rule) × (markOf rule ≡ mark) × Sample terms rule bit
+unfolding markOf
+sample-of terms some zero zero h k = (_, refl, sample-0 terms some)
+sample-of terms some zero (suc zero) h k = (_, refl, sample-1 terms)
+sample-of terms some (suc zero) zero h k = (_, refl, between-0 terms)
+sample-of terms some (suc zero) (suc zero) h k = (_, refl, between-1 terms)
+sample-of terms some zero (suc (suc bit)) h k = absurd (omega (arith, k))
+sample-of terms some (suc zero) (suc (suc bit)) h k = absurd (omega (arith, k))
+sample-of terms some (suc (suc mark)) bit h k = absurd (omega (arith, h))
+
 -- ---- a run with them, under any number
 
 module _ (n : ℕ) (terms : Terms) (small : n < 2 ^ 64) (coded : isCode (terms .code) ≡ true)
-    (long : lengthFits terms ≡ true) (bit : ℕ) (p : Sample terms bit) where
+    (long : lengthFits terms ≡ true) (rule : Rule) (bit : ℕ) (p : Sample terms rule bit) where
   abbrev pub sampleDeal : Deal
-  sampleDeal = dealFrom n (replicate 32 0) terms (p .t)
+  sampleDeal = dealFrom n (replicate 32 0) terms rule
 
   pub sample-range : InRange sampleDeal (p .v)
   sample-range =
@@ -194,12 +231,13 @@ module _ (n : ℕ) (terms : Terms) (small : n < 2 ^ 64) (coded : isCode (terms .
         seed-long = refl;
         length-fits = long;
         vector-long = p .vector-long;
-        threshold-fits = p .threshold-fits;
+        rule-fits = p .rule-fits;
+        in-order = p .in-order;
         elements-fit = p .elements-fit;
       }
 
   pub example : CanEnd → (s : Starts) → Started s → (cs : List Call) → Admissible s cs → Free s (history s cs) n
-      → Example s cs n terms bit
+      → Example s cs n terms rule bit
   unfolding CanEnd
   example ends s f cs a F =
       record {
@@ -207,6 +245,7 @@ module _ (n : ℕ) (terms : Terms) (small : n < 2 ^ 64) (coded : isCode (terms .
         v = p .v;
         number-is = refl;
         terms-are = refl;
+        rule-is = refl;
         in-range = sample-range;
         ended = ends s f cs a sampleDeal (p .v) sample-range F;
         says = p .says;

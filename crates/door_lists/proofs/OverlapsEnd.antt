@@ -20,7 +20,7 @@ use Rattle.door_lists.proofs.Ends.{events-both, admitted, fitting, thir
 use Rattle.door_lists.proofs.History.{door, halfOf}
 use Rattle.door_lists.proofs.Invariant.{door-long}
 use Rattle.door_lists.proofs.Made.{said}
-use Rattle.door_lists.proofs.NotEmpty.{sample-1, sample-0, sampleDeal, sample-range}
+use Rattle.door_lists.proofs.NotEmpty.{sample-of, sampleDeal, sample-range}
 use Rattle.door_lists.proofs.Once.{in-left}
 use Rattle.door_lists.proofs.Overlaps.{At, ready, running, first-goes, second-goes, drop-goes-on}
 use Rattle.door_lists.proofs.OverlapsStuck.{never}
@@ -174,19 +174,19 @@ both-can-end s cs d e v u T = both-ended s cs d e v u T
 
 two-there-are : TwoThereAre
 unfolding TwoThereAre
-two-there-are s f cs a n m l small F p q cp sp lp cq sq lq =
+two-there-are s f cs a n m l small F p q mark mark' cp sp lp cq sq lq h h' =
     let below : n < 2 ^ 64 = omega (arith, l, small) in
-    let first = sample-1 p in
-    let second = sample-0 q sq in (
-      sampleDeal n p below (coded p cp) (any-length p sp lp) 1 first,
-      sampleDeal m q small (coded q cq) (any-length q sq lq) 0 second,
+    let (_, its-mark, first) = sample-of p sp mark 1 h (omega arith) in
+    let (_, its-mark', second) = sample-of q sq mark' 0 h' (omega arith) in (
+      sampleDeal n p below (coded p cp) (any-length p sp lp) _ 1 first,
+      sampleDeal m q small (coded q cq) (any-length q sq lq) _ 0 second,
       first .v,
       second .v,
       record {
         started = f;
         admissible = a;
-        first-in-range = sample-range n p below (coded p cp) (any-length p sp lp) 1 first;
-        second-in-range = sample-range m q small (coded q cq) (any-length q sq lq) 0 second;
+        first-in-range = sample-range n p below (coded p cp) (any-length p sp lp) _ 1 first;
+        second-in-range = sample-range m q small (coded q cq) (any-length q sq lq) _ 0 second;
         free = F;
         above = l;
       },
@@ -194,6 +194,8 @@ two-there-are s f cs a n m l small F p q cp sp lp cq sq lq =
       refl,
       refl,
       refl,
+      its-mark,
+      its-mark',
       first .says,
       second .says,
     )

@@ -2,7 +2,7 @@
 -- and one of what the verdict is. No proof stands here. Assumes nothing.
 -- [SPEC 3.6, 25.6 to 25.8, 27.1 to 27.5, 28.1 to 28.13]
 use mathlib.Core.Path.{_≡_}
-use mathlib.Core.Bool.{Bool, true, false, cond}
+use mathlib.Core.Bool.{Bool, true, false, cond, _&&_}
 use mathlib.Core.List.{List, [], _∷_, _++_, map}
 use mathlib.Core.Logic.{_⊎_}
 use Prim.Native.Nat.{ℕ, suc, _+_, _-_, _^_, _<_, _≤_}
@@ -12,7 +12,9 @@ use lib.IntN.{ℤ}
 use lib.Signed.{leZ}
 use Rattle.base_algebra.specs.Word.{signed}
 use Rattle.measure_table.specs.declared.Terms.{Terms}
-use Rattle.measure_table.specs.Measure.{measure, reached, isCode, lengthFits, allInRange, thresholdFits}
+use Rattle.measure_table.specs.declared.Rule.{Rule}
+use Rattle.measure_table.specs.declared.Rule.the-variants.{Threshold, Between}
+use Rattle.measure_table.specs.Measure.{measure, isCode, lengthFits, allInRange, meets, ruleFits, inOrder, markOf}
 use Rattle.base_messages.specs.Messages.{vectorKind, wordKind, answerKind, padded}
 use Rattle.half_deal.specs.Dealing.{Deal}
 use Rattle.call_dealer.specs.Dealer.{halfSize}
@@ -143,13 +145,13 @@ held b (e ∷ h) = without (closes b e) (held b h ++ loadsBy b e)
 
 -- ---- no wrong report, no reuse
 
--- what a lock is to say of a deal and two vectors
+-- what a lock is to say of a deal and two vectors, by the rule that was dealt
 abbrev pub verdict : Deal → List ℕ → List ℕ → ℕ
-verdict d x y = cond (reached (d .terms) (measure (d .terms) x y) (signed (d .t))) 1 0
+verdict d x y = cond (meets (d .terms) (d .rule) (measure (d .terms) x y)) 1 0
 
--- "For an accepted join under n, the list's accepted deal of n gives measure and T, X is the vector handed to the
--- camera box's accepted call 2 under n, and Y the office box's; that each is there exactly once is part of the claim"
--- [SPEC 27.3, 27.4]
+-- "For an accepted join under n, the list's accepted deal of n gives measure and T" (02, §4: or P and Q), "X is the
+-- vector handed to the camera box's accepted call 2 under n, and Y the office box's; that each is there exactly once is
+-- part of the claim" [SPEC 27.3, 27.4]
 pub record Right (h : List Event) (n bit : ℕ) : Type 0 where
   pub d : Deal
   pub x : List ℕ
@@ -243,14 +245,16 @@ Answered d v (drop b) x = ⊥
 Answered d v (join m n) x = x ≡ joined (d .number) (verdict d (v camera) (v office))
 
 -- "In range means that code, lengths, output buffers, threshold and elements are as refusals 2, 4, 5 and 8 ask" (the
--- buffers stand in `Ready`) [SPEC 28.6]
+-- buffers stand in `Ready`), and 02, §4: "The run that is always answered then needs a P and Q that 13 lets through"
+-- [SPEC 28.6]
 pub record InRange (d : Deal) (v : Box → List ℕ) : Type 0 where
   pub number-fits : d .number < 2 ^ 64
   pub code-fits : isCode (d .terms .code) ≡ true
   pub seed-long : length (d .seed) ≡ 32
   pub length-fits : lengthFits (d .terms) ≡ true
   pub vector-long : (b : Box) → length (v b) ≡ d .terms .n
-  pub threshold-fits : thresholdFits (d .terms) (d .t) ≡ true
+  pub rule-fits : ruleFits (d .terms) (d .rule) ≡ true
+  pub in-order : inOrder (d .rule) ≡ true
   pub elements-fit : (b : Box) → allInRange (d .terms) (v b) ≡ true
 
 -- neither box has a set, open or waiting, and n is above all four last numbers
@@ -312,35 +316,44 @@ CanDrop = (s : Starts) → Started s → (cs : List Call) → Admissible s cs �
 
 -- ---- not empty
 
--- after the list cs, a whole run under n on these terms, whose join says `bit`: so the hypotheses of each claim can be
--- met
-pub record Example (s : Starts) (cs : List Call) (n : ℕ) (terms : Terms) (bit : ℕ) : Type 0 where
+-- after the list cs, a whole run under n on these terms and by this rule, whose join says `bit`: so the hypotheses of
+-- each claim can be met
+pub record Example (s : Starts) (cs : List Call) (n : ℕ) (terms : Terms) (rule : Rule) (bit : ℕ) : Type 0 where
   pub d : Deal
   pub v : Box → List ℕ
   pub number-is : d .number ≡ n
   pub terms-are : d .terms ≡ terms
+  pub rule-is : d .rule ≡ rule
   pub in-range : InRange d v
   pub ended : Ended s cs d v
   pub says : verdict d (v camera) (v office) ≡ bit
 
+-- a run with some rule of this mark: 0 for a threshold, 1 for two marks
+abbrev pub OfMark : Starts → List Call → ℕ → Terms → ℕ → ℕ → Type 0
+OfMark s cs n terms mark bit = (rule : Rule) × (markOf rule ≡ mark) × Example s cs n terms rule bit
+
 -- after every admissible list that leaves no set open, under every number that is free, for every measure and length:
--- one run says 1 and one says 0; and there are accepted starts, with number 1 free
+-- by a threshold one run says 1 and one says 0, and so between two marks; and by each rule that 8 and 13 let through
+-- there is a run; and there are accepted starts, with number 1 free
 unfoldable pub NotEmpty : Type 0
 NotEmpty = ((s : Starts) → Started s → (cs : List Call) → Admissible s cs → (n : ℕ) (terms : Terms) → n < 2 ^ 64
     → terms .code < 3 → 1 ≤ terms .n → terms .n ≤ 512 → Free s (history s cs) n
-    → Example s cs n terms 1 × Example s cs n terms 0)
+    → ((mark : ℕ) → mark ≤ 1 → OfMark s cs n terms mark 1 × OfMark s cs n terms mark 0)
+    × ((rule : Rule) → ruleFits terms rule ≡ true → inOrder rule ≡ true → (bit : ℕ) × Example s cs n terms rule bit))
     × ((s : Starts) × Started s × Free s [] 1)
 
 -- ---- what the verdict is
 
--- the lock is to say 1 where the code's rule is met, and 0 everywhere else: "scalar product keeps measure ≥ T", and
--- "For squared Euclid and Hamming", the codes above 0, "the lock's 1 means measure ≤ T" [SPEC 3.6]
+-- the lock is to say 1 where the rule is met, and 0 everywhere else. By a threshold: "scalar product keeps
+-- measure ≥ T", and "For squared Euclid and Hamming", the codes above 0, "the lock's 1 means measure ≤ T"; between two
+-- marks, for every code: "The lock's 1 is now proved to mean P ≤ measure ≤ Q for such sets" [SPEC 3.6, 3.13]
 unfoldable pub VerdictIs : Type 0
 VerdictIs = (d : Deal) (x y : List ℕ)
     → (let m : ℤ = measure (d .terms) x y in
-    let t : ℤ = signed (d .t) in
-    (d .terms .code ≡ 0 → verdict d x y ≡ cond (leZ t m) 1 0)
-    × ((d .terms .code ≡ 0 → ⊥) → verdict d x y ≡ cond (leZ m t) 1 0))
+    ((t : ℕ) → d .rule ≡ Threshold t
+    → (d .terms .code ≡ 0 → verdict d x y ≡ cond (leZ (signed t) m) 1 0)
+    × ((d .terms .code ≡ 0 → ⊥) → verdict d x y ≡ cond (leZ m (signed t)) 1 0))
+    × ((p q : ℕ) → d .rule ≡ Between p q → verdict d x y ≡ cond (leZ (signed p) m && leZ m (signed q)) 1 0))
 
 -- ---- demand 3, whole
 

@@ -8,6 +8,7 @@ use mathlib.Core.List.{List, [], _∷_, _++_}
 use mathlib.Core.Logic.{_⊎_}
 use Prim.Native.Nat.{ℕ, _^_, _<_, _≤_}
 use Rattle.measure_table.specs.declared.Terms.{Terms}
+use Rattle.measure_table.specs.Measure.{markOf}
 use Rattle.base_messages.specs.Messages.{padded}
 use Rattle.half_deal.specs.Dealing.{Deal}
 use Rattle.door_lists.specs.Lists.{Box, camera, office, other, put, World, Starts, Started, beginning, Call, deal}
@@ -136,13 +137,16 @@ BothCanEnd = (s : Starts) (cs : List Call) (d e : Deal) (v u : Box → List ℕ)
     → BothEnded s cs d e v u
 
 -- there are two such checks: after every admissible list that leaves no set open, under every two numbers that are
--- free, for every two measures and lengths, one that says 1 and one that says 0 [SPEC 28.16]
+-- free, for every two measures and lengths, each by a threshold or between two marks (mark 0 or 1), one that says 1 and
+-- one that says 0 [SPEC 28.16]
 unfoldable pub TwoThereAre : Type 0
 TwoThereAre = (s : Starts) → Started s → (cs : List Call) → Admissible s cs → (n m : ℕ) → n < m → m < 2 ^ 64
-    → Free s (history s cs) n → (first second : Terms)
+    → Free s (history s cs) n → (first second : Terms) (mark mark' : ℕ)
     → first .code < 3 → 1 ≤ first .n → first .n ≤ 512 → second .code < 3 → 1 ≤ second .n → second .n ≤ 512
+    → mark ≤ 1 → mark' ≤ 1
     → (d : Deal) × (e : Deal) × (v : Box → List ℕ) × (u : Box → List ℕ) × Two s cs d e v u
     × (d .number ≡ n) × (e .number ≡ m) × (d .terms ≡ first) × (e .terms ≡ second)
+    × (markOf (d .rule) ≡ mark) × (markOf (e .rule) ≡ mark')
     × (verdict d (v camera) (v office) ≡ 1) × (verdict e (u camera) (u office) ≡ 0)
 
 -- the promise that load ahead is for, whole
