@@ -1,5 +1,6 @@
 //! A box and its calls: 01, "One check at a box" and "When a call is turned down", and 02,
-//! "Load ahead".
+//! "Load ahead". Width and mark of a state are what its set brought, or what the host put
+//! there: no call tests them.
 
 use crate::content::Name;
 use crate::measure::MAX_LENGTH;
@@ -221,6 +222,8 @@ pub mod tests {
     use crate::measure::Measure;
     use crate::message::ANSWER;
     use crate::refusal;
+    use crate::rule::Rule::{self, Between, Threshold};
+    use crate::rule::{MARKED, MAX_WIDTH, ORDINARY};
     use crate::sample::Source;
     use crate::share;
 
@@ -233,12 +236,12 @@ pub mod tests {
     }
 
     /// The halves of a set under this number.
-    pub fn dealt_as(number: u64, measure: Measure, length: usize, threshold: i32) -> [Vec<u8>; 2] {
+    pub fn dealt_as(number: u64, measure: Measure, length: usize, rule: Rule) -> [Vec<u8>; 2] {
         let mut dealer = Dealer::start(b"Hut 4", 10, [&KEYS[0], &KEYS[1]]).unwrap();
         let order = Order {
             code: measure.code().into(),
             length: length as u64,
-            threshold: threshold as u32,
+            rule,
             number,
             seed: &[length as u8; 32],
         };
@@ -249,8 +252,8 @@ pub mod tests {
         halves
     }
 
-    fn dealt(measure: Measure, length: usize, threshold: i32) -> [Vec<u8>; 2] {
-        dealt_as(NUMBER, measure, length, threshold)
+    fn dealt(measure: Measure, length: usize, rule: Rule) -> [Vec<u8>; 2] {
+        dealt_as(NUMBER, measure, length, rule)
     }
 
     fn words(vector: &[i32]) -> Vec<u32> {
@@ -267,8 +270,8 @@ pub mod tests {
     }
 
     /// One check from the deal to the join, with what each box answers on the way.
-    fn door(measure: Measure, threshold: i32, x: &[i32], y: &[i32]) -> share::Run {
-        let halves = dealt(measure, x.len(), threshold);
+    fn door(measure: Measure, rule: Rule, x: &[i32], y: &[i32]) -> share::Run {
+        let halves = dealt(measure, x.len(), rule);
         let mut boxes = [started(0), started(1)];
         let mut masked = [vec![0; x.len()], vec![0; x.len()]];
         for (party, vector) in [(0, x), (1, y)] {
@@ -309,12 +312,32 @@ pub mod tests {
                 let value = measure.of(&x, &y) as i32;
                 for threshold in value - 1..=value + 1 {
                     if measure.thresholds().contains(&threshold) {
-                        let joined = door(measure, threshold, &x, &y).joined;
+                        let joined = door(measure, Threshold(threshold), &x, &y).joined;
                         let reached = match measure {
                             Measure::Scalar => value >= threshold,
                             Measure::Euclid | Measure::Hamming => value <= threshold,
                         };
                         assert_eq!(joined, u32::from(reached));
+                    }
+                }
+            }
+        }
+    }
+
+    /// 02, "Between two marks", from the deal to the join.
+    #[test]
+    fn the_lock_says_whether_the_measure_lies_between_the_marks() {
+        let mut source = Source(350);
+        for measure in Measure::ALL {
+            for length in [3, 17, 57] {
+                let x = source.vector(measure, length);
+                let y = source.vector(measure, length);
+                let value = measure.of(&x, &y) as i32;
+                for (p, q, bit) in [(1, 2, 0), (0, 2, 1), (0, 0, 1), (-1, 0, 1), (-2, -1, 0)] {
+                    let rule = Between(value + p, value + q);
+                    if rule.is_in_range(measure) {
+                        let joined = door(measure, rule, &x, &y).joined;
+                        assert_eq!(joined, bit, "{measure:?} {rule}");
                     }
                 }
             }
@@ -327,12 +350,14 @@ pub mod tests {
         let mut source = Source(400);
         for measure in Measure::ALL {
             let (x, y) = (source.vector(measure, 20), source.vector(measure, 20));
-            let halves = crate::dealing::deal(measure, 20, 7, &[20; 32]);
-            let expected = share::run(&halves, &x, &y);
-            let run = door(measure, 7, &x, &y);
-            assert_eq!(run.masked, expected.masked);
-            assert_eq!(run.words, expected.words);
-            assert_eq!(run.answers, expected.answers);
+            for rule in [Threshold(7), Between(7, 11)] {
+                let halves = crate::dealing::deal(measure, 20, rule, &[20; 32]);
+                let expected = share::run(&halves, &x, &y);
+                let run = door(measure, rule, &x, &y);
+                assert_eq!(run.masked, expected.masked);
+                assert_eq!(run.words, expected.words);
+                assert_eq!(run.answers, expected.answers);
+            }
         }
     }
 
@@ -340,9 +365,10 @@ pub mod tests {
     #[test]
     fn the_largest_distance() {
         let (x, y) = ([-1024; MAX_LENGTH], [1023; MAX_LENGTH]);
-        assert_eq!(door(Measure::Euclid, 2_145_387_007, &x, &y).joined, 0);
-        assert_eq!(door(Measure::Euclid, 2_145_387_008, &x, &y).joined, 1);
-        assert_eq!(door(Measure::Euclid, 2_145_387_009, &x, &y).joined, 1);
+        for (threshold, bit) in [(2_145_387_007, 0), (2_145_387_008, 1), (2_145_387_009, 1)] {
+            let run = door(Measure::Euclid, Threshold(threshold), &x, &y);
+            assert_eq!(run.joined, bit);
+        }
     }
 
     #[test]
@@ -360,7 +386,7 @@ pub mod tests {
 
     /// A box of party 0 at each phase of a check of length 2, in the order of phases.
     pub fn phases() -> [Party; 4] {
-        let [half, _] = dealt(Measure::Scalar, 2, 0);
+        let [half, _] = dealt(Measure::Scalar, 2, Threshold(0));
         let idle = started(0);
         let mut loaded = idle.clone();
         loaded.load(&half).unwrap();
@@ -374,7 +400,7 @@ pub mod tests {
     /// The refusals of load, mask, take, finish and drop, each with what its own phase
     /// takes. The half is not that of the open set.
     pub fn all_calls(state: &Party) -> [u32; 5] {
-        let [half, _] = dealt_as(NUMBER + 5, Measure::Euclid, 3, 0);
+        let [half, _] = dealt_as(NUMBER + 5, Measure::Euclid, 3, Threshold(0));
         let on = |call: &dyn Fn(&mut Party) -> u32| {
             let mut copy = state.clone();
             let number = call(&mut copy);
@@ -422,6 +448,64 @@ pub mod tests {
         }
     }
 
+    /// Width and mark come with the load and are not tested: calls go on with what a host has
+    /// put there.
+    #[test]
+    fn widths_and_marks_of_a_state_are_not_tested() {
+        let turns = [
+            [0, 3, 3, 3, 3],
+            [0, 0, 3, 3, 0],
+            [0, 3, 0, 3, 0],
+            [0, 3, 3, 0, 0],
+        ];
+        for (state, calls) in phases().into_iter().zip(turns) {
+            let carried = match state.phase {
+                IDLE => (0, ORDINARY),
+                _ => (MAX_WIDTH, ORDINARY),
+            };
+            assert_eq!((state.set.width, state.set.mark), carried);
+            for width in [0, 1, MAX_WIDTH, MAX_WIDTH + 1, u32::MAX] {
+                for mark in [0, 1, 2, 256, u32::MAX] {
+                    let mut put = state.clone();
+                    (put.set.width, put.set.mark) = (width, mark);
+                    assert_eq!(all_calls(&put), calls);
+                    (put.waiting.width, put.waiting.mark) = (width, mark);
+                    assert_eq!(all_calls(&put), calls);
+                }
+            }
+        }
+    }
+
+    /// The word has the sign of the mark that stands in the state, and the answer its width.
+    #[test]
+    fn calls_3_and_4_follow_the_state() {
+        let [_, half] = dealt(Measure::Hamming, 2, Threshold(1));
+        let word = |mark: u32| {
+            let mut state = started(1);
+            state.load(&half).unwrap();
+            state.set.mark = mark;
+            state.mask(&[1, 0], &mut [0; 2]).unwrap();
+            let word = state.take(&label(MASKED_VECTOR, 0), &[5, 6]).unwrap();
+            (word.wrapping_sub(state.set.r), state)
+        };
+        let (ordinary, state) = word(ORDINARY);
+        for mark in [MARKED, 2, u32::MAX] {
+            assert_eq!(word(mark).0, ordinary.wrapping_neg(), "{mark}");
+        }
+        for (width, z) in [(0, 0), (5, 5), (5, 6), (u32::MAX, 0), (1 << 31, 1 << 31)] {
+            let mut state = state.clone();
+            state.set.width = width;
+            let set = state.set.half(1);
+            let value = |u: u32| set.key.value(1, &set.seed, u);
+            let other = z - state.check.word as i64;
+            let answer = state.finish(&label(WORD, 0), other as u32).unwrap();
+            let count = width.wrapping_add(1);
+            let added = u32::from((z as u32) < count);
+            let values = value((z as u32).wrapping_sub(count)).wrapping_sub(value(z as u32));
+            assert_eq!(answer, values.wrapping_add(added), "{width} {z}");
+        }
+    }
+
     #[test]
     fn a_set_leaves_nothing_but_its_number() {
         let [idle, loaded, masked, spoken] = phases();
@@ -434,13 +518,13 @@ pub mod tests {
         let mut answered = spoken;
         answered.finish(&label(WORD, 1), 7).unwrap();
         assert_eq!(answered, closed);
-        let [half, _] = dealt(Measure::Scalar, 2, 0);
+        let [half, _] = dealt(Measure::Scalar, 2, Threshold(0));
         assert_eq!(closed.load(&half), Err(Refusal::Number));
     }
 
     #[test]
     fn loads_are_refused_in_order() {
-        let [half, _] = dealt(Measure::Scalar, 2, 0);
+        let [half, _] = dealt(Measure::Scalar, 2, Threshold(0));
         let mut broken = half.clone();
         broken[100] ^= 1;
         let mut idle = started(0);

@@ -10,8 +10,9 @@
 //!
 //! - `dealer NAME KEY0 KEY1 FLOOR`, `party BOX NAME PARTY KEY FLOOR` and
 //!   `lock NAME FLOOR`: the starts.
-//! - `deal NUMBER SEED CODE L T ROOM0 ROOM1`: a deal into buffers of ROOM0 and ROOM1
-//!   bytes (at most 8,704), filled with 170 before.
+//! - `deal NUMBER SEED CODE L RULE ROOM0 ROOM1`: a deal into buffers of ROOM0 and ROOM1
+//!   bytes (at most 8,704), filled with 170 before. RULE is a threshold `T` or two marks
+//!   `P:Q`.
 //! - `load BOX FROM K BYTES AT`: a load of the first BYTES bytes of the half that the
 //!   K-th accepted deal before the newest (K from 0 to 3) wrote for FROM, followed by
 //!   its first block again; the byte AT is xored with 1 where AT is below BYTES.
@@ -32,12 +33,13 @@
 //!   may.
 //! - `waiting BOX NUMBER CODE L`: puts these numbers into the box's waiting set, as a host
 //!   may.
+//! - `width BOX WIDTH MARK`: puts these numbers into the box's open set, as a host may.
 //! - `show PART`: the tag of the state of `dealer`, `camera`, `office` or `lock`.
 //!
 //! Before the first start every state is zero. A refused call is answered by its
 //! number alone, an accepted one by `0` and then, each after a space: a deal, the tags
 //! of its two buffers; call 2, that of its buffer; call 3, the word; call 4, the
-//! answer; the join, 0 or 1. `put` and `waiting` are answered by `put`. A tag is
+//! answer; the join, 0 or 1. `put`, `waiting` and `width` are answered by `put`. A tag is
 //! Poly1305's under the key of bytes 0 to 31, of a state's bytes as in `replay_states`.
 //! A line that is none of these is answered by `bad line N`, counted from 1, and changes
 //! nothing.
@@ -50,6 +52,7 @@ use crate::message::Label;
 use crate::party::Party;
 use crate::refusal::Refusal;
 use crate::replay_states::{bytes_of, dealer_bytes, lock_bytes, party_bytes};
+use crate::rule::Rule;
 use crate::sealed::{BLOCKS, BLOCK_BYTES};
 use crate::{checks, content};
 use std::collections::VecDeque;
@@ -159,6 +162,7 @@ impl Replay {
             ("host", [name, last, fields @ ..]) => self.host(name, last, fields),
             ("put", [at, numbers @ ..]) => self.put(at, numbers),
             ("waiting", [at, numbers @ ..]) => self.put_waiting(at, numbers),
+            ("width", [at, width, mark]) => self.put_width(at, width, mark),
             ("show", [part]) => self.show(part),
             _ => None,
         }
@@ -198,7 +202,7 @@ impl Replay {
     }
 
     fn deal(&mut self, order: &[&str], rooms: [&str; 2]) -> Option<String> {
-        let [number, seed, code, length, threshold] = order else {
+        let [number, seed, code, length, rule] = order else {
             return None;
         };
         let seed = bytes(seed)?;
@@ -207,7 +211,7 @@ impl Replay {
             seed: &seed,
             code: decimal::<u32>(code)?.into(),
             length: decimal::<u32>(length)?.into(),
-            threshold: decimal(threshold)?,
+            rule: Rule::parse(rule)?,
         };
         let mut buffer0 = vec![BYTE_BEFORE; room(rooms[0], MAX_BYTES)?];
         let mut buffer1 = vec![BYTE_BEFORE; room(rooms[1], MAX_BYTES)?];
@@ -355,6 +359,13 @@ impl Replay {
         let (code, length) = (decimal(code)?, decimal(length)?);
         let waiting = &mut self.boxes[at].waiting;
         (waiting.number, waiting.code, waiting.length) = (number, code, length);
+        Some("put".to_string())
+    }
+
+    fn put_width(&mut self, at: &str, width: &str, mark: &str) -> Option<String> {
+        let (at, width, mark) = (place(at)?, decimal(width)?, decimal(mark)?);
+        let set = &mut self.boxes[at].set;
+        (set.width, set.mark) = (width, mark);
         Some("put".to_string())
     }
 

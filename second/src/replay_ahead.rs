@@ -46,7 +46,7 @@ impl Script {
     }
 
     /// Calls that are refused and leave the box's state as it was, which is then shown.
-    fn kept(&mut self, at: usize, lines: &[(String, u32)]) {
+    pub fn kept(&mut self, at: usize, lines: &[(String, u32)]) {
         let before = self.replay.boxes[at].clone();
         for (line, refusal) in lines {
             self.answered(line, refusal);

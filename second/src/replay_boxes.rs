@@ -7,6 +7,7 @@ use crate::field;
 use crate::measure::{Measure, MAX_LENGTH};
 use crate::replay::BOXES;
 use crate::replay_script::{choices, hex_words, Message, Script, NOWHERE};
+use crate::rule::Rule;
 use crate::sealed;
 
 impl Script {
@@ -140,7 +141,7 @@ impl Script {
         self.answered(format!("party camera {name} 0 {key1} 1"), 0);
         self.answered(self.load_line(0, 0), 7);
         self.answered(format!("party camera {name} 0 {key1} 0"), 0);
-        self.answered(format!("load camera office 0 1536 {NOWHERE}"), 11);
+        self.answered(format!("load camera office 0 2048 {NOWHERE}"), 11);
     }
 
     /// Halves that are sealed well, with something wrong in their content: what other boxes
@@ -149,7 +150,7 @@ impl Script {
         self.start("Hut 4", [0; 4]);
         let key = field::parse_array(&self.door.keys[0]).expect("a key");
         let name = field::parse_array(&self.door.padded).expect("a name");
-        let [half, _] = dealing::deal(Measure::Scalar, 1, 0, &[9; 32]);
+        let [half, _] = dealing::deal(Measure::Scalar, 1, Rule::Threshold(0), &[9; 32]);
         let plain = content::lay_out(&name, &half);
         // The first flag byte of L = 1, and the first byte of the fill.
         let (flags, fill) = (20 + 12 + 8 + 32 + 36, content::bytes(1));

@@ -107,7 +107,7 @@ impl Script {
             (5, 1) => deal.rooms[1] -= 1,
             (5, _) => deal.rooms = [0, 0],
             (7, _) => deal.number = [last, 0, last - 1][variant],
-            (8, _) => deal.threshold = [(1 << 30) + 1, 1 << 31, 514][variant],
+            (8, _) => deal.rule = [(1 << 30) + 1, i32::MIN, 514][variant].into(),
             _ => unreachable!("a deal has no refusal {refusal}"),
         }
     }
@@ -374,11 +374,10 @@ pub fn cases() -> Vec<Case> {
 mod tests {
     use super::*;
     use crate::replay::Replay;
-    use crate::script::MAX_LINE;
+    use crate::script::{MAX_LINE, MAX_STDIN};
     use std::collections::BTreeMap;
 
-    /// The most bytes of the script and of its answers.
-    const MAX_STDIN: usize = 524_000;
+    /// The most bytes of the answers.
     const MAX_STDOUT: usize = 120_000;
 
     #[test]

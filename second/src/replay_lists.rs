@@ -359,7 +359,7 @@ impl Script {
             0 => deal.code += 1,
             1 => deal.length += 510,
             2 => deal.rooms[0] = self.below(half_bytes(length) + 2),
-            3 => deal.threshold = self.pick(&[513, 514, 1 << 30, (1 << 30) + 1, u32::MAX]),
+            3 => deal.rule = self.pick(&[513, 514, 1 << 30, (1 << 30) + 1, -1]).into(),
             _ => {}
         }
         self.deal(&deal);

@@ -109,7 +109,7 @@ impl Script {
         };
         for check in joined {
             let bit = self.claim.joined[&check.deal.number];
-            assert_eq!(bit, u32::from(check.reached), "{}", check.deal);
+            assert_eq!(bit, u32::from(check.met), "{}", check.deal);
         }
     }
 

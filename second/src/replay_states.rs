@@ -48,7 +48,7 @@ fn set_bytes(set: &OpenedSet) -> Vec<u8> {
         bytes.extend(bytes_of(&correction.seed));
         bytes.extend(bytes_of(&[correction.word, flags]));
     }
-    bytes.extend(set.key.final_word.to_le_bytes());
+    bytes.extend(bytes_of(&[set.key.final_word, set.width, set.mark]));
     bytes
 }
 
@@ -59,7 +59,7 @@ mod tests {
 
     /// The bytes before the open set, those of a set, and those between the two.
     const HEAD: usize = 16 + 4 + 32 + 8 + 4;
-    const SET: usize = 8 + 4 + 8 + 3 * 2048 + 4 + 4 + 32 + 32 * 40 + 4;
+    const SET: usize = 8 + 4 + 8 + 3 * 2048 + 4 + 4 + 32 + 32 * 40 + 12;
     const CHECK: usize = 2048 + 8;
 
     /// Each field of a box's state has its place: 01's arrays, seeds and corrections.
