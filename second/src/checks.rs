@@ -13,9 +13,9 @@
 //! - `run CODE RULE X Y MASKS C0 R R0 SEED0 SEED1`: a whole check, from measure code
 //!   and rule, a threshold `T` or two marks `P:Q`, the vectors (L words each, L from 1
 //!   to 512), the shares x0, x1, y0, y1 of their masks (4 L words), and what else the
-//!   dealer draws. The answer is ten numbers: the first and the last word of X masked, the same of Y, word 0
-//!   and 1, Z, answer 0 and 1, and their sum. A wrong masked word in between shows
-//!   in words 0 and 1.
+//!   dealer draws. The answer is ten numbers: the first and the last word of X masked,
+//!   the same of Y, word 0 and 1, Z, answer 0 and 1, and their sum. A wrong masked word
+//!   in between shows in words 0 and 1.
 
 use crate::dcf::{self, Key, Seed};
 use crate::measure::{Measure, MAX_LENGTH};

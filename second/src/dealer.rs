@@ -91,52 +91,52 @@ mod tests {
         assert_eq!(dealer().last, 10);
     }
 
-    /// Everything wrong at first; then one thing after the other is put right, the
-    /// lowest refusal first.
-    #[test]
-    fn refusals_come_in_order_and_change_nothing() {
-        let good = Order {
+    /// Orders with everything wrong at first; then one thing after the other is put right, the
+    /// lowest refusal first. With the sizes of the buffers.
+    fn wrong_orders() -> [(Order<'static>, [usize; 2], u32); 8] {
+        let marks = Order {
             code: 2,
             length: 18,
-            rule: Threshold(513),
+            rule: Between(9, 8),
             number: 11,
             seed: &[7; 32],
         };
-        let marks = Order {
-            rule: Between(9, 8),
-            ..good
+        let range = Order {
+            rule: Between(514, 513),
+            ..marks
         };
         let number = Order {
-            rule: Between(514, 513),
-            ..good
-        };
-        let room = Order {
             number: 10,
-            ..number
+            ..range
         };
         let length = Order {
             length: 513,
-            ..room
+            ..number
         };
         let seed = Order {
             seed: &[7; 31],
-            ..room
+            ..number
         };
         let code = Order {
             code: 1 << 32,
             ..seed
         };
-        let mut dealer = dealer();
-        for (order, bytes, refusal) in [
+        [
             (code, [0, 0], 2),
             (seed, [0, 0], 4),
             (length, [0, 0], 4),
-            (room, [2048, 2047], 5),
-            (room, [2047, 2048], 5),
-            (room, [2048, 2048], 7),
-            (number, [2048, 2048], 8),
+            (number, [2048, 2047], 5),
+            (number, [2047, 2048], 5),
+            (number, [2048, 2048], 7),
+            (range, [2048, 2048], 8),
             (marks, [2048, 2048], 13),
-        ] {
+        ]
+    }
+
+    #[test]
+    fn refusals_come_in_order_and_change_nothing() {
+        let mut dealer = dealer();
+        for (order, bytes, refusal) in wrong_orders() {
             let mut buffers = [vec![9; bytes[0]], vec![9; bytes[1]]];
             let [buffer0, buffer1] = &mut buffers;
             let answer = dealer.deal(&order, [buffer0, buffer1]);

@@ -8,10 +8,10 @@
 //!
 //! HALF stands for eight fields, `PARTY CODE L RULE NUMBER SEED KEY NAME`: the half
 //! of that party, in range, of the set dealt from this seed under this number, sealed
-//! under this key. RULE is a threshold `T` or two marks `P:Q`. LAST is the last number of a box that has otherwise the party,
-//! key and name of the first HALF, and a refusal is the number that examining
-//! bytes answers there, 0 for none. A tag is Poly1305's under the key of bytes 0
-//! to 31.
+//! under this key. RULE is a threshold `T` or two marks `P:Q`. LAST is the last number of
+//! a box that has otherwise the party, key and name of the first HALF, and a refusal is
+//! the number that examining bytes answers there, 0 for none. A tag is Poly1305's under
+//! the key of bytes 0 to 31.
 //!
 //! - `half HALF`: all bytes of the half, as hex.
 //! - `tag HALF`: the tag of all its bytes.

@@ -8,6 +8,7 @@ pub mod aead;
 pub mod cases;
 pub mod chacha20;
 pub mod check_cases;
+pub mod check_marks;
 pub mod checks;
 pub mod content;
 pub mod dcf;
@@ -26,6 +27,8 @@ pub mod opened;
 pub mod party;
 #[cfg(test)]
 mod party_ahead;
+#[cfg(test)]
+mod party_marks;
 pub mod poly1305;
 pub mod refusal;
 pub mod replay;
@@ -35,6 +38,7 @@ pub mod replay_cases;
 pub mod replay_checks;
 pub mod replay_claim;
 pub mod replay_lists;
+pub mod replay_marks;
 pub mod replay_older;
 pub mod replay_pairs;
 pub mod replay_script;

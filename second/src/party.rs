@@ -223,7 +223,6 @@ pub mod tests {
     use crate::message::ANSWER;
     use crate::refusal;
     use crate::rule::Rule::{self, Between, Threshold};
-    use crate::rule::{MARKED, MAX_WIDTH, ORDINARY};
     use crate::sample::Source;
     use crate::share;
 
@@ -252,7 +251,7 @@ pub mod tests {
         halves
     }
 
-    fn dealt(measure: Measure, length: usize, rule: Rule) -> [Vec<u8>; 2] {
+    pub fn dealt(measure: Measure, length: usize, rule: Rule) -> [Vec<u8>; 2] {
         dealt_as(NUMBER, measure, length, rule)
     }
 
@@ -270,7 +269,7 @@ pub mod tests {
     }
 
     /// One check from the deal to the join, with what each box answers on the way.
-    fn door(measure: Measure, rule: Rule, x: &[i32], y: &[i32]) -> share::Run {
+    pub fn door(measure: Measure, rule: Rule, x: &[i32], y: &[i32]) -> share::Run {
         let halves = dealt(measure, x.len(), rule);
         let mut boxes = [started(0), started(1)];
         let mut masked = [vec![0; x.len()], vec![0; x.len()]];
@@ -318,26 +317,6 @@ pub mod tests {
                             Measure::Euclid | Measure::Hamming => value <= threshold,
                         };
                         assert_eq!(joined, u32::from(reached));
-                    }
-                }
-            }
-        }
-    }
-
-    /// 02, "Between two marks", from the deal to the join.
-    #[test]
-    fn the_lock_says_whether_the_measure_lies_between_the_marks() {
-        let mut source = Source(350);
-        for measure in Measure::ALL {
-            for length in [3, 17, 57] {
-                let x = source.vector(measure, length);
-                let y = source.vector(measure, length);
-                let value = measure.of(&x, &y) as i32;
-                for (p, q, bit) in [(1, 2, 0), (0, 2, 1), (0, 0, 1), (-1, 0, 1), (-2, -1, 0)] {
-                    let rule = Between(value + p, value + q);
-                    if rule.is_in_range(measure) {
-                        let joined = door(measure, rule, &x, &y).joined;
-                        assert_eq!(joined, bit, "{measure:?} {rule}");
                     }
                 }
             }
@@ -445,64 +424,6 @@ pub mod tests {
                 }
                 _ => refused(&|state| state.set.length = 0),
             }
-        }
-    }
-
-    /// Width and mark come with the load and are not tested: calls go on with what a host has
-    /// put there.
-    #[test]
-    fn widths_and_marks_of_a_state_are_not_tested() {
-        let turns = [
-            [0, 3, 3, 3, 3],
-            [0, 0, 3, 3, 0],
-            [0, 3, 0, 3, 0],
-            [0, 3, 3, 0, 0],
-        ];
-        for (state, calls) in phases().into_iter().zip(turns) {
-            let carried = match state.phase {
-                IDLE => (0, ORDINARY),
-                _ => (MAX_WIDTH, ORDINARY),
-            };
-            assert_eq!((state.set.width, state.set.mark), carried);
-            for width in [0, 1, MAX_WIDTH, MAX_WIDTH + 1, u32::MAX] {
-                for mark in [0, 1, 2, 256, u32::MAX] {
-                    let mut put = state.clone();
-                    (put.set.width, put.set.mark) = (width, mark);
-                    assert_eq!(all_calls(&put), calls);
-                    (put.waiting.width, put.waiting.mark) = (width, mark);
-                    assert_eq!(all_calls(&put), calls);
-                }
-            }
-        }
-    }
-
-    /// The word has the sign of the mark that stands in the state, and the answer its width.
-    #[test]
-    fn calls_3_and_4_follow_the_state() {
-        let [_, half] = dealt(Measure::Hamming, 2, Threshold(1));
-        let word = |mark: u32| {
-            let mut state = started(1);
-            state.load(&half).unwrap();
-            state.set.mark = mark;
-            state.mask(&[1, 0], &mut [0; 2]).unwrap();
-            let word = state.take(&label(MASKED_VECTOR, 0), &[5, 6]).unwrap();
-            (word.wrapping_sub(state.set.r), state)
-        };
-        let (ordinary, state) = word(ORDINARY);
-        for mark in [MARKED, 2, u32::MAX] {
-            assert_eq!(word(mark).0, ordinary.wrapping_neg(), "{mark}");
-        }
-        for (width, z) in [(0, 0), (5, 5), (5, 6), (u32::MAX, 0), (1 << 31, 1 << 31)] {
-            let mut state = state.clone();
-            state.set.width = width;
-            let set = state.set.half(1);
-            let value = |u: u32| set.key.value(1, &set.seed, u);
-            let other = z - state.check.word as i64;
-            let answer = state.finish(&label(WORD, 0), other as u32).unwrap();
-            let count = width.wrapping_add(1);
-            let added = u32::from((z as u32) < count);
-            let values = value((z as u32).wrapping_sub(count)).wrapping_sub(value(z as u32));
-            assert_eq!(answer, values.wrapping_add(added), "{width} {z}");
         }
     }
 

@@ -432,8 +432,8 @@ pub mod tests {
     }
 
     /// A check under number 1, the squared Euclid line of 01, up to its join.
-    pub fn checked(replay: &mut Replay, threshold: u32) -> String {
-        let deal = format!("deal 1 @32:3 1 2 {threshold} 1536 2048");
+    pub fn checked(replay: &mut Replay, rule: &str) -> String {
+        let deal = format!("deal 1 @32:3 1 2 {rule} 1536 2048");
         assert!(replay.answer(&deal).starts_with("0 "));
         for (at, vector) in [
             ("camera", "03000000fcffffff"),
@@ -463,56 +463,68 @@ pub mod tests {
 
     #[test]
     fn a_check_is_answered() {
-        assert_eq!(checked(&mut started(), 81), "0 0");
-        assert_eq!(checked(&mut started(), 82), "0 1");
-        assert_eq!(checked(&mut started(), 83), "0 1");
+        for (rule, bit) in [("81", 0), ("82", 1), ("83", 1), ("82:82", 1), ("0:82", 1)] {
+            assert_eq!(checked(&mut started(), rule), format!("0 {bit}"));
+        }
+        for rule in ["0:81", "83:2147483647", "81:81", "83:83"] {
+            assert_eq!(checked(&mut started(), rule), "0 0");
+        }
     }
+
+    /// What is no line of a script after a check.
+    const BAD_LINES: [&str; 41] = [
+        "deal",
+        "drop door",
+        "drop camera ",
+        " drop camera",
+        "drop  camera",
+        "Drop camera",
+        "deal 2 @32:3 1 2 5 1536 8705",
+        "deal 18446744073709551616 @32:3 1 2 5 1536 1536",
+        "deal 2 @32:3 1 2 4294967296 1536 1536",
+        "deal +2 @32:3 1 2 5 1536 1536",
+        "deal -2 @32:3 1 2 5 1536 1536",
+        "deal 2 @+32:3 1 2 5 1536 1536",
+        "deal 2 ~8:3:0:1 1 2 5 1536 1536",
+        "load camera camera 4 1536 0",
+        "load camera camera 1 1536 0",
+        "load camera camera 0 2049 0",
+        "load camera lock 0 1536 0",
+        "mixed camera 3 0 0",
+        "mixed camera 0 0 3",
+        "bytes camera 0G",
+        "mask camera 03000000fcffff 2",
+        "mask camera - 521",
+        "take camera 0 - 1 1 lock",
+        "finish camera 0 - 1 4294967296",
+        "put camera 0 0 0",
+        "deal 2 @32:3 1 2 5: 1536 1536",
+        "deal 2 @32:3 1 2 :5 1536 1536",
+        "deal 2 @32:3 1 2 5:6:7 1536 1536",
+        "deal 2 @32:3 1 2 5:4294967296 1536 1536",
+        "width camera 0",
+        "width camera 0 0 0",
+        "width lock 0 0",
+        "width camera 4294967296 0",
+        "width camera 0 4294967296",
+        "waiting camera 1 0",
+        "waiting camera 1 0 1 0",
+        "waiting lock 1 0 1",
+        "waiting camera 18446744073709551616 0 1",
+        "waiting camera 1 4294967296 1",
+        "waiting camera 1 0 4294967296",
+        "show door",
+    ];
 
     /// What is no line of a script is answered so, and changes nothing.
     #[test]
     fn bad_lines() {
         let mut replay = started();
-        checked(&mut replay, 82);
+        checked(&mut replay, "82");
         let states = ["dealer", "camera", "office", "lock"].map(|part| format!("show {part}"));
         let before = states.clone().map(|line| replay.answer(&line));
         let lines = replay.lines;
-        for (place, bad) in [
-            "deal",
-            "drop door",
-            "drop camera ",
-            " drop camera",
-            "drop  camera",
-            "Drop camera",
-            "deal 2 @32:3 1 2 5 1536 8705",
-            "deal 18446744073709551616 @32:3 1 2 5 1536 1536",
-            "deal 2 @32:3 1 2 4294967296 1536 1536",
-            "deal +2 @32:3 1 2 5 1536 1536",
-            "deal -2 @32:3 1 2 5 1536 1536",
-            "deal 2 @+32:3 1 2 5 1536 1536",
-            "deal 2 ~8:3:0:1 1 2 5 1536 1536",
-            "load camera camera 4 1536 0",
-            "load camera camera 1 1536 0",
-            "load camera camera 0 2049 0",
-            "load camera lock 0 1536 0",
-            "mixed camera 3 0 0",
-            "mixed camera 0 0 3",
-            "bytes camera 0G",
-            "mask camera 03000000fcffff 2",
-            "mask camera - 521",
-            "take camera 0 - 1 1 lock",
-            "finish camera 0 - 1 4294967296",
-            "put camera 0 0 0",
-            "waiting camera 1 0",
-            "waiting camera 1 0 1 0",
-            "waiting lock 1 0 1",
-            "waiting camera 18446744073709551616 0 1",
-            "waiting camera 1 4294967296 1",
-            "waiting camera 1 0 4294967296",
-            "show door",
-        ]
-        .into_iter()
-        .enumerate()
-        {
+        for (place, bad) in BAD_LINES.into_iter().enumerate() {
             let number = lines + 1 + place;
             assert_eq!(replay.answer(bad), format!("bad line {number}"), "{bad}");
         }

@@ -68,7 +68,7 @@ mod tests {
         let state = Party::default();
         assert_eq!(party_bytes(&state), vec![0; HEAD + SET + CHECK + SET]);
         let mut replay = started();
-        checked(&mut replay, 82);
+        checked(&mut replay, "82");
         assert_eq!(replay.answer("deal 9 @32:5 2 512 0 8192 8192").len(), 67);
         replay.answer("load office office 0 8192 9999");
         let loaded = party_bytes(&replay.boxes[1]);
@@ -89,7 +89,7 @@ mod tests {
         let mut replay = started();
         for deal in [
             "deal 1 @32:3 1 2 5 1536 1536",
-            "deal 2 @32:4 2 3 1 1536 1536",
+            "deal 2 @32:4 2 3 1:300 1536 1536",
         ] {
             replay.answer(deal);
             assert_eq!(replay.answer("load camera camera 0 1536 9999"), "0");
@@ -101,6 +101,16 @@ mod tests {
         assert_eq!(waits[second.clone()], open[first.clone()]);
         assert_ne!(waits[first], open[second.clone()]);
         assert!(open[second].iter().all(|&byte| byte == 0));
+        let carried = |state: &[u8], end: usize| state[end - 8..end].to_vec();
+        assert_eq!(
+            carried(&waits, HEAD + SET),
+            [255, 255, 255, 127, 0, 0, 0, 0]
+        );
+        assert_eq!(carried(&waits, waits.len()), [43, 1, 0, 0, 1, 0, 0, 0]);
+        assert_eq!(replay.answer("width camera 16909060 2"), "put");
+        let put = party_bytes(&replay.boxes[0]);
+        assert_eq!(carried(&put, HEAD + SET), [4, 3, 2, 1, 2, 0, 0, 0]);
+        assert_eq!(carried(&put, put.len()), [0; 8]);
         assert_eq!(replay.answer("waiting camera 258 772 5"), "put");
         let put = party_bytes(&replay.boxes[0]);
         let numbers = &put[HEAD + SET + CHECK..][..20];
