@@ -27,6 +27,9 @@ const MORE_BLOCKS: [(usize, usize); 9] = [
 /// block, and have the mark alone in the last block.
 const ENDS: [usize; 3] = [1, 17, 57];
 
+/// The longest sets of the sweep.
+const MAX_SWEPT: usize = 8;
+
 /// The places of the width, and of the mark, in the content of a length.
 fn width_places(length: usize) -> Range<usize> {
     content::bytes(length) - 5..content::bytes(length) - 1
@@ -92,6 +95,24 @@ impl Cases {
                 assert_eq!(narrow == tag(Between(4, 10)), party == 0);
                 assert_ne!(narrow, tag(Between(3, 10)));
                 assert_ne!(narrow, tag(Threshold(3)));
+            }
+        }
+    }
+
+    /// A threshold or mark without a pattern.
+    fn any_mark(&mut self, measure: Measure) -> i32 {
+        let (lowest, highest) = measure.thresholds().into_inner();
+        let count = i64::from(highest) - i64::from(lowest) + 1;
+        (i64::from(lowest) + i64::from(self.number()) % count) as i32
+    }
+
+    /// Short sets by rules of both kinds without a pattern.
+    fn sweep_of_sets(&mut self) {
+        for length in 1..=MAX_SWEPT {
+            for measure in Measure::ALL {
+                let [one, other] = [(); 2].map(|()| self.any_mark(measure));
+                self.both_tags(measure, length, Between(one.min(other), one.max(other)));
+                self.both_tags(measure, length, Threshold(one));
             }
         }
     }
@@ -271,6 +292,7 @@ impl Cases {
     pub fn between_marks(&mut self) {
         self.sets_between_marks();
         self.marks_of_a_set();
+        self.sweep_of_sets();
         self.counts_of_blocks();
         self.values_of_the_mark();
         self.widths_under_mark_0();

@@ -34,6 +34,12 @@ pub struct Check {
     pub met: bool,
 }
 
+/// The measure of two vector fields.
+pub fn value_of(measure: Measure, vectors: &[String; 2]) -> i64 {
+    let [x, y] = [0, 1].map(|at: usize| vector(&vectors[at]).expect("a vector"));
+    measure.of(&x, &y)
+}
+
 /// The calls of a check; a number is a box's place.
 #[derive(Clone, Copy, PartialEq)]
 pub enum Step {
@@ -192,8 +198,7 @@ impl Script {
             for measure in Measure::ALL {
                 for threshold in THRESHOLDS {
                     let vectors = [self.vector(measure, length), self.vector(measure, length)];
-                    let [x, y] = [0, 1].map(|at: usize| vector(&vectors[at]).unwrap());
-                    let value = measure.of(&x, &y) as i32;
+                    let value = value_of(measure, &vectors) as i32;
                     let threshold = match threshold {
                         Threshold::Measure => value,
                         Threshold::OneAbove => value + 1,

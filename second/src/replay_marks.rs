@@ -3,13 +3,12 @@
 //! marks that a host has put into a state. By which number a call is refused and what is
 //! joined stands here and is not asked of this implementation.
 
-use crate::checks::vector;
 use crate::measure::{Measure, MAX_LENGTH};
 use crate::party::{IDLE, SPOKEN};
 use crate::replay::BOXES;
 use crate::replay_ahead::OPEN;
 use crate::replay_checks::Step::{self, Finish, Load, Mask, Take};
-use crate::replay_checks::{Check, AFTER_LOADS};
+use crate::replay_checks::{value_of, Check, AFTER_LOADS};
 use crate::replay_script::{choices, Script};
 use crate::rule::Rule::{self, Between, Threshold};
 use crate::rule::{MARKED, MAX_WIDTH, ORDINARY};
@@ -18,8 +17,8 @@ use crate::rule::{MARKED, MAX_WIDTH, ORDINARY};
 const LOWEST: i32 = -(1 << 30);
 const HIGHEST: i32 = 1 << 30;
 
-/// Marks that 8 turns down and 13 would not; then those that only 13 does; then both. Each by
-/// code, of which the first has them too far apart as well as in the wrong order.
+/// By code, marks that 8 turns down and 13 would not: P out of range, Q, or both. A Q that is
+/// no distance is a negative one, so with P in range it is below P.
 const OUT_OF_RANGE: [[(i32, i32); 3]; 3] = [
     [
         (LOWEST - 1, 0),
@@ -29,11 +28,13 @@ const OUT_OF_RANGE: [[(i32, i32); 3]; 3] = [
     [(-1, 0), (-2, -1), (i32::MIN, i32::MIN)],
     [(-1, 513), (0, 514), (514, 515)],
 ];
+/// Marks that 13 turns down alone: in the wrong order, or too far apart, as code 0 has them.
 const WRONG_WIDTH: [[(i32, i32); 3]; 3] = [
     [(LOWEST, HIGHEST), (0, -1), (HIGHEST, LOWEST)],
     [(i32::MAX, 0), (1, 0), (i32::MAX, i32::MAX - 1)],
     [(513, 512), (1, 0), (513, 0)],
 ];
+/// Marks that both turn down: 8 is the answer.
 const BOTH_WRONG: [[(i32, i32); 3]; 3] = [
     [
         (HIGHEST + 1, HIGHEST),
@@ -91,12 +92,9 @@ fn bit_with(check: &Check, value: i64, (phase, width, mark): Put) -> u32 {
     let dealt = check.deal.rule.mark();
     // Call 3 is the one that has the sign.
     let mark = if phase < SPOKEN { mark } else { dealt };
-    let sign = |mark: u32| {
-        if mark == ORDINARY && measure.is_distance() {
-            -1
-        } else {
-            1
-        }
+    let sign = |mark: u32| match measure.is_distance() && mark == ORDINARY {
+        true => -1,
+        false => 1,
     };
     let sum = sign(mark) * value - sign(dealt) * i64::from(check.deal.rule.offset());
     u32::from((sum as u32) < width.wrapping_add(1))
@@ -165,17 +163,12 @@ impl Script {
     fn check_near(&mut self, measure: Measure, length: usize, near: (i32, i32)) -> Check {
         loop {
             let vectors = [self.vector(measure, length), self.vector(measure, length)];
-            let value = self.value(measure, &vectors) as i32;
+            let value = value_of(measure, &vectors) as i32;
             let rule = Between(value + near.0, value + near.1);
             if rule.is_in_range(measure) {
                 return self.check(measure, vectors, rule);
             }
         }
-    }
-
-    fn value(&self, measure: Measure, vectors: &[String; 2]) -> i64 {
-        let [x, y] = [0, 1].map(|at: usize| vector(&vectors[at]).expect("a vector"));
-        measure.of(&x, &y)
     }
 
     /// Whole checks on every side of both marks. At two of the lengths a half has a block more
@@ -229,7 +222,7 @@ impl Script {
         for turn in 0..24 {
             let (measure, length) = (Measure::ALL[turn % 3], 1 + turn / 3 % 4);
             let vectors = [self.vector(measure, length), self.vector(measure, length)];
-            let value = self.value(measure, &vectors) as i32;
+            let value = value_of(measure, &vectors) as i32;
             let far = 2 + value.unsigned_abs() as usize / 2;
             let near =
                 [far, far].map(|far| value + self.below(far) as i32 - self.below(far) as i32);
@@ -298,6 +291,30 @@ impl Script {
         }
     }
 
+    /// Call 4 with words that nobody sent, so that Z is next to where an answer turns: 0 and
+    /// w + 1.
+    fn edges_of_z(&mut self, at: usize) {
+        self.start("Edges of Z", [0; 4]);
+        for (turn, (rule, width)) in [
+            (Threshold(4), MAX_WIDTH),
+            (Between(4, 4), 0),
+            (Between(4, 9), 5),
+        ]
+        .into_iter()
+        .enumerate()
+        {
+            for z in [u32::MAX, 0, width, width + 1, width + 2] {
+                let measure = Measure::ALL[(turn + at) % 3];
+                let number = self.dealt(measure, 2, rule);
+                self.loaded(at);
+                self.brought_to(at, SPOKEN);
+                let word = z.wrapping_sub(self.replay.sent[at].word).to_string();
+                assert_eq!(self.finish(at, &self.word_for(at, number), &word), 0);
+            }
+        }
+        self.show(BOXES[at]);
+    }
+
     /// Whole checks with a width and mark put into both boxes' open sets, from which the
     /// joined bit follows. Nothing is claimed of states that a host has written to.
     fn put_at_both_boxes(&mut self) {
@@ -332,7 +349,7 @@ impl Script {
             }
             assert_eq!(self.step(check, step), 0);
         }
-        let bit = bit_with(check, self.value(measure, &check.vectors), put);
+        let bit = bit_with(check, value_of(measure, &check.vectors), put);
         assert_eq!(self.claim.joined[&check.deal.number], bit, "{}", check.deal);
     }
 
@@ -388,6 +405,7 @@ impl Script {
         self.sweep();
         self.put_at_both_boxes();
         for at in [0, 1] {
+            self.edges_of_z(at);
             self.kinds_ahead_of_each_other(at);
             self.put_at_one_box(at);
             self.put_while_idle_and_waiting(at);

@@ -1,13 +1,12 @@
 //! Halves from before (`older`) in the script of `test_replay`: every load refuses them by 11
 //! and spends no number, and the check goes on with the half of today.
 
-use crate::checks::vector;
 use crate::field;
 use crate::measure::Measure;
 use crate::older::{self, Dealing, DEALINGS};
 use crate::replay::BOXES;
 use crate::replay_checks::Step::{self, Load};
-use crate::replay_checks::{Check, AFTER_LOADS};
+use crate::replay_checks::{value_of, Check, AFTER_LOADS};
 use crate::replay_script::{Deal, Script};
 
 /// Lengths whose older halves fit a line as hex. At the first of them today's has a block more.
@@ -31,9 +30,8 @@ impl Script {
     /// and after the first change.
     fn check_that_is_met(&mut self, measure: Measure, length: usize) -> Check {
         let vectors = [self.vector(measure, length), self.vector(measure, length)];
-        let [x, y] = [0, 1].map(|at: usize| vector(&vectors[at]).expect("a vector"));
-        let above = i32::from(measure.is_distance());
-        self.check(measure, vectors, measure.of(&x, &y) as i32 + above)
+        let value = value_of(measure, &vectors) as i32;
+        self.check(measure, vectors, value + i32::from(measure.is_distance()))
     }
 
     /// A check before whose load one box is handed its half as it was dealt before, and after

@@ -2,12 +2,11 @@
 //! ahead while the first is under way, or is dropped. Every call is accepted, and both
 //! joined bits are those of the measures over whole numbers.
 
-use crate::checks::vector;
 use crate::measure::{Measure, MAX_LENGTH};
 use crate::party::IDLE;
 use crate::replay::BOXES;
 use crate::replay_checks::Step::{Finish, Load, Mask};
-use crate::replay_checks::{Check, Step, STEPS};
+use crate::replay_checks::{value_of, Check, Step, STEPS};
 use crate::replay_script::Script;
 use crate::rule::Rule;
 
@@ -118,8 +117,7 @@ impl Script {
     /// next to the other. A distance of zero reaches every threshold.
     fn near_check(&mut self, measure: Measure, length: usize, met: bool, between: bool) -> Check {
         let vectors = [self.vector(measure, length), self.vector(measure, length)];
-        let [x, y] = [0, 1].map(|at: usize| vector(&vectors[at]).expect("a vector"));
-        let value = measure.of(&x, &y) as i32;
+        let value = value_of(measure, &vectors) as i32;
         let rule = match (between, met, measure.is_distance() && value > 0) {
             (true, true, _) => Rule::Between(value, value + 1),
             (true, false, true) => Rule::Between(0, value - 1),
