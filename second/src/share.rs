@@ -467,6 +467,25 @@ mod tests {
         }
     }
 
+    /// The same with the sums of keys as they are meant to be, over all words of a few bits and
+    /// all widths but the one that has all of them.
+    #[test]
+    fn the_gate_is_right_for_all_small_words() {
+        for bits in 2..=6 {
+            let words = 1u32 << bits;
+            let pairs = (0..words).flat_map(|r| (0..words).map(move |sum| (r, sum)));
+            for (r, sum) in pairs {
+                for count in 1..words {
+                    let z = (r + sum) % words;
+                    let value = |u: u32| i32::from(u < r);
+                    let answer = value((z + words - count) % words) - value(z);
+                    let joined = answer + i32::from(z < count);
+                    assert_eq!(joined, i32::from(sum < count), "{bits} {r} {sum} {count}");
+                }
+            }
+        }
+    }
+
     /// With a width of 2^32 - 1, which no half carries, no word is counted: w + 1 is 0.
     #[test]
     fn the_count_of_words_wraps() {
