@@ -1,15 +1,17 @@
 //! The cases of the program `test_checks`: keys, values and whole checks at the edges
-//! of every range and at inputs without a pattern.
+//! of every range and at inputs without a pattern. Checks between two marks are in
+//! `check_marks`.
 
 use crate::cases::Cases;
 use crate::checks::{edges, run, vector};
 use crate::dcf::LEVELS;
 use crate::field;
 use crate::measure::{Measure, MAX_LENGTH};
+use crate::rule::Rule;
 use crate::script::Case;
 
 /// Points, and values of r, where something wraps or turns over.
-const EDGES: [u32; 5] = [0, 1, (1 << 31) - 1, 1 << 31, u32::MAX];
+pub const EDGES: [u32; 5] = [0, 1, (1 << 31) - 1, 1 << 31, u32::MAX];
 
 const LENGTHS: [usize; 5] = [1, 2, 128, MAX_LENGTH - 1, MAX_LENGTH];
 
@@ -21,7 +23,7 @@ const FULL_SEED: &str = "fffffffffffffffffffffffffffffffffffffffffffffffffffffff
 
 /// The vectors of a check.
 #[derive(Clone, Copy)]
-enum Vectors {
+pub enum Vectors {
     Generated,
     Equal,
     LowAndHigh,
@@ -105,7 +107,7 @@ impl Threshold {
 
 /// The lines of 01, "The proved cases", that are whole checks: the measure's value, and the
 /// fields of the vectors.
-fn checks_of_01() -> [(Measure, i32, &'static str, &'static str); 4] {
+pub fn checks_of_01() -> [(Measure, i32, &'static str, &'static str); 4] {
     let (x, y) = ("03000000fcffffff", "0200000005000000");
     let (bits, others) = (
         "01000000000000000100000001000000",
@@ -122,7 +124,7 @@ fn checks_of_01() -> [(Measure, i32, &'static str, &'static str); 4] {
 
 impl Cases {
     /// A word without a pattern.
-    fn number(&mut self) -> u32 {
+    pub fn number(&mut self) -> u32 {
         let bytes = field::generate(4, self.seed());
         u32::from_le_bytes(bytes.try_into().expect("four bytes"))
     }
@@ -174,7 +176,7 @@ impl Cases {
     }
 
     /// The fields of X and Y.
-    fn vectors(&mut self, vectors: Vectors, measure: Measure, length: usize) -> [String; 2] {
+    pub fn vectors(&mut self, vectors: Vectors, measure: Measure, length: usize) -> [String; 2] {
         let (low, high) = measure.elements().into_inner();
         let mask = high - low;
         let all = |element: i32| format!("~{length}:0:{}:0", element as u32);
@@ -191,16 +193,16 @@ impl Cases {
         }
     }
 
-    /// The six fields after the vectors. Masks, r, c0 and r0 go through their
-    /// kinds in turns of 3, 7, 5 and 4, so that each meets each.
-    fn draws(&mut self, length: usize) -> String {
+    /// The six fields after the vectors. Masks, c0 and r0 go through their kinds in turns of
+    /// 3, 5 and 4, and r, where it is not given, in turns of 7, so that each meets each.
+    fn draws(&mut self, length: usize, r: Option<u32>) -> String {
         let turn = self.list.len();
         let masks = match turn % 3 {
             0 => format!("~{}:0:0:0", 4 * length),
             1 => format!("~{}:0:4294967295:0", 4 * length),
             _ => self.bytes(16 * length),
         };
-        let r = self.points()[turn % 7];
+        let r = r.unwrap_or_else(|| self.points()[turn % 7]);
         let c0 = [0, u32::MAX].get(turn % 5).copied();
         let c0 = c0.unwrap_or_else(|| self.number());
         let r0 = [0, u32::MAX].get(turn % 4).copied();
@@ -209,13 +211,24 @@ impl Cases {
         format!("{masks} {c0} {r} {r0} {seed0} {seed1}")
     }
 
-    /// A check, which must end in `reached`.
-    fn check(&mut self, measure: Measure, threshold: i32, x: &str, y: &str, reached: bool) {
+    /// A check, which must end in `met`.
+    fn check(&mut self, measure: Measure, threshold: i32, x: &str, y: &str, met: bool) {
+        self.check_at(None, measure, Rule::Threshold(threshold), [x, y], met);
+    }
+
+    /// The same for any rule, with this r or one that comes in turn.
+    pub fn check_at(
+        &mut self,
+        r: Option<u32>,
+        measure: Measure,
+        rule: Rule,
+        [x, y]: [&str; 2],
+        met: bool,
+    ) {
         let length = vector(x).expect("a vector field").len();
-        let draws = self.draws(length);
-        let (code, threshold) = (measure.code(), threshold as u32);
-        self.add(format!("run {code} {threshold} {x} {y} {draws}"));
-        let end = format!(" {}", u32::from(reached));
+        let draws = self.draws(length, r);
+        self.add(format!("run {} {rule} {x} {y} {draws}", measure.code()));
+        let end = format!(" {}", u32::from(met));
         let case = self.list.last().expect("the case just added");
         assert!(case.expected.ends_with(&end), "{}", case.line);
     }
@@ -291,18 +304,22 @@ pub fn cases() -> Vec<Case> {
     for point in [0, u32::MAX, cases.number(), cases.number()] {
         cases.every_level(point);
     }
+    cases.checks_between_marks();
     cases.list
 }
 
 #[cfg(test)]
 mod tests {
     use super::*;
-    use crate::script::assert_right_short_and_not_repeated;
+    use crate::script::{assert_right_short_and_not_repeated, MAX_STDIN};
     use std::collections::{HashMap, HashSet};
 
     #[test]
     fn cases_are_right_short_and_not_repeated() {
-        assert_right_short_and_not_repeated(&cases(), run);
+        let cases = cases();
+        assert_right_short_and_not_repeated(&cases, run);
+        let size: usize = cases.iter().map(|case| case.line.len() + 1).sum();
+        assert!(size <= MAX_STDIN);
     }
 
     /// Every code meets every edge of r with both answers, every length both answers, and
@@ -362,10 +379,13 @@ mod tests {
         let (mut places, mut values) = (HashSet::new(), HashSet::new());
         for case in cases().iter().filter(|case| case.line.starts_with("run ")) {
             let fields: Vec<&str> = case.line.split(' ').collect();
-            let [code, t] = [1, 2].map(|place: usize| fields[place].parse::<u32>().unwrap());
+            let code = fields[1].parse::<u32>().unwrap();
+            let Some(Rule::Threshold(t)) = Rule::parse(fields[2]) else {
+                continue;
+            };
             let measure = Measure::from_code(code).unwrap();
             let (x, y) = (vector(fields[3]).unwrap(), vector(fields[4]).unwrap());
-            let (value, t) = (measure.of(&x, &y) as i32, t as i32);
+            let value = measure.of(&x, &y) as i32;
             let reached = if code == 0 { value >= t } else { value <= t };
             assert_eq!(case.expected.ends_with(" 1"), reached, "{}", case.line);
             values.insert((code, value, t));

@@ -10,15 +10,16 @@
 //!   bytes. The answer is its 1,188 bytes as hex, as a sealed half stores them.
 //! - `value PARTY SEED0 SEED1 POINT U`: the value of that key at U for the party,
 //!   0 or 1. The answer is a number.
-//! - `run CODE T X Y MASKS C0 R R0 SEED0 SEED1`: a whole check, from measure code
-//!   and threshold, the vectors (L words each, L from 1 to 512), the shares x0, x1,
-//!   y0, y1 of their masks (4 L words), and what else the dealer draws. The answer
-//!   is ten numbers: the first and the last word of X masked, the same of Y, word 0
-//!   and 1, Z, answer 0 and 1, and their sum. A wrong masked word in between shows
-//!   in words 0 and 1.
+//! - `run CODE RULE X Y MASKS C0 R R0 SEED0 SEED1`: a whole check, from measure code
+//!   and rule, a threshold `T` or two marks `P:Q`, the vectors (L words each, L from 1
+//!   to 512), the shares x0, x1, y0, y1 of their masks (4 L words), and what else the
+//!   dealer draws. The answer is ten numbers: the first and the last word of X masked,
+//!   the same of Y, word 0 and 1, Z, answer 0 and 1, and their sum. A wrong masked word
+//!   in between shows in words 0 and 1.
 
 use crate::dcf::{self, Key, Seed};
 use crate::measure::{Measure, MAX_LENGTH};
+use crate::rule::Rule;
 use crate::script::number;
 use crate::share::{self, Draws, Run};
 use crate::{chacha20, field};
@@ -42,13 +43,13 @@ pub fn run(line: &str) -> Result<String, String> {
             let value = values.get(number(party)? as usize);
             Ok(value.ok_or("no such party")?.to_string())
         }
-        ["run", code, threshold, x, y, ref draws @ ..] => {
+        ["run", code, rule, x, y, ref draws @ ..] => {
             let measure = Measure::from_code(number(code)?).ok_or("no such code")?;
-            let threshold = number(threshold)? as i32;
+            let rule = parse_rule(measure, rule)?;
             let (x, y) = (vector(x)?, vector(y)?);
-            check_ranges(measure, threshold, &x, &y)?;
+            check_ranges(measure, &x, &y)?;
             let draws = parse_draws(draws, x.len())?;
-            run_check(measure, threshold, &x, &y, &draws).map(|run| format_run(&run))
+            run_check(measure, rule, &x, &y, &draws).map(|run| format_run(&run))
         }
         _ => Err(format!("unknown command: {line}")),
     }
@@ -73,21 +74,22 @@ fn values(seeds: &[Seed; 2], key: &Key, point: u32, u: u32) -> Result<[u32; 2], 
     }
 }
 
-/// A whole check, whose Z must be the difference, with the measure's sign, plus r and
-/// whose sum must be whether the threshold is reached.
+/// A whole check, whose Z must be the difference, with the measure's sign under the set's
+/// mark, plus r and whose sum must be whether the rule is met.
 fn run_check(
     measure: Measure,
-    threshold: i32,
+    rule: Rule,
     x: &[i32],
     y: &[i32],
     draws: &Draws,
 ) -> Result<Run, String> {
-    let run = share::run(&share::deal(measure, threshold, draws), x, y);
-    let difference = measure.sign() * (measure.of(x, y) - i64::from(threshold));
+    let run = share::run(&share::deal(measure, rule, draws), x, y);
+    let sign = measure.sign(rule.mark());
+    let difference = sign * (measure.of(x, y) - i64::from(rule.offset()));
     if run.z.wrapping_sub(draws.r) != difference as u32 {
         return Err(format!("difference {difference}, r {}: {}", draws.r, run.z));
     }
-    if run.joined != u32::from(measure.reached(x, y, threshold)) {
+    if run.joined != u32::from(measure.meets(x, y, rule)) {
         return Err(format!("difference {difference}: {}", run.joined));
     }
     Ok(run)
@@ -109,12 +111,20 @@ fn format_run(run: &Run) -> String {
     numbers.join(" ")
 }
 
-fn check_ranges(measure: Measure, threshold: i32, x: &[i32], y: &[i32]) -> Result<(), String> {
+/// A rule field that may be dealt for the measure.
+pub fn parse_rule(measure: Measure, field: &str) -> Result<Rule, String> {
+    let rule = Rule::parse(field).ok_or_else(|| format!("bad rule: {field}"))?;
+    match rule.is_in_range(measure) && rule.width().is_some() {
+        true => Ok(rule),
+        false => Err("out of range".to_string()),
+    }
+}
+
+fn check_ranges(measure: Measure, x: &[i32], y: &[i32]) -> Result<(), String> {
     let elements = measure.elements();
     let good = (1..=MAX_LENGTH).contains(&x.len())
         && x.len() == y.len()
-        && x.iter().chain(y).all(|element| elements.contains(element))
-        && measure.thresholds().contains(&threshold);
+        && x.iter().chain(y).all(|element| elements.contains(element));
     good.then_some(()).ok_or("out of range".to_string())
 }
 

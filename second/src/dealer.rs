@@ -1,10 +1,12 @@
-//! The dealer and its calls: 01, "Dealing a set" and "When a call is turned down".
+//! The dealer and its calls: 01, "Dealing a set" and "When a call is turned down", and 02,
+//! "Between two marks".
 
 use crate::content::{self, Name};
 use crate::dealing;
 use crate::measure::{Measure, MAX_LENGTH};
 use crate::message::{padded, secret};
 use crate::refusal::Refusal;
+use crate::rule::Rule;
 use crate::sealed::{self, BLOCK_BYTES};
 
 /// A dealer's state.
@@ -21,8 +23,7 @@ pub struct Dealer {
 pub struct Order<'a> {
     pub code: u64,
     pub length: u64,
-    /// Negative numbers plus 2^32.
-    pub threshold: u32,
+    pub rule: Rule,
     pub number: u64,
     pub seed: &'a [u8],
 }
@@ -50,10 +51,10 @@ impl Dealer {
         let bytes = BLOCK_BYTES * content::blocks(length);
         Refusal::Room.unless(buffers.iter().all(|buffer| buffer.len() >= bytes))?;
         Refusal::Number.unless(order.number > self.last)?;
-        let threshold = order.threshold as i32;
-        Refusal::Range.unless(measure.thresholds().contains(&threshold))?;
+        Refusal::Range.unless(order.rule.is_in_range(measure))?;
+        Refusal::Marks.unless(order.rule.width().is_some())?;
 
-        let parts = dealing::deal(measure, length, threshold, &seed);
+        let parts = dealing::deal(measure, length, order.rule, &seed);
         for (party, buffer) in buffers.into_iter().enumerate() {
             let half = sealed::half(&self.name, &self.keys[party], order.number, &parts[party]);
             buffer[..bytes].copy_from_slice(&half);
@@ -67,6 +68,7 @@ impl Dealer {
 mod tests {
     use super::*;
     use crate::refusal;
+    use crate::rule::Rule::{Between, Threshold};
     use crate::sealed::{examine, Holder};
 
     const KEYS: [[u8; 32]; 2] = [[1; 32], [2; 32]];
@@ -89,47 +91,52 @@ mod tests {
         assert_eq!(dealer().last, 10);
     }
 
-    /// Everything wrong at first; then one thing after the other is put right, the
-    /// lowest refusal first.
-    #[test]
-    fn refusals_come_in_order_and_change_nothing() {
-        let good = Order {
+    /// Orders with everything wrong at first; then one thing after the other is put right, the
+    /// lowest refusal first. With the sizes of the buffers.
+    fn wrong_orders() -> [(Order<'static>, [usize; 2], u32); 8] {
+        let marks = Order {
             code: 2,
             length: 18,
-            threshold: 513,
+            rule: Between(9, 8),
             number: 11,
             seed: &[7; 32],
         };
-        let number = Order {
-            threshold: 514,
-            ..good
+        let range = Order {
+            rule: Between(514, 513),
+            ..marks
         };
-        let room = Order {
+        let number = Order {
             number: 10,
-            ..number
+            ..range
         };
         let length = Order {
             length: 513,
-            ..room
+            ..number
         };
         let seed = Order {
             seed: &[7; 31],
-            ..room
+            ..number
         };
         let code = Order {
             code: 1 << 32,
             ..seed
         };
-        let mut dealer = dealer();
-        for (order, bytes, refusal) in [
+        [
             (code, [0, 0], 2),
             (seed, [0, 0], 4),
             (length, [0, 0], 4),
-            (room, [2048, 2047], 5),
-            (room, [2047, 2048], 5),
-            (room, [2048, 2048], 7),
-            (number, [2048, 2048], 8),
-        ] {
+            (number, [2048, 2047], 5),
+            (number, [2047, 2048], 5),
+            (number, [2048, 2048], 7),
+            (range, [2048, 2048], 8),
+            (marks, [2048, 2048], 13),
+        ]
+    }
+
+    #[test]
+    fn refusals_come_in_order_and_change_nothing() {
+        let mut dealer = dealer();
+        for (order, bytes, refusal) in wrong_orders() {
             let mut buffers = [vec![9; bytes[0]], vec![9; bytes[1]]];
             let [buffer0, buffer1] = &mut buffers;
             let answer = dealer.deal(&order, [buffer0, buffer1]);
@@ -139,13 +146,57 @@ mod tests {
         }
     }
 
+    /// 13 comes behind 8, and only where there are marks; the ends of what both let through
+    /// are dealt.
+    #[test]
+    fn marks_are_refused_in_order() {
+        let (lowest, highest) = (-(1 << 30), 1 << 30);
+        let most = i32::MAX;
+        for (code, rule, refusal) in [
+            (0, Between(lowest, highest), 13),
+            (0, Between(lowest, highest - 1), 0),
+            (0, Between(lowest + 1, highest), 0),
+            (0, Between(5, 4), 13),
+            (0, Between(5, 5), 0),
+            (0, Between(highest, lowest), 13),
+            (0, Between(highest + 1, highest), 8),
+            (0, Between(lowest, lowest - 1), 8),
+            (0, Between(highest + 1, lowest - 1), 8),
+            (0, Threshold(lowest), 0),
+            (0, Threshold(highest + 1), 8),
+            (1, Between(0, most), 0),
+            (1, Between(most, most), 0),
+            (1, Between(most, 0), 13),
+            (1, Between(-1, 5), 8),
+            (1, Between(5, -1), 8),
+            (2, Between(0, 513), 0),
+            (2, Between(0, 514), 8),
+            (2, Between(514, 0), 8),
+            (2, Between(513, 512), 13),
+        ] {
+            let order = Order {
+                code,
+                length: 1,
+                rule,
+                number: 11,
+                seed: &[7; 32],
+            };
+            let (mut dealer, mut buffers) = (dealer(), [[9; 1536]; 2]);
+            let [buffer0, buffer1] = &mut buffers;
+            let answer = dealer.deal(&order, [buffer0, buffer1]);
+            assert_eq!(refusal::number(&answer), refusal, "{code} {rule}");
+            assert_eq!(buffers == [[9; 1536]; 2], refusal != 0);
+            assert_eq!(dealer == super::tests::dealer(), refusal != 0);
+        }
+    }
+
     #[test]
     fn only_whole_blocks_are_written() {
         let mut dealer = dealer();
         let order = Order {
             code: 0,
             length: 18,
-            threshold: 3 << 30,
+            rule: Threshold(-(1 << 30)),
             number: u64::MAX,
             seed: &[7; 32],
         };

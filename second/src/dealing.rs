@@ -2,6 +2,7 @@
 
 use crate::chacha20;
 use crate::measure::Measure;
+use crate::rule::Rule;
 use crate::share::{self, Draws, Half};
 
 /// The words of a set besides its masks: c0, r, r0 and two key seeds.
@@ -31,13 +32,14 @@ pub fn draw(seed: &[u8; 32], length: usize) -> Draws {
 }
 
 /// Both parties' parts of the set of this seed.
-pub fn deal(measure: Measure, length: usize, threshold: i32, seed: &[u8; 32]) -> [Half; 2] {
-    share::deal(measure, threshold, &draw(seed, length))
+pub fn deal(measure: Measure, length: usize, rule: Rule, seed: &[u8; 32]) -> [Half; 2] {
+    share::deal(measure, rule, &draw(seed, length))
 }
 
 #[cfg(test)]
 mod tests {
     use super::*;
+    use crate::rule::Rule::{Between, Threshold};
 
     /// Every word has its place: 4 L for the masks, then c0, r, r0 and the seeds.
     #[test]
@@ -61,12 +63,13 @@ mod tests {
         assert_eq!(draw(&[9; 32], 1).x[0], [first]);
     }
 
-    /// c1 and the masks of 01, word by word, and r1 of 01 and 02.
+    /// c1 and the masks of 01, word by word, and r1 of 01 and 02: between two marks it has the
+    /// plain sign for every code, and Q is not in it.
     #[test]
     fn words_of_party_1_come_from_the_others() {
         let seed = [77; 32];
         let draws = draw(&seed, 2);
-        let [half0, half1] = deal(Measure::Euclid, 2, 1000, &seed);
+        let [half0, half1] = deal(Measure::Euclid, 2, Threshold(1000), &seed);
         let mask = |share: &[Vec<u32>; 2], i: usize| share[0][i].wrapping_add(share[1][i]);
         let product = |i| mask(&draws.x, i).wrapping_mul(mask(&draws.y, i));
         let c = half0.c.wrapping_add(half1.c);
@@ -76,13 +79,17 @@ mod tests {
         assert_eq!(half0.own_mask[1], mask(&draws.x, 1));
         assert_eq!(half1.own_mask[1], mask(&draws.y, 1));
         assert_eq!((&half1.x_share, &half1.y_share), (&draws.x[1], &draws.y[1]));
-        for (measure, with) in [
-            (Measure::Scalar, draws.r.wrapping_sub(1000)),
-            (Measure::Euclid, draws.r.wrapping_add(1000)),
-            (Measure::Hamming, draws.r.wrapping_add(1000)),
+        let (above, below) = (draws.r.wrapping_add(1000), draws.r.wrapping_sub(1000));
+        for (measure, rule, with) in [
+            (Measure::Scalar, Threshold(1000), below),
+            (Measure::Euclid, Threshold(1000), above),
+            (Measure::Hamming, Threshold(1000), above),
+            (Measure::Scalar, Between(1000, 1007), below),
+            (Measure::Euclid, Between(1000, 1007), below),
+            (Measure::Hamming, Between(1000, 1000), below),
         ] {
-            let [half0, half1] = deal(measure, 2, 1000, &seed);
-            assert_eq!(half0.r.wrapping_add(half1.r), with, "{measure:?}");
+            let [half0, half1] = deal(measure, 2, rule, &seed);
+            assert_eq!(half0.r.wrapping_add(half1.r), with, "{measure:?} {rule}");
         }
     }
 }

@@ -1,12 +1,14 @@
 //! The cases of the program `test_halves`: halves of every code at the edges of every
 //! range, and halves with something wrong in them. What is refused, and by which
-//! number, stands here and is not asked of this implementation.
+//! number, stands here and is not asked of this implementation. Those of 02, "Between two
+//! marks", are in `half_marks`.
 
 use crate::cases::Cases;
 use crate::content::{self, TEXT_BYTES};
 use crate::field;
 use crate::halves::run;
 use crate::measure::{Measure, MAX_LENGTH};
+use crate::rule::Rule;
 use crate::script::Case;
 use crate::sealed::BLOCK_BYTES;
 use std::collections::HashSet;
@@ -14,8 +16,8 @@ use std::fmt::{self, Display, Formatter};
 use std::ops::Range;
 
 /// Where the count of blocks changes, and other edges.
-const MAIN_LENGTHS: [usize; 5] = [1, 17, 18, 138, MAX_LENGTH];
-const MORE_LENGTHS: [usize; 12] = [2, 57, 58, 128, 139, 255, 256, 259, 260, 380, 501, 511];
+pub const MAIN_LENGTHS: [usize; 5] = [1, 17, 18, 138, MAX_LENGTH];
+const MORE_LENGTHS: [usize; 12] = [2, 97, 98, 128, 218, 219, 255, 256, 340, 461, 510, 511];
 
 /// Set numbers where something wraps or turns over, and one whose bytes all differ.
 const NUMBERS: [u64; 7] = [
@@ -33,32 +35,32 @@ const STEP: usize = 64;
 
 /// The fields of a half in a line of the script.
 #[derive(Clone)]
-struct Half {
-    party: usize,
-    measure: Measure,
-    length: usize,
-    threshold: i32,
-    number: u64,
-    seed: String,
-    key: String,
-    name: String,
+pub struct Half {
+    pub party: usize,
+    pub measure: Measure,
+    pub length: usize,
+    pub rule: Rule,
+    pub number: u64,
+    pub seed: String,
+    pub key: String,
+    pub name: String,
 }
 
 impl Display for Half {
     fn fmt(&self, f: &mut Formatter) -> fmt::Result {
         let (party, code, length) = (self.party, self.measure.code(), self.length);
-        let (threshold, number) = (self.threshold as u32, self.number);
+        let (rule, number) = (self.rule, self.number);
         let (seed, key, name) = (&self.seed, &self.key, &self.name);
         write!(
             f,
-            "{party} {code} {length} {threshold} {number} {seed} {key} {name}"
+            "{party} {code} {length} {rule} {number} {seed} {key} {name}"
         )
     }
 }
 
 impl Half {
     /// The last number of a box that takes this half, and none below it.
-    fn last(&self) -> u64 {
+    pub fn last(&self) -> u64 {
         self.number - 1
     }
 
@@ -75,8 +77,13 @@ fn name(text: &str) -> String {
     field::format(&padded)
 }
 
+/// Where the corrections of a content for vectors of this length begin.
+fn corrections(length: usize) -> usize {
+    20 + 12 * length + 8 + 32
+}
+
 /// The places from one to another, as many as fit a line.
-fn steps(places: Range<usize>) -> impl Iterator<Item = Range<usize>> {
+pub fn steps(places: Range<usize>) -> impl Iterator<Item = Range<usize>> {
     let end = places.end;
     places
         .step_by(STEP)
@@ -84,19 +91,19 @@ fn steps(places: Range<usize>) -> impl Iterator<Item = Range<usize>> {
 }
 
 /// The numbers with a space between two.
-fn join(numbers: impl Iterator<Item = u32>) -> String {
+pub fn join(numbers: impl Iterator<Item = u32>) -> String {
     let numbers: Vec<String> = numbers.map(|number| number.to_string()).collect();
     numbers.join(" ")
 }
 
 impl Cases {
     /// A half with a seed and a key of its own.
-    fn half(&mut self, party: usize, measure: Measure, length: usize) -> Half {
+    pub fn half(&mut self, party: usize, measure: Measure, length: usize) -> Half {
         Half {
             party,
             measure,
             length,
-            threshold: *measure.thresholds().end(),
+            rule: Rule::Threshold(*measure.thresholds().end()),
             number: NUMBERS[2],
             seed: self.bytes(32),
             key: self.bytes(32),
@@ -105,15 +112,15 @@ impl Cases {
     }
 
     /// A line whose answer 01 gives.
-    fn answered(&mut self, line: String, answer: impl ToString) {
+    pub fn answered(&mut self, line: String, answer: impl ToString) {
         self.add_expecting("01", line, answer.to_string());
     }
 
     /// Both halves of a set, each under its own key.
-    fn both_tags(&mut self, measure: Measure, length: usize, threshold: i32) {
+    pub fn both_tags(&mut self, measure: Measure, length: usize, rule: impl Into<Rule>) {
         let turn = self.list.len();
         let mut half = self.half(0, measure, length);
-        half.threshold = threshold;
+        half.rule = rule.into();
         half.number = NUMBERS[turn % NUMBERS.len()];
         half.name = name(&"A door of 16 ch."[..1 + turn % 16]);
         self.add(format!("tag {half}"));
@@ -129,7 +136,7 @@ impl Cases {
             self.add(format!("half {half}"));
         }
         let mut half = self.half(1, Measure::Scalar, 1);
-        half.threshold = *half.measure.thresholds().start();
+        half.rule = Rule::Threshold(*half.measure.thresholds().start());
         (half.seed, half.key) = (zeros.clone(), ones.clone());
         (half.number, half.name) = (u64::MAX, name("~~~~~~~~~~~~~~~~"));
         self.add(format!("half {half}"));
@@ -264,7 +271,7 @@ impl Cases {
     }
 
     /// Halves with bytes missing, or with a block more.
-    fn cuts(&mut self, half: &Half, last: u64, refusals: &[(usize, u32)]) {
+    pub fn cuts(&mut self, half: &Half, last: u64, refusals: &[(usize, u32)]) {
         for (bytes, refusal) in refusals {
             self.answered(format!("cut {half} {last} {bytes}"), refusal);
         }
@@ -293,7 +300,13 @@ impl Cases {
     }
 
     /// A half with a block of another one: the refusal for each pair of places.
-    fn mixes(&mut self, half: &Half, last: u64, other: &Half, refusals: &[(usize, usize, u32)]) {
+    pub fn mixes(
+        &mut self,
+        half: &Half,
+        last: u64,
+        other: &Half,
+        refusals: &[(usize, usize, u32)],
+    ) {
         for (to, from, refusal) in refusals {
             self.answered(format!("mixed {half} {last} {other} {to} {from}"), refusal);
         }
@@ -337,7 +350,7 @@ impl Cases {
         self.mixes(&half, last, &twin, &all);
         let mut other = twin.clone();
         other.measure = Measure::Hamming;
-        other.threshold = 513;
+        other.rule = Rule::Threshold(513);
         self.mixes(&half, last, &other, &[(0, 0, 0)]);
         other = twin.clone();
         other.party = 1;
@@ -345,11 +358,11 @@ impl Cases {
         other = twin.clone();
         other.name = name("Hut 5");
         self.mixes(&half, last, &other, &[(0, 0, 11), (3, 3, 0)]);
-        // L = 55 moves the corrections by twelve, into zeros: no byte is out of range.
+        // With another L the fill stands where width and mark are read, or they in the fill.
         other = twin.clone();
-        for (length, refusal) in [(17, 11), (55, 0), (57, 11), (58, 11)] {
+        for length in [17, 55, 57, 58] {
             other.length = length;
-            self.mixes(&half, last, &other, &[(0, 0, refusal)]);
+            self.mixes(&half, last, &other, &[(0, 0, 11)]);
         }
         let mut short = half.clone();
         short.length = 1;
@@ -357,11 +370,16 @@ impl Cases {
         self.mixes(&short, half.number, &twin, &[(3, 3, 7)]);
     }
 
-    /// One byte of the content at a time set to 4, from the first to the last.
-    fn content_bytes(&mut self, half: &Half) {
-        let key = content::bytes(half.length) - 4 - 32 * 37;
+    /// One byte of the content at a time set to 4, from the first to the last. Those of the
+    /// width are tested in an ordinary set alone: between two marks 4 does for each of them.
+    pub fn content_bytes(&mut self, half: &Half) {
+        let key = corrections(half.length);
         let flag = |at: usize| (key..key + 32 * 37).contains(&at) && (at - key) % 37 == 36;
-        let tested = |at: usize| at < 20 || flag(at) || at >= content::bytes(half.length);
+        let behind = match half.rule {
+            Rule::Threshold(_) => content::bytes(half.length) - 5,
+            Rule::Between(..) => content::bytes(half.length) - 1,
+        };
+        let tested = |at: usize| at < 20 || flag(at) || at >= behind;
         let end = TEXT_BYTES * content::blocks(half.length);
         for Range { start, end } in steps(0..end) {
             let refusals = (start..end).map(|at| if tested(at) { 11 } else { 0 });
@@ -371,7 +389,7 @@ impl Cases {
     }
 
     /// One byte of the content set to values of which some are in range.
-    fn content_values(&mut self, half: &Half, at: usize, refusals: &[(u8, u32)]) {
+    pub fn content_values(&mut self, half: &Half, at: usize, refusals: &[(u8, u32)]) {
         for (byte, refusal) in refusals {
             let line = format!("content {half} {} {at} {} {byte}", half.last(), at + 1);
             self.answered(line, refusal);
@@ -386,11 +404,11 @@ impl Cases {
         self.content_values(&half, 16, &[(0, 11), (1, 0), (2, 11), (255, 11)]);
         let codes = [(0, 0), (1, 0), (2, 0), (3, 11), (255, 11)];
         self.content_values(&half, 17, &codes);
-        let lengths = [(0, 11), (1, 11), (17, 11), (18, 0), (55, 0), (57, 11)];
+        let lengths = [(0, 11), (1, 11), (17, 11), (18, 0), (55, 11), (57, 11)];
         self.content_values(&half, 18, &lengths);
         self.content_values(&half, 18, &[(58, 11), (255, 11)]);
         self.content_values(&half, 19, &[(0, 0), (1, 11), (2, 11), (255, 11)]);
-        let key = content::bytes(18) - 4 - 32 * 37;
+        let key = corrections(18);
         let flags = [
             (0, 0),
             (1, 0),
@@ -402,13 +420,10 @@ impl Cases {
         ];
         self.content_values(&half, key + 36, &flags);
         self.content_values(&half, key + 31 * 37 + 36, &flags);
-        let end = content::bytes(18);
-        self.content_values(&half, end - 1, &[(0, 0), (255, 0)]);
-        self.content_values(&half, end, &[(0, 0), (1, 11), (128, 11)]);
+        self.content_values(&half, key + 32 * 37 + 3, &[(0, 0), (255, 0)]);
+        self.content_values(&half, content::bytes(18), &[(0, 0), (1, 11), (128, 11)]);
         self.content_values(&half, TEXT_BYTES * 4 - 1, &[(0, 0), (1, 11)]);
 
-        let half = self.half(0, Measure::Scalar, 17);
-        self.content_values(&half, 3 * TEXT_BYTES - 1, &[(0, 0), (255, 0)]);
         let half = self.half(0, Measure::Euclid, MAX_LENGTH);
         self.content_values(&half, 18, &[(0, 0), (1, 11)]);
         self.content_values(&half, 19, &[(0, 11), (1, 11), (2, 0), (3, 11)]);
@@ -419,7 +434,7 @@ impl Cases {
     }
 
     /// A run of bytes of the content, all set to one.
-    fn spread(&mut self, half: &Half, places: Range<usize>, byte: u8, refusal: u32) {
+    pub fn spread(&mut self, half: &Half, places: Range<usize>, byte: u8, refusal: u32) {
         let Range { start, end } = places;
         let line = format!("spread {half} {} {start} {end} {byte}", half.last());
         self.answered(line, refusal);
@@ -430,13 +445,13 @@ impl Cases {
         for (byte, refusal) in [(0, 0), (3, 0), (4, 11), (255, 11)] {
             self.spread(&half, 20..1260, byte, refusal);
         }
-        self.spread(&half, 1260..1452, 0, 0);
-        self.spread(&half, 1260..1452, 255, 11);
+        self.spread(&half, 1265..1452, 0, 0);
+        self.spread(&half, 1265..1452, 255, 11);
         // L = 0 would have three blocks, and L = 514 sixteen: no length is to be tried.
         self.spread(&half, 18..1452, 0, 11);
         let half = self.half(1, Measure::Euclid, MAX_LENGTH);
         self.spread(&half, 18..content::bytes(514), 2, 11);
-        self.spread(&half, 20..content::bytes(MAX_LENGTH), 2, 0);
+        self.spread(&half, 20..content::bytes(MAX_LENGTH) - 5, 2, 0);
         let half = self.half(1, Measure::Hamming, 257);
         self.spread(&half, 18..content::bytes(257), 1, 0);
         self.spread(&half, 18..content::bytes(257) + 1, 1, 11);
@@ -450,7 +465,7 @@ impl Cases {
             let mut half = self.half(1, measure, 2);
             let mut tags = HashSet::new();
             for threshold in [lowest, lowest + 1, highest - 1, highest] {
-                half.threshold = threshold;
+                half.rule = Rule::Threshold(threshold);
                 self.add(format!("tag {half}"));
                 tags.insert(self.last_answer());
             }
@@ -459,14 +474,14 @@ impl Cases {
             self.add(format!("tag {half}"));
             let tag = self.last_answer();
             for threshold in [lowest, lowest + 1] {
-                half.threshold = threshold;
+                half.rule = Rule::Threshold(threshold);
                 self.answered(format!("tag {half}"), &tag);
             }
         }
     }
 
     /// What the case just added is answered by.
-    fn last_answer(&self) -> String {
+    pub fn last_answer(&self) -> String {
         let case = self.list.last().expect("the case just added");
         case.expected.clone()
     }
@@ -489,16 +504,20 @@ pub fn cases() -> Vec<Case> {
     cases.contents();
     cases.spreads();
     cases.thresholds();
+    cases.between_marks();
     cases.list
 }
 
 #[cfg(test)]
 mod tests {
     use super::*;
-    use crate::script::assert_right_short_and_not_repeated;
+    use crate::script::{assert_right_short_and_not_repeated, MAX_STDIN};
 
     #[test]
     fn cases_are_right_short_and_not_repeated() {
-        assert_right_short_and_not_repeated(&cases(), run);
+        let cases = cases();
+        assert_right_short_and_not_repeated(&cases, run);
+        let size: usize = cases.iter().map(|case| case.line.len() + 1).sum();
+        assert!(size <= MAX_STDIN);
     }
 }

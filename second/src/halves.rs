@@ -2,16 +2,16 @@
 //! implementation answers to them, one line each.
 //!
 //! One space stands between two fields, and none at an end. A number is decimal;
-//! set numbers are below 2^64 and all others below 2^32, a negative threshold
+//! set numbers are below 2^64 and all others below 2^32, a negative threshold or mark
 //! standing there plus 2^32. A bytes field has a format of `field`: a seed and a
 //! key are hex or `@N:S`, 32 bytes; a name is hex, 16 bytes.
 //!
-//! HALF stands for eight fields, `PARTY CODE L T NUMBER SEED KEY NAME`: the half
+//! HALF stands for eight fields, `PARTY CODE L RULE NUMBER SEED KEY NAME`: the half
 //! of that party, in range, of the set dealt from this seed under this number, sealed
-//! under this key. LAST is the last number of a box that has otherwise the party,
-//! key and name of the first HALF, and a refusal is the number that examining
-//! bytes answers there, 0 for none. A tag is Poly1305's under the key of bytes 0
-//! to 31.
+//! under this key. RULE is a threshold `T` or two marks `P:Q`. LAST is the last number of
+//! a box that has otherwise the party, key and name of the first HALF, and a refusal is
+//! the number that examining bytes answers there, 0 for none. A tag is Poly1305's under
+//! the key of bytes 0 to 31.
 //!
 //! - `half HALF`: all bytes of the half, as hex.
 //! - `tag HALF`: the tag of all its bytes.
@@ -31,13 +31,20 @@
 //!   with its fill from FROM to TO - 1, this byte being set to BYTE before sealing.
 //! - `spread HALF LAST FROM TO BYTE`: the refusal of the half with all these bytes of
 //!   its content set to BYTE before sealing.
+//! - `before HALF LAST FROM TO`: a refusal for each length from FROM to TO - 1, of the half
+//!   with this L laid out as it was before 02, "Between two marks". L of HALF is in range
+//!   and not used.
 
+use crate::checks::parse_rule;
 use crate::content::{self, Name};
 use crate::dealing;
 use crate::measure::{Measure, MAX_LENGTH};
+use crate::older;
 use crate::refusal;
+use crate::rule::Rule;
 use crate::script::number;
 use crate::sealed::{self, Holder, BLOCK_BYTES};
+use crate::share;
 use crate::{field, poly1305};
 use std::ops::Range;
 
@@ -56,6 +63,7 @@ pub fn run(line: &str) -> Result<String, String> {
         ("mixed", [last, rest @ ..]) => half.mixed(last, rest),
         ("content", [last, from, to, byte]) => half.content(last, from, to, byte),
         ("spread", [last, from, to, byte]) => half.spread(last, from, to, byte),
+        ("before", [last, from, to]) => half.before(last, from, to),
         _ => Err(format!("unknown command: {line}")),
     }
 }
@@ -65,7 +73,7 @@ struct Dealt {
     party: usize,
     measure: Measure,
     length: usize,
-    threshold: i32,
+    rule: Rule,
     number: u64,
     seed: [u8; 32],
     key: [u8; 32],
@@ -75,31 +83,34 @@ struct Dealt {
 impl Dealt {
     /// The half that eight fields stand for, and the fields that follow.
     fn parse<'a, 'b>(fields: &'a [&'b str]) -> Result<(Dealt, &'a [&'b str]), String> {
-        let [party, code, length, threshold, number_field, seed, key, name, rest @ ..] = fields
-        else {
+        let [party, code, length, rule, number_field, seed, key, name, rest @ ..] = fields else {
             return Err("eight fields of a half wanted".to_string());
         };
+        let measure = Measure::from_code(number(code)?).ok_or("no such code")?;
         let dealt = Dealt {
             party: parse_party(party)?,
-            measure: Measure::from_code(number(code)?).ok_or("no such code")?,
+            measure,
             length: number(length)? as usize,
-            threshold: number(threshold)? as i32,
+            rule: parse_rule(measure, rule)?,
             number: set_number(number_field)?,
             seed: field::parse_array(seed)?,
             key: field::parse_array(key)?,
             name: field::parse_array(name)?,
         };
-        let good = (1..=MAX_LENGTH).contains(&dealt.length)
-            && dealt.measure.thresholds().contains(&dealt.threshold);
-        match good {
+        match (1..=MAX_LENGTH).contains(&dealt.length) {
             true => Ok((dealt, rest)),
             false => Err("out of range".to_string()),
         }
     }
 
+    /// The part of the set that is this party's, for vectors of some length.
+    fn part(&self, length: usize) -> share::Half {
+        let parts = dealing::deal(self.measure, length, self.rule, &self.seed);
+        parts[self.party].clone()
+    }
+
     fn plain(&self) -> Vec<u8> {
-        let halves = dealing::deal(self.measure, self.length, self.threshold, &self.seed);
-        content::lay_out(&self.name, &halves[self.party])
+        content::lay_out(&self.name, &self.part(self.length))
     }
 
     fn bytes(&self) -> Vec<u8> {
@@ -194,6 +205,18 @@ impl Dealt {
         plain[places].fill(parse_byte(byte)?);
         let refusal = self.refusal_of_content(&plain, set_number(last)?);
         Ok(refusal.to_string())
+    }
+
+    fn before(&self, last: &str, from: &str, to: &str) -> Result<String, String> {
+        let (last, lengths) = (set_number(last)?, places(from, to, MAX_LENGTH + 1)?);
+        if lengths.start == 0 {
+            return Err("out of range".to_string());
+        }
+        let refusal = |length: usize| {
+            let plain = older::lay_out(&self.name, &self.part(length));
+            self.refusal_of_content(&plain, last)
+        };
+        Ok(each(lengths, refusal))
     }
 }
 

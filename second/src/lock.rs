@@ -26,7 +26,7 @@ impl Lock {
         })
     }
 
-    /// Joins the answers of party 0 and party 1: 1 if the threshold is reached, else 0.
+    /// Joins the answers of party 0 and party 1: 1 if the rule is met, else 0.
     pub fn join(&mut self, answers: [&Answer; 2]) -> Result<u32, Refusal> {
         let [first, second] = answers.map(|answer| answer.label);
         Refusal::Length.unless(first.is_whole() && second.is_whole())?;

@@ -1,23 +1,40 @@
-//! Sets dealt before 02, "Distances mean close", or before 02, "Each level its own nonce":
-//! both are scrapped. Nothing in a half tells that it is one of them: a box loads it, and the
-//! lock refuses what comes of it, as good as always. The tests need some.
+//! Halves from before each of 02's changes to a set: "Distances mean close", "Each level its
+//! own nonce" and "Between two marks". A box refuses them all by 11: they have no width and
+//! no mark, and a width of 0 under mark 0, which the fill gives, or a block too few is what it
+//! finds. The tests need some.
 
+use crate::content::{self, Name, TEXT_BYTES, WIDTH_AND_MARK_BYTES};
 use crate::dcf::{self, Child, Key, Seed};
 use crate::dealing;
 use crate::measure::Measure;
+use crate::rule::Rule;
+use crate::sealed;
 use crate::share::{self, Half};
 
-/// How a node was opened: under a nonce of zeros at every level.
+/// How a node was opened before "Each level its own nonce": under a nonce of zeros at every
+/// level.
 #[inline]
 pub(crate) fn open(seed: &Seed, _level: usize, side: usize) -> Child {
     dcf::open_under(&[0; 3], seed, side)
 }
 
-/// How a set is dealt, from measure, L, threshold and set seed.
+/// How a set was dealt, from measure, L, threshold and set seed.
 pub type Dealing = fn(Measure, usize, i32, &[u8; 32]) -> [Half; 2];
 
-/// Both parties' parts of a set dealt before "Each level its own nonce": all but the key is
-/// what it is now.
+/// Each of them, the oldest first.
+pub const DEALINGS: [Dealing; 3] = [deal_before_distances, deal_before_nonces, deal_before_marks];
+
+/// Both parties' parts of a set dealt before "Between two marks": the words of an ordinary set.
+pub fn deal_before_marks(
+    measure: Measure,
+    length: usize,
+    threshold: i32,
+    seed: &[u8; 32],
+) -> [Half; 2] {
+    dealing::deal(measure, length, Rule::Threshold(threshold), seed)
+}
+
+/// The same for a set dealt before "Each level its own nonce": the key is another one.
 pub fn deal_before_nonces(
     measure: Measure,
     length: usize,
@@ -26,7 +43,7 @@ pub fn deal_before_nonces(
 ) -> [Half; 2] {
     let draws = dealing::draw(seed, length);
     let key = Key::new_over(open, &draws.seeds, draws.r);
-    share::deal(measure, threshold, &draws).map(|half| Half {
+    share::deal(measure, Rule::Threshold(threshold), &draws).map(|half| Half {
         key: key.clone(),
         ..half
     })
@@ -44,25 +61,41 @@ pub fn deal_before_distances(
     halves.map(|half| Half { measure, ..half })
 }
 
+/// The content of a half as it was laid out: without width and mark, and with the fill that
+/// this leaves.
+pub fn lay_out(name: &Name, half: &Half) -> Vec<u8> {
+    let mut content = content::lay_out(name, half);
+    content.truncate(content::bytes(half.own_mask.len()) - WIDTH_AND_MARK_BYTES);
+    content.resize(content.len().next_multiple_of(TEXT_BYTES), 0);
+    content
+}
+
+/// The half of a party as it was laid out, for a door's name and the key of the party's box.
+pub fn half(name: &Name, key: &[u8; 32], number: u64, half: &Half) -> Vec<u8> {
+    sealed::seal(key, number, &lay_out(name, half))
+}
+
 #[cfg(test)]
 mod tests {
     use super::*;
-    use crate::content::{self, Name};
-    use crate::dcf::KEY_BYTES;
     use crate::field;
     use crate::halves;
+    use crate::measure::MAX_LENGTH;
     use crate::message::padded;
-    use crate::sample::Source;
-    use crate::sealed;
-    use std::collections::HashSet;
+    use crate::refusal::Refusal;
+    use crate::sealed::{examine, Holder};
 
-    /// A line of the script of `test_halves`, and the answers that were stored with it.
+    /// What a box of this party says of a half under its number.
+    fn refusal(name: &Name, key: &[u8; 32], party: usize, half: &[u8]) -> Option<Refusal> {
+        let holder = Holder { name, party, key };
+        examine(half, &holder, 0).err()
+    }
+
+    /// A line of the script of `test_halves`, and the tags that were stored with it before
+    /// each of the three changes.
     struct Stored {
         line: &'static str,
-        /// Before "Distances mean close".
-        before_distances: &'static str,
-        /// After that, and before "Each level its own nonce".
-        before_nonces: &'static str,
+        tags: [&'static str; 3],
     }
 
     /// A set of each code, party 0 and party 1. "Distances mean close" moved one word of party
@@ -70,67 +103,79 @@ mod tests {
     const STORED: [Stored; 6] = [
         Stored {
             line: "tag 0 0 18 1073741824 1 @32:90065 @32:97984 4120646f6f72206f6620313620636800",
-            before_distances: "cb64280342333ad869c48fb072535370",
-            before_nonces: "cb64280342333ad869c48fb072535370",
+            tags: [
+                "cb64280342333ad869c48fb072535370",
+                "cb64280342333ad869c48fb072535370",
+                "09d3b94fddfc5ef363554f0d699ffc55",
+            ],
         },
         Stored {
             line: "tag 1 0 18 1073741824 1 @32:90065 @32:5912 4120646f6f72206f6620313620636800",
-            before_distances: "a732e5e433b93f8495abad33b14f7820",
-            before_nonces: "a732e5e433b93f8495abad33b14f7820",
+            tags: [
+                "a732e5e433b93f8495abad33b14f7820",
+                "a732e5e433b93f8495abad33b14f7820",
+                "45160b65d2bdd5c707f7c8c73bc2d4e0",
+            ],
         },
         Stored {
             line: "tag 0 1 18 2147483647 9223372036854775807 @32:27662 @32:35581 \
                    41206400000000000000000000000000",
-            before_distances: "7e3738d456acdf8d0340dc576137fe1f",
-            before_nonces: "7e3738d456acdf8d0340dc576137fe1f",
+            tags: [
+                "7e3738d456acdf8d0340dc576137fe1f",
+                "7e3738d456acdf8d0340dc576137fe1f",
+                "bea6ade81fb86b13e04f9b85c7e08dce",
+            ],
         },
         Stored {
             line: "tag 1 1 18 2147483647 9223372036854775807 @32:27662 @32:43500 \
                    41206400000000000000000000000000",
-            before_distances: "b4abc3888cbfe194cdcaf4eb851f35d3",
-            before_nonces: "bff66e9cffdc3510a6b41baa63ad6271",
+            tags: [
+                "b4abc3888cbfe194cdcaf4eb851f35d3",
+                "bff66e9cffdc3510a6b41baa63ad6271",
+                "3e8d49a10151913db70c31588729f8f8",
+            ],
         },
         Stored {
             line: "tag 0 2 17 513 18446744073709551615 @32:17736 @32:25655 \
                    41206400000000000000000000000000",
-            before_distances: "3f01861d6fee59473b168a7bbdf3f1a8",
-            before_nonces: "3f01861d6fee59473b168a7bbdf3f1a8",
+            tags: [
+                "3f01861d6fee59473b168a7bbdf3f1a8",
+                "3f01861d6fee59473b168a7bbdf3f1a8",
+                "5fc5e51e49e1a39054024c334458fd5a",
+            ],
         },
         Stored {
             line: "tag 1 2 17 513 18446744073709551615 @32:17736 @32:33574 \
                    41206400000000000000000000000000",
-            before_distances: "213e62e1c062809ba954924e9f881b24",
-            before_nonces: "d1940fa9847e0b47f0912b256abf7a07",
+            tags: [
+                "213e62e1c062809ba954924e9f881b24",
+                "d1940fa9847e0b47f0912b256abf7a07",
+                "f4e775527c2f1a3a7ceddf333b7a39b4",
+            ],
         },
     ];
 
-    /// The tag of the half that such a line asks for, dealt before.
+    /// The tag of the half that such a line asks for, dealt before. A box refuses it.
     fn older_tag(deal: Dealing, line: &str) -> String {
         let fields: Vec<&str> = line.split(' ').collect();
         let number = |place: usize| fields[place].parse::<u64>().unwrap();
         let measure = Measure::from_code(number(2) as u32).unwrap();
         let seed = field::parse_array(fields[6]).unwrap();
         let halves = deal(measure, number(3) as usize, number(4) as i32, &seed);
-        let [name, key] = [fields[8], fields[7]];
-        let (name, key) = (field::parse_array(name), field::parse_array(key));
-        let half = &halves[number(1) as usize];
-        let half = sealed::half(&name.unwrap(), &key.unwrap(), number(5), half);
+        let (key, party) = (field::parse_array(fields[7]).unwrap(), number(1) as usize);
+        let name = field::parse_array(fields[8]).unwrap();
+        let half = half(&name, &key, number(5), &halves[party]);
+        let refused = refusal(&name, &key, party, &half);
+        assert_eq!(refused, Some(Refusal::Content), "{line}");
         halves::tag(&half)
     }
 
     /// And no half of today is what was stored.
     #[test]
-    fn halves_are_what_was_stored() {
-        for stored in STORED {
-            let line = stored.line;
-            let tags =
-                [deal_before_distances, deal_before_nonces].map(|deal| older_tag(deal, line));
-            assert_eq!(
-                tags,
-                [stored.before_distances, stored.before_nonces],
-                "{line}"
-            );
-            assert!(!tags.contains(&halves::run(line).unwrap()), "{line}");
+    fn halves_are_what_was_stored_and_are_refused() {
+        for Stored { line, tags } in STORED {
+            assert_eq!(DEALINGS.map(|deal| older_tag(deal, line)), tags, "{line}");
+            assert!(!tags.contains(&&halves::run(line).unwrap()[..]), "{line}");
         }
     }
 
@@ -174,154 +219,34 @@ mod tests {
         let keys = ["#define OLDER_KEY0 ", "#define OLDER_KEY1 "].map(bytes_after);
         let number = number_after("#define OLDER_NUMBER ");
         let dealt = [0, 1].map(|party: usize| {
-            let half = sealed::half(&name, &keys[party], number, &halves[party]);
+            let half = half(&name, &keys[party], number, &halves[party]);
+            let refused = refusal(&name, &keys[party], party, &half);
+            assert_eq!(refused, Some(Refusal::Content));
             field::format(&half)
         });
         assert!(listed() == dealt);
     }
 
-    /// Lengths with thresholds that every code allows.
-    const SIZES: [(usize, i32); 5] = [(1, 1), (2, 0), (17, 513), (18, 100), (512, 2)];
+    /// The lengths at which today's half has a block more.
+    const ONE_BLOCK_MORE: [usize; 9] = [17, 57, 138, 178, 259, 299, 380, 420, 501];
 
-    /// The places at which the contents of two halves differ.
-    fn places(half: &Half, other: &Half) -> Vec<usize> {
+    /// Every older half of every length and code is refused by 11: at those lengths for its
+    /// blocks, and at all others for what its fill says.
+    #[test]
+    fn every_older_half_is_refused() {
         const NAME: Name = *b"Hut 4, east door";
-        let contents = [half, other].map(|half| content::lay_out(&NAME, half));
-        let pairs = contents[0].iter().zip(&contents[1]).enumerate();
-        let differ = pairs.filter(|(_, (byte, other))| byte != other);
-        differ.map(|(place, _)| place).collect()
-    }
-
-    /// The content of a half from before "Each level its own nonce" differs from today's in the
-    /// key alone: there every correction is another one, in each of its words, and so is the
-    /// final word. That all else is what was dealt then, the stored halves tell.
-    #[test]
-    fn only_corrections_and_the_final_word_differ() {
-        for measure in Measure::ALL {
-            for (length, threshold) in SIZES {
-                let seed = [length as u8; 32];
-                let now = dealing::deal(measure, length, threshold, &seed);
-                let before = deal_before_nonces(measure, length, threshold, &seed);
-                for (now, before) in now.iter().zip(&before) {
-                    let places = places(now, before);
-                    let key = content::bytes(length) - KEY_BYTES..content::bytes(length);
-                    assert!(places.iter().all(|place| key.contains(place)));
-                    let corrections = now.key.corrections.iter().zip(&before.key.corrections);
-                    for (now, before) in corrections {
-                        assert!(now.seed.iter().zip(before.seed).all(|(a, b)| *a != b));
-                        assert_ne!(now.word, before.word);
-                    }
-                    assert_ne!(now.key.final_word, before.key.final_word);
+        for length in 1..=MAX_LENGTH {
+            for (turn, deal) in DEALINGS.into_iter().enumerate() {
+                let measure = Measure::ALL[(length + turn) % 3];
+                for half in deal(measure, length, 5, &[length as u8; 32]) {
+                    let plain = lay_out(&NAME, &half);
+                    let fewer = usize::from(ONE_BLOCK_MORE.contains(&length));
+                    let blocks = (1248 + 12 * length).div_ceil(TEXT_BYTES);
+                    assert_eq!(plain.len(), TEXT_BYTES * blocks);
+                    assert_eq!(blocks + fewer, content::blocks(length));
+                    let read = content::read(&plain, &NAME, half.party);
+                    assert_eq!(read, None, "{length}");
                 }
-            }
-        }
-    }
-
-    /// A distance's set from before "Distances mean close" differs from one of after it in
-    /// party 1's r word alone, by twice the threshold.
-    #[test]
-    fn only_the_r_word_of_party_1_differs() {
-        for measure in Measure::ALL {
-            for (length, threshold) in SIZES {
-                let seed = [length as u8; 32];
-                let after = deal_before_nonces(measure, length, threshold, &seed);
-                let before = deal_before_distances(measure, length, threshold, &seed);
-                assert_eq!(after[0], before[0]);
-                let places = places(&after[1], &before[1]);
-                let r = 20 + 12 * length + 4;
-                assert!(places.iter().all(|place| (r..r + 4).contains(place)));
-                assert_eq!(places.is_empty(), !measure.is_distance() || threshold == 0);
-                let apart = after[1].r.wrapping_sub(before[1].r);
-                let twice = if measure.is_distance() { 2 } else { 0 };
-                assert_eq!(apart, twice * threshold as u32);
-            }
-        }
-    }
-
-    /// Call 4 at a box of before "Each level its own nonce".
-    fn older_answer(half: &Half, z: u32) -> u32 {
-        let value = |u| half.key.value_over(open, half.party, &half.seed, u);
-        let answer = value(z.wrapping_add(1 << 31)).wrapping_sub(value(z));
-        answer.wrapping_add(u32::from(half.party == 1 && z < 1 << 31))
-    }
-
-    /// The sum of what two boxes answer to a Z, each a box of today or of before.
-    fn joined(halves: [&Half; 2], older: [bool; 2], z: u32) -> u32 {
-        let [answer0, answer1] = [0, 1].map(|party: usize| match older[party] {
-            true => older_answer(halves[party], z),
-            false => halves[party].answer(z),
-        });
-        answer0.wrapping_add(answer1)
-    }
-
-    /// Checks without a pattern, with thresholds that are just reached or just not: whether it
-    /// is, the set's halves of today and of before "Each level its own nonce", and the vectors.
-    fn checks(count: usize) -> impl Iterator<Item = (bool, [[Half; 2]; 2], [Vec<i32>; 2])> {
-        let mut source = Source(300);
-        (0..count).map(move |turn| {
-            let measure = Measure::ALL[turn % 3];
-            let [x, y] = [(); 2].map(|()| source.vector(measure, 1 + turn % 7));
-            let off = (turn / 3 % 2) as i32 * measure.sign() as i32;
-            let lowest = *measure.thresholds().start();
-            let threshold = lowest.max(measure.of(&x, &y) as i32 + off);
-            let mut seed = [9; 32];
-            seed[..8].copy_from_slice(&(turn as u64).to_le_bytes());
-            let sets = [dealing::deal, deal_before_nonces];
-            let sets = sets.map(|deal| deal(measure, x.len(), threshold, &seed));
-            (measure.reached(&x, &y, threshold), sets, [x, y])
-        })
-    }
-
-    /// A set from before "Each level its own nonce" at the boxes of today. Its corrections fit
-    /// another nonce, so no walk meets the nodes that they were made for: what the two values
-    /// add up to is as good as random, and of 2^32 sums two are a join. So it is with one
-    /// box's half from before and the other's of today, and with a box of before beside one of
-    /// today. Masked vectors and words are the same in all of them: no key is in those.
-    #[test]
-    fn older_sets_do_not_join() {
-        const CHECKS: usize = 600;
-        let mut sums = HashSet::new();
-        for (reached, [now, before], [x, y]) in checks(CHECKS) {
-            let run = share::run(&now, &x, &y);
-            for halves in [
-                before.clone(),
-                [now[0].clone(), before[1].clone()],
-                [before[0].clone(), now[1].clone()],
-            ] {
-                let older = share::run(&halves, &x, &y);
-                assert_eq!((older.masked, older.words), (run.masked.clone(), run.words));
-                assert!(older.joined > 1, "{}", older.joined);
-                sums.insert(older.joined);
-            }
-            let bit = u32::from(reached);
-            assert_eq!(joined([&now[0], &now[1]], [false; 2], run.z), bit);
-            assert_eq!(joined([&before[0], &before[1]], [true; 2], run.z), bit);
-            for older in [[false, true], [true, false]] {
-                for halves in [&now, &before] {
-                    let sum = joined([&halves[0], &halves[1]], older, run.z);
-                    assert!(sum > 1, "{older:?} {sum}");
-                    sums.insert(sum);
-                }
-            }
-        }
-        assert!(sums.len() > 6 * CHECKS, "seven sums of each check");
-    }
-
-    /// A set from before "Distances mean close": the sum that opens is -(measure + T) + r. A box
-    /// of between the two changes joined it, to 0 where the rule says 1; one of today does not.
-    #[test]
-    fn older_distances_do_not_join() {
-        let (x, y) = ([1, 0, 1, 1], [1, 1, 0, 1]);
-        for measure in [Measure::Euclid, Measure::Hamming] {
-            for threshold in [2, 3, 513] {
-                let before = deal_before_distances(measure, 4, threshold, &[4; 32]);
-                let run = share::run(&before, &x, &y);
-                let sum = -(measure.of(&x, &y) as i32) - threshold;
-                let r = dealing::draw(&[4; 32], 4).r;
-                assert_eq!(run.z, r.wrapping_add(sum as u32));
-                assert!(measure.reached(&x, &y, threshold));
-                assert_eq!(joined([&before[0], &before[1]], [true; 2], run.z), 0);
-                assert!(run.joined > 1);
             }
         }
     }

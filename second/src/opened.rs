@@ -21,6 +21,8 @@ pub struct OpenedSet {
     pub r: u32,
     pub seed: Seed,
     pub key: Key,
+    pub width: u32,
+    pub mark: u32,
 }
 
 pub const NO_SET: OpenedSet = OpenedSet {
@@ -34,6 +36,8 @@ pub const NO_SET: OpenedSet = OpenedSet {
     r: 0,
     seed: [0; 8],
     key: dcf::NO_KEY,
+    width: 0,
+    mark: 0,
 };
 
 /// Words with zeros behind them.
@@ -57,6 +61,8 @@ impl OpenedSet {
             r: half.r,
             seed: half.seed,
             key: half.key.clone(),
+            width: half.width,
+            mark: half.mark,
         }
     }
 
@@ -91,6 +97,8 @@ impl OpenedSet {
             r: self.r,
             seed: self.seed,
             key: self.key.clone(),
+            width: self.width,
+            mark: self.mark,
         }
     }
 }

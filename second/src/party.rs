@@ -1,5 +1,6 @@
 //! A box and its calls: 01, "One check at a box" and "When a call is turned down", and 02,
-//! "Load ahead".
+//! "Load ahead". Width and mark of a state are what its set brought, or what the host put
+//! there: no call tests them.
 
 use crate::content::Name;
 use crate::measure::MAX_LENGTH;
@@ -221,6 +222,7 @@ pub mod tests {
     use crate::measure::Measure;
     use crate::message::ANSWER;
     use crate::refusal;
+    use crate::rule::Rule::{self, Between, Threshold};
     use crate::sample::Source;
     use crate::share;
 
@@ -233,12 +235,12 @@ pub mod tests {
     }
 
     /// The halves of a set under this number.
-    pub fn dealt_as(number: u64, measure: Measure, length: usize, threshold: i32) -> [Vec<u8>; 2] {
+    pub fn dealt_as(number: u64, measure: Measure, length: usize, rule: Rule) -> [Vec<u8>; 2] {
         let mut dealer = Dealer::start(b"Hut 4", 10, [&KEYS[0], &KEYS[1]]).unwrap();
         let order = Order {
             code: measure.code().into(),
             length: length as u64,
-            threshold: threshold as u32,
+            rule,
             number,
             seed: &[length as u8; 32],
         };
@@ -249,8 +251,8 @@ pub mod tests {
         halves
     }
 
-    fn dealt(measure: Measure, length: usize, threshold: i32) -> [Vec<u8>; 2] {
-        dealt_as(NUMBER, measure, length, threshold)
+    pub fn dealt(measure: Measure, length: usize, rule: Rule) -> [Vec<u8>; 2] {
+        dealt_as(NUMBER, measure, length, rule)
     }
 
     fn words(vector: &[i32]) -> Vec<u32> {
@@ -267,8 +269,8 @@ pub mod tests {
     }
 
     /// One check from the deal to the join, with what each box answers on the way.
-    fn door(measure: Measure, threshold: i32, x: &[i32], y: &[i32]) -> share::Run {
-        let halves = dealt(measure, x.len(), threshold);
+    pub fn door(measure: Measure, rule: Rule, x: &[i32], y: &[i32]) -> share::Run {
+        let halves = dealt(measure, x.len(), rule);
         let mut boxes = [started(0), started(1)];
         let mut masked = [vec![0; x.len()], vec![0; x.len()]];
         for (party, vector) in [(0, x), (1, y)] {
@@ -309,7 +311,7 @@ pub mod tests {
                 let value = measure.of(&x, &y) as i32;
                 for threshold in value - 1..=value + 1 {
                     if measure.thresholds().contains(&threshold) {
-                        let joined = door(measure, threshold, &x, &y).joined;
+                        let joined = door(measure, Threshold(threshold), &x, &y).joined;
                         let reached = match measure {
                             Measure::Scalar => value >= threshold,
                             Measure::Euclid | Measure::Hamming => value <= threshold,
@@ -327,12 +329,14 @@ pub mod tests {
         let mut source = Source(400);
         for measure in Measure::ALL {
             let (x, y) = (source.vector(measure, 20), source.vector(measure, 20));
-            let halves = crate::dealing::deal(measure, 20, 7, &[20; 32]);
-            let expected = share::run(&halves, &x, &y);
-            let run = door(measure, 7, &x, &y);
-            assert_eq!(run.masked, expected.masked);
-            assert_eq!(run.words, expected.words);
-            assert_eq!(run.answers, expected.answers);
+            for rule in [Threshold(7), Between(7, 11)] {
+                let halves = crate::dealing::deal(measure, 20, rule, &[20; 32]);
+                let expected = share::run(&halves, &x, &y);
+                let run = door(measure, rule, &x, &y);
+                assert_eq!(run.masked, expected.masked);
+                assert_eq!(run.words, expected.words);
+                assert_eq!(run.answers, expected.answers);
+            }
         }
     }
 
@@ -340,9 +344,10 @@ pub mod tests {
     #[test]
     fn the_largest_distance() {
         let (x, y) = ([-1024; MAX_LENGTH], [1023; MAX_LENGTH]);
-        assert_eq!(door(Measure::Euclid, 2_145_387_007, &x, &y).joined, 0);
-        assert_eq!(door(Measure::Euclid, 2_145_387_008, &x, &y).joined, 1);
-        assert_eq!(door(Measure::Euclid, 2_145_387_009, &x, &y).joined, 1);
+        for (threshold, bit) in [(2_145_387_007, 0), (2_145_387_008, 1), (2_145_387_009, 1)] {
+            let run = door(Measure::Euclid, Threshold(threshold), &x, &y);
+            assert_eq!(run.joined, bit);
+        }
     }
 
     #[test]
@@ -360,7 +365,7 @@ pub mod tests {
 
     /// A box of party 0 at each phase of a check of length 2, in the order of phases.
     pub fn phases() -> [Party; 4] {
-        let [half, _] = dealt(Measure::Scalar, 2, 0);
+        let [half, _] = dealt(Measure::Scalar, 2, Threshold(0));
         let idle = started(0);
         let mut loaded = idle.clone();
         loaded.load(&half).unwrap();
@@ -374,7 +379,7 @@ pub mod tests {
     /// The refusals of load, mask, take, finish and drop, each with what its own phase
     /// takes. The half is not that of the open set.
     pub fn all_calls(state: &Party) -> [u32; 5] {
-        let [half, _] = dealt_as(NUMBER + 5, Measure::Euclid, 3, 0);
+        let [half, _] = dealt_as(NUMBER + 5, Measure::Euclid, 3, Threshold(0));
         let on = |call: &dyn Fn(&mut Party) -> u32| {
             let mut copy = state.clone();
             let number = call(&mut copy);
@@ -434,13 +439,13 @@ pub mod tests {
         let mut answered = spoken;
         answered.finish(&label(WORD, 1), 7).unwrap();
         assert_eq!(answered, closed);
-        let [half, _] = dealt(Measure::Scalar, 2, 0);
+        let [half, _] = dealt(Measure::Scalar, 2, Threshold(0));
         assert_eq!(closed.load(&half), Err(Refusal::Number));
     }
 
     #[test]
     fn loads_are_refused_in_order() {
-        let [half, _] = dealt(Measure::Scalar, 2, 0);
+        let [half, _] = dealt(Measure::Scalar, 2, Threshold(0));
         let mut broken = half.clone();
         broken[100] ^= 1;
         let mut idle = started(0);

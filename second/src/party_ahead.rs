@@ -2,17 +2,20 @@
 
 use crate::measure::Measure;
 use crate::message::{Label, MASKED_VECTOR, WORD};
-use crate::opened::NO_SET;
+use crate::opened::{OpenedSet, NO_SET};
 use crate::party::tests::{all_calls, dealt_as, label, phases, started, NUMBER};
 use crate::party::{Party, IDLE, LOADED, MASKED, SPOKEN};
 use crate::refusal;
+use crate::rule::Rule::{Between, Threshold};
+use crate::rule::{MARKED, MAX_WIDTH, ORDINARY};
 
 /// The number of the set that waits.
 const NEXT: u64 = NUMBER + 1;
 
-/// The half of party 0 of a set that is not like the open one, which is of code 0 and L 2.
+/// The half of party 0 of a set that is not like the open one, which is of code 0 and L 2 and
+/// ordinary.
 fn half_of(number: u64) -> Vec<u8> {
-    let [half, _] = dealt_as(number, Measure::Euclid, 3, 50);
+    let [half, _] = dealt_as(number, Measure::Euclid, 3, Between(50, 57));
     half
 }
 
@@ -78,6 +81,27 @@ fn the_open_check_goes_on_as_if_nothing_waited() {
     assert_eq!(state, loaded_alone());
 }
 
+/// Width and mark belong to each of the two sets, and go with the one that opens.
+#[test]
+fn widths_and_marks_go_with_their_sets() {
+    let carried = |set: &OpenedSet| (set.width, set.mark);
+    for mut state in waiting() {
+        assert_eq!(carried(&state.set), (MAX_WIDTH, ORDINARY));
+        assert_eq!(carried(&state.waiting), (7, MARKED));
+        state.drop_set().unwrap();
+        assert_eq!(carried(&state.set), (7, MARKED));
+        assert_eq!(carried(&state.waiting), (0, ORDINARY));
+        let [ordinary, _] = dealt_as(NEXT + 1, Measure::Hamming, 1, Threshold(1));
+        state.load(&ordinary).unwrap();
+        assert_eq!(carried(&state.set), (7, MARKED));
+        assert_eq!(carried(&state.waiting), (MAX_WIDTH, ORDINARY));
+        state.drop_set().unwrap();
+        assert_eq!(carried(&state.set), (MAX_WIDTH, ORDINARY));
+        state.drop_set().unwrap();
+        assert_eq!(carried(&state.set), (0, ORDINARY));
+    }
+}
+
 #[test]
 fn a_second_load_ahead_is_out_of_turn() {
     let good = half_of(NEXT + 1);
@@ -96,8 +120,8 @@ fn halves_ahead_are_refused_in_order() {
     let [_, open @ ..] = phases();
     let mut broken = half_of(NEXT);
     broken[100] ^= 1;
-    let [cut, _] = dealt_as(NEXT, Measure::Euclid, 18, 50);
-    let [_, of_office] = dealt_as(NEXT, Measure::Euclid, 3, 50);
+    let [cut, _] = dealt_as(NEXT, Measure::Euclid, 18, Threshold(50));
+    let [_, of_office] = dealt_as(NEXT, Measure::Euclid, 3, Threshold(50));
     for state in open {
         assert_eq!(load(&state, &[]), 4);
         assert_eq!(load(&state, &broken[..1535]), 4);

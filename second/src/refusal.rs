@@ -1,4 +1,4 @@
-//! Why a call is turned down: 01, "When a call is turned down".
+//! Why a call is turned down: 01, "When a call is turned down", and 02.
 
 /// What is wrong, each under its number.
 #[derive(Clone, Copy, Debug, PartialEq, Eq)]
@@ -15,6 +15,7 @@ pub enum Refusal {
     Block = 10,
     Content = 11,
     Sum = 12,
+    Marks = 13,
 }
 
 impl Refusal {

@@ -10,8 +10,9 @@
 //!
 //! - `dealer NAME KEY0 KEY1 FLOOR`, `party BOX NAME PARTY KEY FLOOR` and
 //!   `lock NAME FLOOR`: the starts.
-//! - `deal NUMBER SEED CODE L T ROOM0 ROOM1`: a deal into buffers of ROOM0 and ROOM1
-//!   bytes (at most 8,704), filled with 170 before.
+//! - `deal NUMBER SEED CODE L RULE ROOM0 ROOM1`: a deal into buffers of ROOM0 and ROOM1
+//!   bytes (at most 8,704), filled with 170 before. RULE is a threshold `T` or two marks
+//!   `P:Q`.
 //! - `load BOX FROM K BYTES AT`: a load of the first BYTES bytes of the half that the
 //!   K-th accepted deal before the newest (K from 0 to 3) wrote for FROM, followed by
 //!   its first block again; the byte AT is xored with 1 where AT is below BYTES.
@@ -32,12 +33,13 @@
 //!   may.
 //! - `waiting BOX NUMBER CODE L`: puts these numbers into the box's waiting set, as a host
 //!   may.
+//! - `width BOX WIDTH MARK`: puts these numbers into the box's open set, as a host may.
 //! - `show PART`: the tag of the state of `dealer`, `camera`, `office` or `lock`.
 //!
 //! Before the first start every state is zero. A refused call is answered by its
 //! number alone, an accepted one by `0` and then, each after a space: a deal, the tags
 //! of its two buffers; call 2, that of its buffer; call 3, the word; call 4, the
-//! answer; the join, 0 or 1. `put` and `waiting` are answered by `put`. A tag is
+//! answer; the join, 0 or 1. `put`, `waiting` and `width` are answered by `put`. A tag is
 //! Poly1305's under the key of bytes 0 to 31, of a state's bytes as in `replay_states`.
 //! A line that is none of these is answered by `bad line N`, counted from 1, and changes
 //! nothing.
@@ -50,6 +52,7 @@ use crate::message::Label;
 use crate::party::Party;
 use crate::refusal::Refusal;
 use crate::replay_states::{bytes_of, dealer_bytes, lock_bytes, party_bytes};
+use crate::rule::Rule;
 use crate::sealed::{BLOCKS, BLOCK_BYTES};
 use crate::{checks, content};
 use std::collections::VecDeque;
@@ -159,6 +162,7 @@ impl Replay {
             ("host", [name, last, fields @ ..]) => self.host(name, last, fields),
             ("put", [at, numbers @ ..]) => self.put(at, numbers),
             ("waiting", [at, numbers @ ..]) => self.put_waiting(at, numbers),
+            ("width", [at, width, mark]) => self.put_width(at, width, mark),
             ("show", [part]) => self.show(part),
             _ => None,
         }
@@ -198,7 +202,7 @@ impl Replay {
     }
 
     fn deal(&mut self, order: &[&str], rooms: [&str; 2]) -> Option<String> {
-        let [number, seed, code, length, threshold] = order else {
+        let [number, seed, code, length, rule] = order else {
             return None;
         };
         let seed = bytes(seed)?;
@@ -207,7 +211,7 @@ impl Replay {
             seed: &seed,
             code: decimal::<u32>(code)?.into(),
             length: decimal::<u32>(length)?.into(),
-            threshold: decimal(threshold)?,
+            rule: Rule::parse(rule)?,
         };
         let mut buffer0 = vec![BYTE_BEFORE; room(rooms[0], MAX_BYTES)?];
         let mut buffer1 = vec![BYTE_BEFORE; room(rooms[1], MAX_BYTES)?];
@@ -358,6 +362,13 @@ impl Replay {
         Some("put".to_string())
     }
 
+    fn put_width(&mut self, at: &str, width: &str, mark: &str) -> Option<String> {
+        let (at, width, mark) = (place(at)?, decimal(width)?, decimal(mark)?);
+        let set = &mut self.boxes[at].set;
+        (set.width, set.mark) = (width, mark);
+        Some("put".to_string())
+    }
+
     fn show(&self, part: &str) -> Option<String> {
         let state = match part {
             "dealer" => dealer_bytes(&self.dealer),
@@ -421,8 +432,8 @@ pub mod tests {
     }
 
     /// A check under number 1, the squared Euclid line of 01, up to its join.
-    pub fn checked(replay: &mut Replay, threshold: u32) -> String {
-        let deal = format!("deal 1 @32:3 1 2 {threshold} 1536 2048");
+    pub fn checked(replay: &mut Replay, rule: &str) -> String {
+        let deal = format!("deal 1 @32:3 1 2 {rule} 1536 2048");
         assert!(replay.answer(&deal).starts_with("0 "));
         for (at, vector) in [
             ("camera", "03000000fcffffff"),
@@ -452,56 +463,68 @@ pub mod tests {
 
     #[test]
     fn a_check_is_answered() {
-        assert_eq!(checked(&mut started(), 81), "0 0");
-        assert_eq!(checked(&mut started(), 82), "0 1");
-        assert_eq!(checked(&mut started(), 83), "0 1");
+        for (rule, bit) in [("81", 0), ("82", 1), ("83", 1), ("82:82", 1), ("0:82", 1)] {
+            assert_eq!(checked(&mut started(), rule), format!("0 {bit}"));
+        }
+        for rule in ["0:81", "83:2147483647", "81:81", "83:83"] {
+            assert_eq!(checked(&mut started(), rule), "0 0");
+        }
     }
+
+    /// What is no line of a script after a check.
+    const BAD_LINES: [&str; 41] = [
+        "deal",
+        "drop door",
+        "drop camera ",
+        " drop camera",
+        "drop  camera",
+        "Drop camera",
+        "deal 2 @32:3 1 2 5 1536 8705",
+        "deal 18446744073709551616 @32:3 1 2 5 1536 1536",
+        "deal 2 @32:3 1 2 4294967296 1536 1536",
+        "deal +2 @32:3 1 2 5 1536 1536",
+        "deal -2 @32:3 1 2 5 1536 1536",
+        "deal 2 @+32:3 1 2 5 1536 1536",
+        "deal 2 ~8:3:0:1 1 2 5 1536 1536",
+        "load camera camera 4 1536 0",
+        "load camera camera 1 1536 0",
+        "load camera camera 0 2049 0",
+        "load camera lock 0 1536 0",
+        "mixed camera 3 0 0",
+        "mixed camera 0 0 3",
+        "bytes camera 0G",
+        "mask camera 03000000fcffff 2",
+        "mask camera - 521",
+        "take camera 0 - 1 1 lock",
+        "finish camera 0 - 1 4294967296",
+        "put camera 0 0 0",
+        "deal 2 @32:3 1 2 5: 1536 1536",
+        "deal 2 @32:3 1 2 :5 1536 1536",
+        "deal 2 @32:3 1 2 5:6:7 1536 1536",
+        "deal 2 @32:3 1 2 5:4294967296 1536 1536",
+        "width camera 0",
+        "width camera 0 0 0",
+        "width lock 0 0",
+        "width camera 4294967296 0",
+        "width camera 0 4294967296",
+        "waiting camera 1 0",
+        "waiting camera 1 0 1 0",
+        "waiting lock 1 0 1",
+        "waiting camera 18446744073709551616 0 1",
+        "waiting camera 1 4294967296 1",
+        "waiting camera 1 0 4294967296",
+        "show door",
+    ];
 
     /// What is no line of a script is answered so, and changes nothing.
     #[test]
     fn bad_lines() {
         let mut replay = started();
-        checked(&mut replay, 82);
+        checked(&mut replay, "82");
         let states = ["dealer", "camera", "office", "lock"].map(|part| format!("show {part}"));
         let before = states.clone().map(|line| replay.answer(&line));
         let lines = replay.lines;
-        for (place, bad) in [
-            "deal",
-            "drop door",
-            "drop camera ",
-            " drop camera",
-            "drop  camera",
-            "Drop camera",
-            "deal 2 @32:3 1 2 5 1536 8705",
-            "deal 18446744073709551616 @32:3 1 2 5 1536 1536",
-            "deal 2 @32:3 1 2 4294967296 1536 1536",
-            "deal +2 @32:3 1 2 5 1536 1536",
-            "deal -2 @32:3 1 2 5 1536 1536",
-            "deal 2 @+32:3 1 2 5 1536 1536",
-            "deal 2 ~8:3:0:1 1 2 5 1536 1536",
-            "load camera camera 4 1536 0",
-            "load camera camera 1 1536 0",
-            "load camera camera 0 2049 0",
-            "load camera lock 0 1536 0",
-            "mixed camera 3 0 0",
-            "mixed camera 0 0 3",
-            "bytes camera 0G",
-            "mask camera 03000000fcffff 2",
-            "mask camera - 521",
-            "take camera 0 - 1 1 lock",
-            "finish camera 0 - 1 4294967296",
-            "put camera 0 0 0",
-            "waiting camera 1 0",
-            "waiting camera 1 0 1 0",
-            "waiting lock 1 0 1",
-            "waiting camera 18446744073709551616 0 1",
-            "waiting camera 1 4294967296 1",
-            "waiting camera 1 0 4294967296",
-            "show door",
-        ]
-        .into_iter()
-        .enumerate()
-        {
+        for (place, bad) in BAD_LINES.into_iter().enumerate() {
             let number = lines + 1 + place;
             assert_eq!(replay.answer(bad), format!("bad line {number}"), "{bad}");
         }

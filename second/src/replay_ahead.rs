@@ -9,7 +9,7 @@ use crate::replay::BOXES;
 use crate::replay_script::{choices, Message, Script, NOWHERE};
 
 /// The phases with a set open.
-const OPEN: [u32; 3] = [LOADED, MASKED, SPOKEN];
+pub const OPEN: [u32; 3] = [LOADED, MASKED, SPOKEN];
 
 /// A vector of as many ones.
 fn ones(length: u32) -> String {
@@ -19,7 +19,7 @@ fn ones(length: u32) -> String {
 impl Script {
     /// Brings a box from the load of its open set to this phase, with messages that nobody
     /// sent.
-    fn brought_to(&mut self, at: usize, phase: u32) {
+    pub fn brought_to(&mut self, at: usize, phase: u32) {
         let (number, length) = (self.open(at), self.replay.boxes[at].set.length);
         if phase >= MASKED {
             assert_eq!(self.mask(at, &ones(length), length as usize), 0);
@@ -46,7 +46,7 @@ impl Script {
     }
 
     /// Calls that are refused and leave the box's state as it was, which is then shown.
-    fn kept(&mut self, at: usize, lines: &[(String, u32)]) {
+    pub fn kept(&mut self, at: usize, lines: &[(String, u32)]) {
         let before = self.replay.boxes[at].clone();
         for (line, refusal) in lines {
             self.answered(line, refusal);
@@ -115,7 +115,7 @@ impl Script {
 
     /// A set that waited until the one of this number ended is open now, as a load leaves it
     /// at a box that is started anew.
-    fn is_as_after_a_load(&mut self, at: usize, ended: u64) {
+    pub fn is_as_after_a_load(&mut self, at: usize, ended: u64) {
         let promoted = self.show(BOXES[at]);
         let (name, key) = (&self.door.bare, &self.door.keys[at]);
         self.accepted(format!("party {} {name} {at} {key} {ended}", BOXES[at]));

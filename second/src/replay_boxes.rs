@@ -7,6 +7,7 @@ use crate::field;
 use crate::measure::{Measure, MAX_LENGTH};
 use crate::replay::BOXES;
 use crate::replay_script::{choices, hex_words, Message, Script, NOWHERE};
+use crate::rule::Rule;
 use crate::sealed;
 
 impl Script {
@@ -140,7 +141,7 @@ impl Script {
         self.answered(format!("party camera {name} 0 {key1} 1"), 0);
         self.answered(self.load_line(0, 0), 7);
         self.answered(format!("party camera {name} 0 {key1} 0"), 0);
-        self.answered(format!("load camera office 0 1536 {NOWHERE}"), 11);
+        self.answered(format!("load camera office 0 2048 {NOWHERE}"), 11);
     }
 
     /// Halves that are sealed well, with something wrong in their content: what other boxes
@@ -149,16 +150,25 @@ impl Script {
         self.start("Hut 4", [0; 4]);
         let key = field::parse_array(&self.door.keys[0]).expect("a key");
         let name = field::parse_array(&self.door.padded).expect("a name");
-        let [half, _] = dealing::deal(Measure::Scalar, 1, 0, &[9; 32]);
-        let plain = content::lay_out(&name, &half);
-        // The first flag byte of L = 1, and the first byte of the fill.
+        let plain = |length: usize, rule: Rule| {
+            let [half, _] = dealing::deal(Measure::Scalar, length, rule, &[9; 32]);
+            content::lay_out(&name, &half)
+        };
+        let (ordinary, equal) = (plain(1, Rule::Threshold(0)), plain(1, Rule::Between(6, 6)));
+        // The first flag byte of L = 1, and the first byte of the fill. Before that is the
+        // mark, and before the mark the highest and the lowest byte of the width.
         let (flags, fill) = (20 + 12 + 8 + 32 + 36, content::bytes(1));
-        for (place, byte, refusal) in [
-            (17, 3, 11),
-            (18, 0, 11),
-            (flags, 4, 11),
-            (fill, 1, 11),
-            (20, 0, 0),
+        for (plain, place, byte, refusal) in [
+            (&ordinary, 17, 3, 11),
+            (&ordinary, 18, 0, 11),
+            (&plain(0, Rule::Threshold(0)), 18, 0, 11),
+            (&ordinary, flags, 4, 11),
+            (&ordinary, fill, 1, 11),
+            (&ordinary, fill - 1, 2, 11),
+            (&ordinary, fill - 5, 254, 11),
+            (&equal, fill - 1, 0, 11),
+            (&equal, fill - 2, 128, 11),
+            (&equal, fill - 2, 127, 0),
         ] {
             let mut plain = plain.clone();
             plain[place] = byte;

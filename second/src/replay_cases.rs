@@ -1,15 +1,67 @@
 //! The script of the program `test_replay`: whole checks (`replay_checks`), every refusal of
 //! every call with every other one that may apply beside it (here, and `replay_boxes`),
-//! states that no call leaves, sets loaded ahead (`replay_ahead`, `replay_pairs`), and
-//! lists of calls as a bad network and a careless host make them (`replay_lists`), and
-//! sets dealt before (`replay_older`). What is refused, and by which number, stands here
-//! and is not asked of this implementation; so does every joined bit.
+//! states that no call leaves, sets loaded ahead (`replay_ahead`, `replay_pairs`), sets
+//! between two marks (`replay_marks`), lists of calls as a bad network and a careless host
+//! make them (`replay_lists`), and halves from before (`replay_older`). What is refused, and
+//! by which number, stands here and is not asked of this implementation; so does every
+//! joined bit.
 
 use crate::field;
 use crate::measure::{Measure, MAX_LENGTH};
 use crate::replay::BOXES;
 use crate::replay_script::{choices, half_bytes, other_names, Deal, Join, Message, Script};
+use crate::rule::Rule;
 use crate::script::Case;
+
+/// What is no line of a script.
+const BAD_LINES: [&str; 46] = [
+    "bad",
+    "drop",
+    "drop door",
+    "drop camera office",
+    "drop  camera",
+    "drop camera ",
+    " drop camera",
+    "lock 4a -1",
+    "lock 4a 18446744073709551616",
+    "lock 4 1",
+    "lock 4A 1",
+    "party camera 4a 4294967296 @32:1 0",
+    "deal 90000000 @32:1 0 1 0 1536 8705",
+    "deal 90000000 @32:1 0 1 4294967296 1536 1536",
+    "deal 90000000 @32:1 0 1 0 1536",
+    "load camera camera 4 1536 0",
+    "load camera lock 0 1536 0",
+    "load camera camera 0 8705 0",
+    "mask camera 010000 1",
+    "mask camera 01000000 521",
+    "take camera 0 - 1 1 lock",
+    "finish camera 1 - 1 1 4294967296",
+    "join 2 - 0 1 camera 2 - 1 1",
+    "deal 90000000 @32:1 0 1 5: 1536 1536",
+    "deal 90000000 @32:1 0 1 :5 1536 1536",
+    "deal 90000000 @32:1 0 1 5:6:7 1536 1536",
+    "deal 90000000 @32:1 0 1 4294967296:5 1536 1536",
+    "deal 90000000 @32:1 0 1 5:4294967296 1536 1536",
+    "deal 90000000 @32:1 0 1 -1:5 1536 1536",
+    "deal 90000000 @32:1 0 1 5 6 1536 1536",
+    "put camera 0 0 0",
+    "width camera 0",
+    "width camera 0 0 0",
+    "width lock 0 0",
+    "width office 4294967296 0",
+    "width office 0 4294967296",
+    "width office 0 -",
+    "waiting camera 1 0",
+    "waiting camera 1 0 1 0",
+    "waiting lock 1 0 1",
+    "waiting office 18446744073709551616 0 1",
+    "waiting office 1 4294967296 1",
+    "waiting office 1 0 4294967296",
+    "waiting office 1 0 -",
+    "show door",
+    "show",
+];
 
 impl Script {
     /// Calls on states that are all zero.
@@ -96,7 +148,7 @@ impl Script {
     }
 
     /// What makes a deal one that is refused by this number.
-    fn spoil_deal(&self, deal: &mut Deal, refusal: u32, variant: usize) {
+    pub fn spoil_deal(&self, deal: &mut Deal, refusal: u32, variant: usize) {
         let last = self.replay.dealer.last;
         match (refusal, variant) {
             (2, _) => deal.code = [3, 256, u32::MAX][variant],
@@ -107,7 +159,7 @@ impl Script {
             (5, 1) => deal.rooms[1] -= 1,
             (5, _) => deal.rooms = [0, 0],
             (7, _) => deal.number = [last, 0, last - 1][variant],
-            (8, _) => deal.threshold = [(1 << 30) + 1, 1 << 31, 514][variant],
+            (8, _) => deal.rule = [(1 << 30) + 1, i32::MIN, 514][variant].into(),
             _ => unreachable!("a deal has no refusal {refusal}"),
         }
     }
@@ -143,8 +195,12 @@ impl Script {
 
     /// Just as much room as is needed, a byte less, and more.
     fn rooms(&mut self) {
-        for length in [1, 17, 18, 138, 139, 501, 502, MAX_LENGTH] {
-            let deal = self.new_deal(self.next_number() + 2, Measure::Hamming, length, 7);
+        for length in [1, 16, 17, 56, 57, 138, 501, MAX_LENGTH] {
+            let rule = match length % 2 {
+                0 => Rule::Threshold(7),
+                _ => Rule::Between(7, 9),
+            };
+            let deal = self.new_deal(self.next_number() + 2, Measure::Hamming, length, rule);
             for (rooms, refusal) in [
                 ([half_bytes(length) - 1, 8704], 5),
                 ([8704, half_bytes(length) - 1], 5),
@@ -291,44 +347,10 @@ impl Script {
         }
     }
 
-    /// What is no line of a script.
+    /// None of them changes a state.
     fn bad_lines(&mut self) {
         let before = self.show_all();
-        for line in [
-            "bad",
-            "drop",
-            "drop door",
-            "drop camera office",
-            "drop  camera",
-            "drop camera ",
-            " drop camera",
-            "lock 4a -1",
-            "lock 4a 18446744073709551616",
-            "lock 4 1",
-            "lock 4A 1",
-            "party camera 4a 4294967296 @32:1 0",
-            "deal 90000000 @32:1 0 1 0 1536 8705",
-            "deal 90000000 @32:1 0 1 4294967296 1536 1536",
-            "deal 90000000 @32:1 0 1 0 1536",
-            "load camera camera 4 1536 0",
-            "load camera lock 0 1536 0",
-            "load camera camera 0 8705 0",
-            "mask camera 010000 1",
-            "mask camera 01000000 521",
-            "take camera 0 - 1 1 lock",
-            "finish camera 1 - 1 1 4294967296",
-            "join 2 - 0 1 camera 2 - 1 1",
-            "put camera 0 0 0",
-            "waiting camera 1 0",
-            "waiting camera 1 0 1 0",
-            "waiting lock 1 0 1",
-            "waiting office 18446744073709551616 0 1",
-            "waiting office 1 4294967296 1",
-            "waiting office 1 0 4294967296",
-            "waiting office 1 0 -",
-            "show door",
-            "show",
-        ] {
+        for line in BAD_LINES {
             let place = self.list.len() + 1;
             self.answered(line, format!("bad line {place}"));
         }
@@ -367,6 +389,7 @@ pub fn cases() -> Vec<Case> {
     script.lists();
     script.distances();
     script.older_sets();
+    script.between_marks();
     script.list
 }
 
@@ -374,12 +397,11 @@ pub fn cases() -> Vec<Case> {
 mod tests {
     use super::*;
     use crate::replay::Replay;
-    use crate::script::MAX_LINE;
+    use crate::script::{MAX_LINE, MAX_STDIN};
     use std::collections::BTreeMap;
 
-    /// The most bytes of the script and of its answers.
-    const MAX_STDIN: usize = 524_000;
-    const MAX_STDOUT: usize = 120_000;
+    /// The most bytes of the answers.
+    const MAX_STDOUT: usize = 150_000;
 
     #[test]
     fn cases_are_right_and_not_too_long() {
@@ -395,15 +417,17 @@ mod tests {
         assert!((0..=MAX_STDOUT).contains(&size(|case| &case.expected)));
     }
 
-    /// How often each call is answered by each number.
+    /// How often each call is answered by each number. A deal between two marks is a call of
+    /// its own.
     fn answers() -> BTreeMap<(String, u32), usize> {
         let mut answers = BTreeMap::new();
         for case in cases() {
-            let command = case.line.split(' ').next().unwrap();
+            let fields: Vec<&str> = case.line.split(' ').collect();
             let number = case.expected.split(' ').next().unwrap();
-            let command = match command {
+            let command = match fields[0] {
                 "mixed" | "bytes" => "load",
-                _ => command,
+                "deal" if fields[5].contains(':') => "deal between",
+                command => command,
             };
             if let Ok(number) = number.parse() {
                 *answers.entry((command.to_string(), number)).or_default() += 1;
@@ -419,6 +443,7 @@ mod tests {
         let mut expected = Vec::new();
         for (command, numbers) in [
             ("deal", &[0, 2, 4, 5, 7, 8][..]),
+            ("deal between", &[0, 2, 4, 5, 7, 8, 13]),
             ("dealer", &[0, 1, 4, 9]),
             ("drop", &[0, 3]),
             ("finish", &[0, 3, 4, 6, 7]),

@@ -1,13 +1,15 @@
 //! The whole checks in the script of `test_replay`: every call accepted, in many orders, and
-//! the joined bit that of the measure over whole numbers. Then checks that end early.
+//! the joined bit that of the measure over whole numbers. Then checks that end early. Those
+//! between two marks are in `replay_marks`.
 
 use crate::checks::vector;
 use crate::measure::{Measure, MAX_LENGTH};
 use crate::replay::BOXES;
 use crate::replay_script::{hex_words, Deal, Script};
+use crate::rule::Rule;
 
 /// Lengths at the edges, and where the count of blocks changes.
-const LENGTHS: [usize; 5] = [1, 2, 17, 18, MAX_LENGTH];
+const LENGTHS: [usize; 5] = [1, 16, 17, 18, MAX_LENGTH];
 
 /// A threshold, by where it lies.
 #[derive(Clone, Copy)]
@@ -29,7 +31,13 @@ const THRESHOLDS: [Threshold; 4] = [
 pub struct Check {
     pub deal: Deal,
     pub vectors: [String; 2],
-    pub reached: bool,
+    pub met: bool,
+}
+
+/// The measure of two vector fields.
+pub fn value_of(measure: Measure, vectors: &[String; 2]) -> i64 {
+    let [x, y] = [0, 1].map(|at: usize| vector(&vectors[at]).expect("a vector"));
+    measure.of(&x, &y)
 }
 
 /// The calls of a check; a number is a box's place.
@@ -56,6 +64,17 @@ pub const STEPS: [Step; 10] = [
     Load(1),
     Mask(1),
     Take(1),
+    Finish(1),
+    Step::Join,
+];
+
+/// The calls of a check from call 2 on, both boxes by turns.
+pub const AFTER_LOADS: [Step; 7] = [
+    Mask(0),
+    Mask(1),
+    Take(0),
+    Take(1),
+    Finish(0),
     Finish(1),
     Step::Join,
 ];
@@ -105,13 +124,19 @@ impl Step {
 }
 
 impl Script {
-    pub fn check(&mut self, measure: Measure, vectors: [String; 2], threshold: i32) -> Check {
+    pub fn check(
+        &mut self,
+        measure: Measure,
+        vectors: [String; 2],
+        rule: impl Into<Rule>,
+    ) -> Check {
+        let rule = rule.into();
         let [x, y] = [0, 1].map(|at: usize| vector(&vectors[at]).expect("a vector"));
         let number = self.next_number() + self.below(3) as u64;
         Check {
-            deal: self.new_deal(number, measure, x.len(), threshold),
+            deal: self.new_deal(number, measure, x.len(), rule),
             vectors,
-            reached: measure.reached(&x, &y, threshold),
+            met: measure.meets(&x, &y, rule),
         }
     }
 
@@ -162,7 +187,7 @@ impl Script {
             done.push(step);
         }
         let bit = self.claim.joined[&check.deal.number];
-        assert_eq!(bit, u32::from(check.reached), "{}", check.deal);
+        assert_eq!(bit, u32::from(check.met), "{}", check.deal);
     }
 
     pub fn whole_checks(&mut self) {
@@ -173,8 +198,7 @@ impl Script {
             for measure in Measure::ALL {
                 for threshold in THRESHOLDS {
                     let vectors = [self.vector(measure, length), self.vector(measure, length)];
-                    let [x, y] = [0, 1].map(|at: usize| vector(&vectors[at]).unwrap());
-                    let value = measure.of(&x, &y) as i32;
+                    let value = value_of(measure, &vectors) as i32;
                     let threshold = match threshold {
                         Threshold::Measure => value,
                         Threshold::OneAbove => value + 1,
@@ -203,9 +227,9 @@ impl Script {
             (Measure::Hamming, 2, [bits, others]),
             (Measure::Euclid, 2_145_387_008, [all(-1024), all(1023)]),
         ] {
-            for (threshold, reached) in [(value, true), (value + 1, measure.is_distance())] {
+            for (threshold, met) in [(value, true), (value + 1, measure.is_distance())] {
                 let check = self.check(measure, vectors.clone(), threshold);
-                assert_eq!(check.reached, reached);
+                assert_eq!(check.met, met);
                 self.whole_check(&check, 2);
                 self.host_and_join(&self.join_of(check.deal.number));
             }
@@ -218,7 +242,7 @@ impl Script {
         let all = |element: i32| format!("~512:0:{}:0", element as u32);
         let vectors = [all(-1024), all(1023)];
         let check = self.check(Measure::Euclid, vectors, 2_145_387_007);
-        assert!(!check.reached);
+        assert!(!check.met);
         self.whole_check(&check, 2);
     }
 

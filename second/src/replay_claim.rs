@@ -1,16 +1,17 @@
 //! What 01, "A door's list of calls", claims of every list: no part accepts a set number
 //! twice, and an accepted join says whether the measure of the two vectors, taken over
-//! whole numbers, reaches the threshold. And what 02, "Load ahead", adds: a box holds two
-//! sets at most, their numbers rise, and it sends under the first of them alone.
+//! whole numbers, meets the rule that was dealt. And what 02, "Load ahead", adds: a box holds
+//! two sets at most, their numbers rise, and it sends under the first of them alone.
 
 use crate::measure::Measure;
+use crate::rule::Rule;
 use std::collections::{BTreeMap, BTreeSet, VecDeque};
 use std::fmt::Debug;
 
 /// What has been accepted in a door's list of calls, by set number.
 #[derive(Default)]
 pub struct Claim {
-    pub deals: BTreeMap<u64, (Measure, i32)>,
+    pub deals: BTreeMap<u64, (Measure, Rule)>,
     pub boxes: [AtBox; 2],
     pub joined: BTreeMap<u64, u32>,
     /// Numbers under which a message was taken that had not been sent so: of these
@@ -34,8 +35,8 @@ pub struct AtBox {
 }
 
 impl Claim {
-    pub fn deal(&mut self, number: u64, measure: Measure, threshold: i32) {
-        once(self.off, &mut self.deals, number, (measure, threshold));
+    pub fn deal(&mut self, number: u64, measure: Measure, rule: Rule) {
+        once(self.off, &mut self.deals, number, (measure, rule));
     }
 
     pub fn load(&mut self, at: usize, number: u64) {
@@ -91,10 +92,10 @@ impl Claim {
         if self.off || self.forged.contains(&number) {
             return;
         }
-        let (measure, threshold) = self.deals[&number];
+        let (measure, rule) = self.deals[&number];
         let [x, y] = [0, 1].map(|at: usize| &self.boxes[at].vectors[&number]);
-        let reached = measure.reached(x, y, threshold);
-        assert_eq!(bit, u32::from(reached), "the join of {number}");
+        let met = measure.meets(x, y, rule);
+        assert_eq!(bit, u32::from(met), "the join of {number}");
     }
 }
 
@@ -107,12 +108,13 @@ fn once<T: Debug>(off: bool, accepted: &mut BTreeMap<u64, T>, number: u64, what:
 #[cfg(test)]
 mod tests {
     use super::*;
+    use crate::rule::Rule::{Between, Threshold};
 
     /// A check under number 5 up to its join, on the vectors of 01 whose scalar product is
     /// -14 and whose squared Euclid 82.
-    fn answered_by(measure: Measure, threshold: i32) -> Claim {
+    fn answered_by(measure: Measure, rule: Rule) -> Claim {
         let mut claim = Claim::default();
-        claim.deal(5, measure, threshold);
+        claim.deal(5, measure, rule);
         for (at, vector) in [(0, vec![3, -4]), (1, vec![2, 5])] {
             claim.load(at, 5);
             claim.mask(at, 5, vector, vec![at as u32, 9]);
@@ -125,20 +127,27 @@ mod tests {
     }
 
     fn answered(threshold: i32) -> Claim {
-        answered_by(Measure::Scalar, threshold)
+        answered_by(Measure::Scalar, Threshold(threshold))
     }
 
     #[test]
     fn a_join_must_be_right() {
-        for (measure, threshold, bit) in [
-            (Measure::Scalar, -14, 1),
-            (Measure::Scalar, -13, 0),
-            (Measure::Euclid, 81, 0),
-            (Measure::Euclid, 82, 1),
-            (Measure::Euclid, 83, 1),
+        for (measure, rule, bit) in [
+            (Measure::Scalar, Threshold(-14), 1),
+            (Measure::Scalar, Threshold(-13), 0),
+            (Measure::Scalar, Between(-14, -14), 1),
+            (Measure::Scalar, Between(-13, 9), 0),
+            (Measure::Scalar, Between(-99, -15), 0),
+            (Measure::Euclid, Threshold(81), 0),
+            (Measure::Euclid, Threshold(82), 1),
+            (Measure::Euclid, Threshold(83), 1),
+            (Measure::Euclid, Between(0, 81), 0),
+            (Measure::Euclid, Between(1, 82), 1),
+            (Measure::Euclid, Between(82, 83), 1),
+            (Measure::Euclid, Between(83, 84), 0),
         ] {
-            answered_by(measure, threshold).join(5, [100, 101], bit);
-            let mut claim = answered_by(measure, threshold);
+            answered_by(measure, rule).join(5, [100, 101], bit);
+            let mut claim = answered_by(measure, rule);
             let join = std::panic::AssertUnwindSafe(|| claim.join(5, [100, 101], 1 - bit));
             assert!(std::panic::catch_unwind(join).is_err());
         }
@@ -161,7 +170,7 @@ mod tests {
     #[test]
     #[should_panic(expected = "5 again")]
     fn no_number_is_used_twice() {
-        answered(0).deal(5, Measure::Scalar, 0);
+        answered(0).deal(5, Measure::Scalar, Threshold(0));
     }
 
     #[test]

@@ -6,6 +6,7 @@ use crate::message::{ANSWER, MASKED_VECTOR, WORD};
 use crate::party::{IDLE, LOADED, MASKED, SPOKEN};
 use crate::replay::BOXES;
 use crate::replay_script::{half_bytes, hex_words, Join, Message, Script, NOWHERE};
+use crate::rule::{Rule, MAX_WIDTH};
 
 /// The longest vector that is written out in a line.
 const MAX_WRITTEN: usize = 18;
@@ -160,17 +161,25 @@ impl Script {
 
     fn right_deal(&mut self, lengths: &[usize]) {
         let (measure, length) = (self.pick(&Measure::ALL), self.pick(lengths));
-        // Near the measures of short vectors.
-        let threshold = match measure {
+        let rule = self.right_rule(measure, length);
+        let step = self.pick(&[1, 1, 2, 7]);
+        let number = self.replay.dealer.last + step;
+        let mut deal = self.new_deal(number, measure, length, rule);
+        deal.rooms[1] += self.below(2);
+        self.deal(&deal);
+    }
+
+    /// A rule of the one kind or the other, near the measures of short vectors.
+    fn right_rule(&mut self, measure: Measure, length: usize) -> Rule {
+        let [one, other] = [(); 2].map(|()| match measure {
             Measure::Hamming => self.below(length + 2) as i32,
             Measure::Euclid => self.below(1 << 21) as i32,
             Measure::Scalar => self.below(1 << 19) as i32 - (1 << 18),
-        };
-        let step = self.pick(&[1, 1, 2, 7]);
-        let number = self.replay.dealer.last + step;
-        let mut deal = self.new_deal(number, measure, length, threshold);
-        deal.rooms[1] += self.below(2);
-        self.deal(&deal);
+        });
+        match self.below(2) {
+            0 => Rule::Threshold(one),
+            _ => Rule::Between(one.min(other), one.max(other)),
+        }
     }
 
     /// Whether a box has something to do in turn, which is then done.
@@ -355,14 +364,21 @@ impl Script {
         let length = self.pick(lengths);
         let number = (self.replay.dealer.last + 1).saturating_sub(self.below(4) as u64);
         let mut deal = self.new_deal(number, measure, length, 0);
-        match self.below(5) {
+        match self.below(6) {
             0 => deal.code += 1,
             1 => deal.length += 510,
             2 => deal.rooms[0] = self.below(half_bytes(length) + 2),
-            3 => deal.threshold = self.pick(&[513, 514, 1 << 30, (1 << 30) + 1, u32::MAX]),
+            3 => deal.rule = self.odd_marks(),
+            4 => deal.rule = self.pick(&[513, 514, 1 << 30, (1 << 30) + 1, -1]).into(),
             _ => {}
         }
         self.deal(&deal);
+    }
+
+    /// Marks that may be out of range, in the wrong order or too far apart.
+    fn odd_marks(&mut self) -> Rule {
+        let mut mark = || self.pick(&[-(1 << 30), -1, 0, 5, 513, 514, 1 << 30]);
+        Rule::Between(mark(), mark())
     }
 
     /// A vector in any phase, which may be too long or too far.
@@ -405,10 +421,19 @@ impl Script {
 
     /// Some numbers put into a box's state or its waiting set, and a few calls on it.
     fn any_state(&mut self, at: usize) {
-        match self.below(2) {
+        match self.below(3) {
             0 => self.any_open_set(at),
+            1 => self.any_width(at),
             _ => self.any_waiting_set(at),
         }
+    }
+
+    /// Any width and mark, in whatever phase. They stay until the set ends.
+    fn any_width(&mut self, at: usize) {
+        let width = self.pick(&[0, 1, MAX_WIDTH, MAX_WIDTH + 1, u32::MAX]);
+        let mark = self.pick(&[0, 1, 2, u32::MAX]);
+        self.put_width(at, width, mark);
+        self.calls_on_any_state(at);
     }
 
     /// Calls on a state that a host has written to.

@@ -2,13 +2,13 @@
 //! ahead while the first is under way, or is dropped. Every call is accepted, and both
 //! joined bits are those of the measures over whole numbers.
 
-use crate::checks::vector;
 use crate::measure::{Measure, MAX_LENGTH};
 use crate::party::IDLE;
 use crate::replay::BOXES;
 use crate::replay_checks::Step::{Finish, Load, Mask};
-use crate::replay_checks::{Check, Step, STEPS};
+use crate::replay_checks::{value_of, Check, Step, STEPS};
 use crate::replay_script::Script;
+use crate::rule::Rule;
 
 /// The lengths of the two sets.
 const LENGTHS: [[usize; 2]; 6] = [
@@ -109,29 +109,35 @@ impl Script {
         };
         for check in joined {
             let bit = self.claim.joined[&check.deal.number];
-            assert_eq!(bit, u32::from(check.reached), "{}", check.deal);
+            assert_eq!(bit, u32::from(check.met), "{}", check.deal);
         }
     }
 
-    /// A check whose threshold is reached, or just not. A distance of zero reaches them all.
-    fn near_check(&mut self, measure: Measure, length: usize, reached: bool) -> Check {
+    /// A check whose threshold is reached, or just not, or whose measure is the one mark or
+    /// next to the other. A distance of zero reaches every threshold.
+    fn near_check(&mut self, measure: Measure, length: usize, met: bool, between: bool) -> Check {
         let vectors = [self.vector(measure, length), self.vector(measure, length)];
-        let [x, y] = [0, 1].map(|at: usize| vector(&vectors[at]).expect("a vector"));
-        let value = measure.of(&x, &y) as i32;
-        let threshold = match (reached, measure.is_distance() && value > 0) {
-            (true, _) => value,
-            (false, true) => value - 1,
-            (false, false) => value + 1,
+        let value = value_of(measure, &vectors) as i32;
+        let rule = match (between, met, measure.is_distance() && value > 0) {
+            (true, true, _) => Rule::Between(value, value + 1),
+            (true, false, true) => Rule::Between(0, value - 1),
+            (true, false, false) => Rule::Between(value + 1, value + 1),
+            (false, true, _) => Rule::Threshold(value),
+            (false, false, true) => Rule::Threshold(value - 1),
+            (false, false, false) => Rule::Threshold(value + 1),
         };
-        self.check(measure, vectors, threshold)
+        self.check(measure, vectors, rule)
     }
 
-    /// The checks of a pair: every two codes and every two bits come in turn.
+    /// The checks of a pair: every two codes, every two bits and every two kinds of rule come
+    /// in turn.
     fn near_checks(&mut self, turn: usize, lengths: [usize; 2]) -> [Check; 2] {
         let codes = [turn % 3, turn / 3 % 3];
         let [first, mut second] = [0, 1].map(|which: usize| {
-            let reached = (turn + turn / 4) >> which & 1 == 0;
-            self.near_check(Measure::ALL[codes[which]], lengths[which], reached)
+            let met = (turn + turn / 4) >> which & 1 == 0;
+            let between = turn >> (1 - which) & 1 == 0;
+            let measure = Measure::ALL[codes[which]];
+            self.near_check(measure, lengths[which], met, between)
         });
         second.deal.number = first.deal.number + 1 + self.below(3) as u64;
         [first, second]

@@ -9,6 +9,7 @@ use crate::measure::Measure;
 use crate::message::{ANSWER, MASKED_VECTOR, WORD};
 use crate::replay::{Replay, BOXES};
 use crate::replay_claim::Claim;
+use crate::rule::Rule;
 use crate::sample::Source;
 use crate::script::Case;
 use crate::sealed::BLOCK_BYTES;
@@ -32,17 +33,17 @@ pub struct Deal {
     pub seed: String,
     pub code: u32,
     pub length: u32,
-    pub threshold: u32,
+    pub rule: Rule,
     pub rooms: [usize; 2],
 }
 
 impl Display for Deal {
     fn fmt(&self, f: &mut Formatter) -> fmt::Result {
         let (number, seed, code) = (self.number, &self.seed, self.code);
-        let (length, threshold, [room0, room1]) = (self.length, self.threshold, self.rooms);
+        let (length, rule, [room0, room1]) = (self.length, self.rule, self.rooms);
         write!(
             f,
-            "deal {number} {seed} {code} {length} {threshold} {room0} {room1}"
+            "deal {number} {seed} {code} {length} {rule} {room0} {room1}"
         )
     }
 }
@@ -219,13 +220,19 @@ impl Script {
     }
 
     /// A deal in range, with as much room as it needs.
-    pub fn new_deal(&mut self, number: u64, measure: Measure, length: usize, t: i32) -> Deal {
+    pub fn new_deal(
+        &mut self,
+        number: u64,
+        measure: Measure,
+        length: usize,
+        rule: impl Into<Rule>,
+    ) -> Deal {
         Deal {
             number,
             seed: self.bytes(32),
             code: measure.code(),
             length: length as u32,
-            threshold: t as u32,
+            rule: rule.into(),
             rooms: [half_bytes(length); 2],
         }
     }
@@ -234,7 +241,7 @@ impl Script {
         let refusal = refusal(&self.say(deal));
         if refusal == 0 {
             let measure = Measure::from_code(deal.code).expect("an accepted code");
-            self.claim.deal(deal.number, measure, deal.threshold as i32);
+            self.claim.deal(deal.number, measure, deal.rule);
         }
         refusal
     }
@@ -410,8 +417,8 @@ impl Script {
     }
 
     /// A deal that must be accepted.
-    pub fn dealt(&mut self, measure: Measure, length: usize, threshold: i32) -> u64 {
-        let deal = self.new_deal(self.next_number(), measure, length, threshold);
+    pub fn dealt(&mut self, measure: Measure, length: usize, rule: impl Into<Rule>) -> u64 {
+        let deal = self.new_deal(self.next_number(), measure, length, rule);
         assert_eq!(self.deal(&deal), 0);
         deal.number
     }
@@ -430,6 +437,10 @@ impl Script {
     pub fn put_waiting(&mut self, at: usize, (number, code, length): (u64, u32, u32)) {
         let line = format!("waiting {} {number} {code} {length}", BOXES[at]);
         self.answered(line, "put");
+    }
+
+    pub fn put_width(&mut self, at: usize, width: u32, mark: u32) {
+        self.answered(format!("width {} {width} {mark}", BOXES[at]), "put");
     }
 
     pub fn put(&mut self, at: usize, [phase, party, code, length]: [u32; 4]) {

@@ -48,7 +48,7 @@ fn set_bytes(set: &OpenedSet) -> Vec<u8> {
         bytes.extend(bytes_of(&correction.seed));
         bytes.extend(bytes_of(&[correction.word, flags]));
     }
-    bytes.extend(set.key.final_word.to_le_bytes());
+    bytes.extend(bytes_of(&[set.key.final_word, set.width, set.mark]));
     bytes
 }
 
@@ -59,7 +59,7 @@ mod tests {
 
     /// The bytes before the open set, those of a set, and those between the two.
     const HEAD: usize = 16 + 4 + 32 + 8 + 4;
-    const SET: usize = 8 + 4 + 8 + 3 * 2048 + 4 + 4 + 32 + 32 * 40 + 4;
+    const SET: usize = 8 + 4 + 8 + 3 * 2048 + 4 + 4 + 32 + 32 * 40 + 12;
     const CHECK: usize = 2048 + 8;
 
     /// Each field of a box's state has its place: 01's arrays, seeds and corrections.
@@ -68,7 +68,7 @@ mod tests {
         let state = Party::default();
         assert_eq!(party_bytes(&state), vec![0; HEAD + SET + CHECK + SET]);
         let mut replay = started();
-        checked(&mut replay, 82);
+        checked(&mut replay, "82");
         assert_eq!(replay.answer("deal 9 @32:5 2 512 0 8192 8192").len(), 67);
         replay.answer("load office office 0 8192 9999");
         let loaded = party_bytes(&replay.boxes[1]);
@@ -89,7 +89,7 @@ mod tests {
         let mut replay = started();
         for deal in [
             "deal 1 @32:3 1 2 5 1536 1536",
-            "deal 2 @32:4 2 3 1 1536 1536",
+            "deal 2 @32:4 2 3 1:300 1536 1536",
         ] {
             replay.answer(deal);
             assert_eq!(replay.answer("load camera camera 0 1536 9999"), "0");
@@ -101,6 +101,16 @@ mod tests {
         assert_eq!(waits[second.clone()], open[first.clone()]);
         assert_ne!(waits[first], open[second.clone()]);
         assert!(open[second].iter().all(|&byte| byte == 0));
+        let carried = |state: &[u8], end: usize| state[end - 8..end].to_vec();
+        assert_eq!(
+            carried(&waits, HEAD + SET),
+            [255, 255, 255, 127, 0, 0, 0, 0]
+        );
+        assert_eq!(carried(&waits, waits.len()), [43, 1, 0, 0, 1, 0, 0, 0]);
+        assert_eq!(replay.answer("width camera 16909060 2"), "put");
+        let put = party_bytes(&replay.boxes[0]);
+        assert_eq!(carried(&put, HEAD + SET), [4, 3, 2, 1, 2, 0, 0, 0]);
+        assert_eq!(carried(&put, put.len()), [0; 8]);
         assert_eq!(replay.answer("waiting camera 258 772 5"), "put");
         let put = party_bytes(&replay.boxes[0]);
         let numbers = &put[HEAD + SET + CHECK..][..20];

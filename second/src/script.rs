@@ -6,6 +6,9 @@ use crate::{aead, chacha20, field, poly1305};
 /// The longest line that the script may have.
 pub const MAX_LINE: usize = 4000;
 
+/// The most bytes that a script may have.
+pub const MAX_STDIN: usize = 524_000;
+
 /// A line of the script and the line that must answer it.
 pub struct Case {
     /// Where the expected answer comes from, for messages.
@@ -99,6 +102,7 @@ fn key_and_nonce(key: &str, nonce: &str) -> Result<([u8; 32], [u8; 12]), String>
 pub fn number(text: &str) -> Result<u32, String> {
     text.parse().map_err(|_| format!("bad number: {text}"))
 }
+
 /// What the tests of every list of cases ask.
 #[cfg(test)]
 pub fn assert_right_short_and_not_repeated(cases: &[Case], run: Runner) {

@@ -95,6 +95,7 @@ mod tests {
     use super::*;
     use crate::dealing::deal;
     use crate::measure::Measure;
+    use crate::rule::Rule::{Between, Threshold};
 
     const NAME: Name = *b"Hut 4\0\0\0\0\0\0\0\0\0\0\0";
     const KEY: [u8; 32] = [8; 32];
@@ -105,7 +106,7 @@ mod tests {
     };
 
     fn sealed(length: usize, number: u64) -> Vec<u8> {
-        let [_, part] = deal(Measure::Euclid, length, 100, &[6; 32]);
+        let [_, part] = deal(Measure::Euclid, length, Threshold(100), &[6; 32]);
         half(&NAME, &KEY, number, &part)
     }
 
@@ -116,8 +117,11 @@ mod tests {
     #[test]
     fn a_half_opens_to_what_was_dealt() {
         for length in [1, 17, 18, 512] {
-            let [_, part] = deal(Measure::Euclid, length, 100, &[6; 32]);
+            let [_, part] = deal(Measure::Euclid, length, Threshold(100), &[6; 32]);
             let set = examine(&sealed(length, 9), &HOLDER, 8).unwrap();
+            assert_eq!((set.number, set.half), (9, part));
+            let [_, part] = deal(Measure::Euclid, length, Between(100, 107), &[6; 32]);
+            let set = examine(&half(&NAME, &KEY, 9, &part), &HOLDER, 8).unwrap();
             assert_eq!((set.number, set.half), (9, part));
         }
     }
