@@ -7,7 +7,7 @@ use lib.ListN.{length}
 use borrow.Author.Tests.{le-leb, lt-leb}
 use Rattle.base_words.specs.List.{over}
 use Rattle.measure_table.specs.declared.Terms.{Terms}
-use Rattle.measure_table.specs.Measure.{ownWord}
+use Rattle.measure_table.specs.Measure.{ordinaryMark, ownWord}
 use Rattle.share_vectors.specs.Share.{plus, share, boxWord}
 use Rattle.bench_check.specs.Check.{maskFits, maskedOver, wordFits, termsOf, wordOrZero}
 
@@ -59,7 +59,7 @@ module _ (code party c r : ℕ) (v mx my sx sy : List ℕ) where
   pub word-fits : (s own w : ℕ) → length v ≤ length mx
       → length v ≤ length my → length v ≤ length sx → length v ≤ length sy
       → s ≡ share party (length v) c mx my sx sy → own ≡ ownWord (termsOf code v) v
-      → w ≡ boxWord (termsOf code v) s own r → w ≡ wordOrZero code party c r v mx my sx sy
+      → w ≡ boxWord (termsOf code v) ordinaryMark s own r → w ≡ wordOrZero code party c r v mx my sx sy
   unfolding wordOrZero wordFits
   word-fits s own w h i j k es eo ew =
       rw (
@@ -68,4 +68,4 @@ module _ (code party c r : ℕ) (v mx my sx sy : List ℕ) where
         le-leb (length v) (length sx) j,
         le-leb (length v) (length sy) k,
       )
-      (ew ∙ ap₂ (λ a b. boxWord (termsOf code v) a b r) es eo)
+      (ew ∙ ap₂ (λ a b. boxWord (termsOf code v) ordinaryMark a b r) es eo)

@@ -8,7 +8,7 @@ use lib.ListN.{length}
 use Rattle.base_words.specs.List.{over}
 use Rattle.share_vectors.specs.Share.{plus, share, boxWord}
 use Rattle.measure_table.specs.declared.Terms.{Terms}
-use Rattle.measure_table.specs.Measure.{ownWord}
+use Rattle.measure_table.specs.Measure.{ordinaryMark, ownWord}
 
 -- whether a mask and a place for the answer are as long as a vector
 unfoldable pub maskFits : List ℕ → List ℕ → List ℕ → Bool
@@ -28,8 +28,8 @@ wordFits v mx my sx sy =
 unfoldable pub termsOf : ℕ → List ℕ → Terms
 termsOf code v = record { code = code; n = length v }
 
--- call 3: the word of the party whose vector is v, else 0
+-- call 3 in an ordinary set: the word of the party whose vector is v, else 0
 unfoldable pub wordOrZero : ℕ → ℕ → ℕ → ℕ → List ℕ → List ℕ → List ℕ → List ℕ → List ℕ → ℕ
 wordOrZero code party c r v mx my sx sy =
     let terms : Terms = termsOf code v in
-    cond (wordFits v mx my sx sy) (boxWord terms (share party (length v) c mx my sx sy) (ownWord terms v) r) 0
+    cond (wordFits v mx my sx sy) (boxWord terms ordinaryMark (share party (length v) c mx my sx sy) (ownWord terms v) r) 0

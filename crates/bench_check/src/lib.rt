@@ -8,6 +8,7 @@ ghost use Rattle.measure_table.specs.Measure.{ordinaryWidth};
 ghost use Rattle.share_vectors.specs.Share.{answer as answerOf};
 ghost use Rattle.bench_check.specs.Check.{maskFits, maskedOver, wordOrZero};
 use dcf_node::Key;
+use measure_table::ORDINARY_MARK;
 use measure_table::ORDINARY_WIDTH;
 use measure_table::Terms;
 
@@ -53,7 +54,7 @@ pub extern "C" fn check_mask(v: &[u32], m: &[u32], out: &mut [u32]) -> bool
     true
 }
 
-// The word of the party whose vector is v, from the masked vectors mx and my and its shares sx and
+// In an ordinary set, the word of the party whose vector is v, from the masked vectors mx and my and its shares sx and
 // sy of the two masks. Where one of the four is shorter than v it answers 0.
 #[no_mangle]
 pub extern "C" fn check_word(
@@ -85,5 +86,5 @@ pub extern "C" fn check_word(
     }
     let terms = Terms { code, n };
     let s = share_vectors::share_of(party, n, c, mx, my, sx, sy);
-    share_answers::word(terms, s, measure_own::own(terms, v), r)
+    share_answers::word(terms, ORDINARY_MARK, s, measure_own::own(terms, v), r)
 }

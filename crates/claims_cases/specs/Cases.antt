@@ -1,5 +1,5 @@
 -- 01, "The proved cases": the lines marked *, as one table with one theorem; and those of 02, §2, "Distances mean
--- close". Assumes nothing. [SPEC 30.1]
+-- close", and §4, "Between two marks". Assumes nothing. [SPEC 30.1]
 use mathlib.Core.Path.{_≡_, refl}
 use mathlib.Core.Bool.{Bool, true, false, _&&_, Bool·beq}
 use mathlib.Core.List.{List, [], _∷_, map}
@@ -15,7 +15,8 @@ use Rattle.base_algebra.specs.Word as W
 use Rattle.base_words.specs.List.{tab, same}
 use Rattle.measure_table.specs.declared.Terms.{Terms}
 use Rattle.measure_table.specs.Measure.{row, scalarProduct, squaredEuclid, hamming, element, own, cross, measure}
-use Rattle.measure_table.specs.Measure.{sign, difference, reached, word, ordinaryWidth}
+use Rattle.measure_table.specs.declared.Rule.the-variants.{Between}
+use Rattle.measure_table.specs.Measure.{sign, difference, reached, within, meets, word, ordinaryWidth}
 use Rattle.share_vectors.specs.Share.{plus, idealGate}
 use Rattle.half_content.specs.Content.{widths, sumFirst, size, blockCount}
 
@@ -25,10 +26,12 @@ pub data Line : Type 0 where
   measured : ℕ → List ℤ → List ℤ → ℤ → ℤ → ℤ → ℤ → Line
   -- code, X, Y, T: whether it is reached
   reaches : ℕ → List ℤ → List ℤ → ℤ → Bool → Line
+  -- code, X, Y, P, Q: whether the measure lies from P to Q
+  between : ℕ → List ℤ → List ℤ → ℤ → ℤ → Bool → Line
   -- an element and its mask: the masked element
   masked : ℤ → ℕ → ℕ → Line
-  -- r and a difference: Z, and what the ideal gate gives
-  gated : ℕ → ℤ → ℕ → ℕ → Line
+  -- width, r and a difference: Z, and what the ideal gate gives
+  gated : ℕ → ℕ → ℤ → ℕ → ℕ → Line
   -- L: how many blocks
   filled : ℕ → ℕ → Line
 
@@ -52,8 +55,11 @@ holds (measured code x y ownX ownY cross m) =
 holds (reaches code x y t b) =
     let terms : Terms = termsOf code x in
     Bool·beq (reached terms (measure terms (map word x) (map word y)) t) b
+holds (between code x y p q b) =
+    let terms : Terms = termsOf code x in
+    Bool·beq (meets terms (Between (word p) (word q)) (measure terms (map word x) (map word y))) b
 holds (masked x m r) = same (plus 1 (word x ∷ []) (m ∷ [])) (r ∷ [])
-holds (gated r d z g) = eqb (add (word d) r) z && eqb (idealGate ordinaryWidth r z) g
+holds (gated w r d z g) = eqb (add (word d) r) z && eqb (idealGate w r z) g
 holds (filled n b) = eqb (blockCount n) b
 
 -- 512 elements that are all the same
@@ -95,19 +101,34 @@ table =
     ∷ masked (negℤ (pos 4)) 4294967295 4294967291
     ∷ masked (pos 3) 4294967294 1
     -- ideal gate with r = 0: difference 0 gives 1; -2^31 gives 0 [SPEC 30.9]
-    ∷ gated 0 (pos 0) 0 1
-    ∷ gated 0 (negℤ (pos (2 ^ 31))) (2 ^ 31) 0
+    ∷ gated ordinaryWidth 0 (pos 0) 0 1
+    ∷ gated ordinaryWidth 0 (negℤ (pos (2 ^ 31))) (2 ^ 31) 0
     -- r = 1, difference -1: Z = 0, gives 0 [SPEC 30.10]
-    ∷ gated 1 (negℤ (pos 1)) 0 0
+    ∷ gated ordinaryWidth 1 (negℤ (pos 1)) 0 0
     -- r = 2^32 - 1, difference 0: Z = 2^32 - 1, gives 1 [SPEC 30.11]
-    ∷ gated (2 ^ 32 - 1) (pos 0) (2 ^ 32 - 1) 1
+    ∷ gated ordinaryWidth (2 ^ 32 - 1) (pos 0) (2 ^ 32 - 1) 1
     -- r = 2^31: difference 2^31 - 1 gives 1; -2^31 gives 0 [SPEC 30.12]
-    ∷ gated (2 ^ 31) (pos (2 ^ 31 - 1)) (2 ^ 32 - 1) 1
-    ∷ gated (2 ^ 31) (negℤ (pos (2 ^ 31))) 0 0
-    -- blocks: L = 1: 3; 17: 3; 18: 4; 512: 16 [SPEC 30.13]
+    ∷ gated ordinaryWidth (2 ^ 31) (pos (2 ^ 31 - 1)) (2 ^ 32 - 1) 1
+    ∷ gated ordinaryWidth (2 ^ 31) (negℤ (pos (2 ^ 31))) 0 0
+    -- 02, §4: the squared distance 82 from 82 to 82, from 83 to 84 and from 80 to 81; the product -14 from -14 to -13
+    -- and from -16 to -15; two equal vectors of bits from 1 to 513, and from 0 to 0 [SPEC 30.23]
+    ∷ between 1 (pos 3 ∷ negℤ (pos 4) ∷ []) (pos 2 ∷ pos 5 ∷ []) (pos 82) (pos 82) true
+    ∷ between 1 (pos 3 ∷ negℤ (pos 4) ∷ []) (pos 2 ∷ pos 5 ∷ []) (pos 83) (pos 84) false
+    ∷ between 1 (pos 3 ∷ negℤ (pos 4) ∷ []) (pos 2 ∷ pos 5 ∷ []) (pos 80) (pos 81) false
+    ∷ between 0 (pos 3 ∷ negℤ (pos 4) ∷ []) (pos 2 ∷ pos 5 ∷ []) (negℤ (pos 14)) (negℤ (pos 13)) true
+    ∷ between 0 (pos 3 ∷ negℤ (pos 4) ∷ []) (pos 2 ∷ pos 5 ∷ []) (negℤ (pos 16)) (negℤ (pos 15)) false
+    ∷ between 2 (pos 1 ∷ pos 0 ∷ pos 1 ∷ pos 1 ∷ []) (pos 1 ∷ pos 0 ∷ pos 1 ∷ pos 1 ∷ []) (pos 1) (pos 513) false
+    ∷ between 2 (pos 1 ∷ pos 0 ∷ pos 1 ∷ pos 1 ∷ []) (pos 1 ∷ pos 0 ∷ pos 1 ∷ pos 1 ∷ []) (pos 0) (pos 0) true
+    -- the gate at widths 0 and 5: differences 0 and 5 are inside, 1, 6 and -1 outside, also where Z wraps [SPEC 30.24]
+    ∷ gated 0 0 (pos 0) 0 1
+    ∷ gated 0 0 (pos 1) 1 0
+    ∷ gated 5 (2 ^ 32 - 1) (pos 5) 4 1
+    ∷ gated 5 (2 ^ 32 - 1) (pos 6) 5 0
+    ∷ gated 5 0 (negℤ (pos 1)) (2 ^ 32 - 1) 0
+    -- blocks: L = 1: 3; 16: 3; 17: 4; 512: 16 [SPEC 30.13]
     ∷ filled 1 3
-    ∷ filled 17 3
-    ∷ filled 18 4
+    ∷ filled 16 3
+    ∷ filled 17 4
     ∷ filled 512 16
     ∷ []
 
@@ -117,6 +138,6 @@ all (l ∷ t) = holds l && all t
 
 pub the-cases : all table ≡ true
 unfolding all table holds termsOf sameℤ crossed widths sumFirst size blockCount idealGate measure own cross element
-    sign difference reached row scalarProduct squaredEuclid hamming word
+    sign difference reached within meets row scalarProduct squaredEuclid hamming word
     plus tab same sum sumℤ add sub W.neg W.signed only less
 the-cases = refl

@@ -12,6 +12,7 @@ use call_dealer::Dealer;
 use call_lock::Lock;
 use call_party::Party;
 use call_party::PartyAnswer;
+use measure_table::Rule;
 use measure_table::Terms;
 
 // Which box is called.
@@ -71,25 +72,25 @@ impl Door {
         }
     }
 
-    // Party 0's half is written to out0, party 1's to out1.
+    // By a threshold, or between two marks. Party 0's half is written to out0, party 1's to out1.
     pub fn deal(
         self,
         number: u64,
         seed: &[u8],
         terms: Terms,
-        t: u32,
+        rule: Rule,
         out0: &mut [u8],
         out1: &mut [u8],
     ) -> DoorAnswer
         ensures { λ r. ⌜ r ≡ call self
-            (deal (dealFrom number (now (seed .entry)) terms t) (now (out0 .entry)) (now (out1 .entry))) ⌝ }
-        ensures { λ _. ⌜ now (out0 .exit) ≡ dealOut (self .dealer) (dealFrom number (now (seed .entry)) terms t)
+            (deal (dealFrom number (now (seed .entry)) terms rule) (now (out0 .entry)) (now (out1 .entry))) ⌝ }
+        ensures { λ _. ⌜ now (out0 .exit) ≡ dealOut (self .dealer) (dealFrom number (now (seed .entry)) terms rule)
             (now (out0 .entry)) (now (out1 .entry)) 0 ⌝ }
-        ensures { λ _. ⌜ now (out1 .exit) ≡ dealOut (self .dealer) (dealFrom number (now (seed .entry)) terms t)
+        ensures { λ _. ⌜ now (out1 .exit) ≡ dealOut (self .dealer) (dealFrom number (now (seed .entry)) terms rule)
             (now (out0 .entry)) (now (out1 .entry)) 1 ⌝ }
     {
         let dealer = self.dealer;
-        let a = dealer.deal(number, seed, terms, t, out0, out1);
+        let a = dealer.deal(number, seed, terms, rule, out0, out1);
         let next = a.dealer;
         let mut door = self;
         door.dealer = next;

@@ -15,7 +15,7 @@ use Rattle.base_words.specs.Bytes.{le32, bytesOf, wordAt, wordsAt, length-bytes
 use Rattle.dcf_node.specs.declared.Correction.{Correction}
 use Rattle.dcf_node.specs.declared.Key.{Key}
 use Rattle.measure_table.specs.declared.Terms.{Terms}
-use Rattle.measure_table.specs.Measure.{mostElements, betweenMark, ordinaryWidth, isCode, lengthFits}
+use Rattle.measure_table.specs.Measure.{mostElements, ordinaryMark, betweenMark, ordinaryWidth, isCode, lengthFits}
 use Rattle.measure_table.specs.Laws.{code-lt, length-fits}
 use Rattle.half_content.specs.declared.Set.{Set}
 use Rattle.half_content.specs.Content.{textBytes, mostBlocks, roomBytes, part, fill, correctionBytes}
@@ -173,6 +173,11 @@ width-tells w mark h =
     let parts = both (leb mark betweenMark) _ h in
     let narrow = leb-true w ordinaryWidth (both (leb w ordinaryWidth) _ (parts .1) .0) in
     (leb-true mark betweenMark (parts .0), omega (arith, narrow))
+
+-- an ordinary set has 2^31 - 1, "another w under mark 0" being turned down
+pub ordinary-width : (w : ℕ) → widthFits w ordinaryMark ≡ true → w ≡ ordinaryWidth
+unfolding widthFits
+ordinary-width w h = eqb-true w ordinaryWidth (both (leb w ordinaryWidth) _ h .1)
 
 -- ---- plain content
 
@@ -348,6 +353,7 @@ pub record Tells (count : ℕ) (b : List ℕ) : Type 0 where
   pub length-fits : lengthFits (termsIn b) ≡ true
   pub counted : blockCount (lengthIn b) ≡ count
   pub flags-fit : flagsFit (keyIn b .corrections) ≡ true
+  pub width-fits : widthFits (widthIn b) (markIn b) ≡ true
 
 pub fits-tells : (name : List ℕ) (party count : ℕ) (b : List ℕ) → contentFits name party count b ≡ true → Tells count b
 unfolding contentFits termsIn
@@ -357,11 +363,13 @@ fits-tells name party count b h =
     let coded = both (isCode (termsIn b .code)) _ (owned .1) in
     let long = both (lengthFits (termsIn b)) _ (coded .1) in
     let count-is = both (eqb (blockCount (lengthIn b)) count) _ (long .1) in
+    let flagged = both (flagsFit (keyIn b .corrections)) _ (count-is .1) in
     record {
       code-fits = coded .0;
       length-fits = long .0;
       counted = eqb-true (blockCount (lengthIn b)) count (count-is .0);
-      flags-fit = both (flagsFit (keyIn b .corrections)) _ (count-is .1) .0;
+      flags-fit = flagged .0;
+      width-fits = both (widthFits (widthIn b) (markIn b)) _ (flagged .1) .0;
     }
 
 -- read_set asks of content what contentFits says of it

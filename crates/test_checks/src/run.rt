@@ -6,9 +6,10 @@ use crate::Dealt;
 use crate::bad_line;
 use crate::deal;
 use measure_table::MOST_ELEMENTS;
-use measure_table::ORDINARY_WIDTH;
+use measure_table::Rule;
 use measure_table::Terms;
 use test_script::ROOM;
+use test_script::Words;
 use test_script::word_at;
 
 // The shares of both masks, one after the other: x0, x1, y0, y1.
@@ -35,22 +36,31 @@ fn read_vector(line: &[u8], place: usize, w: &mut [u32]) -> usize {
 struct Numbers {
     ok: bool,
     code: u32,
-    t: u32,
+    rule: Rule,
     c0: u32,
     r: u32,
     r0: u32,
 }
 
+// A threshold T, or two marks P:Q.
+fn rule_of(w: Words) -> Rule {
+    if w.two {
+        Rule::Between(w.first, w.second)
+    } else {
+        Rule::Threshold(w.first)
+    }
+}
+
 fn read_numbers(line: &[u8]) -> Numbers {
     let code = word_at(line, 1);
-    let t = word_at(line, 2);
+    let w = test_script::read_one_or_two(test_script::field(line, 2));
     let c0 = word_at(line, 6);
     let r = word_at(line, 7);
     let r0 = word_at(line, 8);
     Numbers {
-        ok: code.ok & t.ok & c0.ok & r.ok & r0.ok,
+        ok: code.ok & w.ok & c0.ok & r.ok & r0.ok,
         code: code.value,
-        t: t.value,
+        rule: rule_of(w),
         c0: c0.value,
         r: r.value,
         r0: r0.value,
@@ -91,10 +101,12 @@ fn words_of(
     let y1 = 3 * n;
     let share0 = share_vectors::share_of(0, n, d.c0, mx, my, masks, &masks[y0..]);
     let share1 = share_vectors::share_of(1, n, c1, mx, my, &masks[n..], &masks[y1..]);
-    let r1 = share_vectors::other_r(terms, d.r, d.t, d.r0);
+    let rule = d.rule;
+    let mark = measure_table::mark_of(rule);
+    let r1 = share_vectors::other_r(terms, mark, d.r, measure_table::offset_of(rule), d.r0);
     Two(
-        share_answers::word(terms, share0, own.0, d.r0),
-        share_answers::word(terms, share1, own.1, r1),
+        share_answers::word(terms, mark, share0, own.0, d.r0),
+        share_answers::word(terms, mark, share1, own.1, r1),
     )
 }
 
@@ -129,26 +141,26 @@ fn two_words(
 }
 
 // Z, both answers and their sum.
-fn answers(d: Dealt, z: u32) -> [u32; 4] {
+fn answers(d: Dealt, width: u32, z: u32) -> [u32; 4] {
     let key = d.key;
     let seed0 = d.seed0;
     let seed1 = d.seed1;
-    let a0 = share_answers::answer(ORDINARY_WIDTH, 0, key, seed0, z);
-    let a1 = share_answers::answer(ORDINARY_WIDTH, 1, key, seed1, z);
+    let a0 = share_answers::answer(width, 0, key, seed0, z);
+    let a1 = share_answers::answer(width, 1, key, seed1, z);
     [z, a0, a1, base_words::add(a0, a1)]
 }
 
-fn put_run(line: &[u8], out: &mut [u8; ROOM], at: usize, w: [u32; 6]) -> usize {
+fn put_run(line: &[u8], width: u32, out: &mut [u8; ROOM], at: usize, w: [u32; 6]) -> usize {
     let d = deal(line, 9, 10, 7);
     if !d.ok {
         return bad_line(out, at);
     }
     let next = test_script::put_numbers(out, at, &w);
     let next = test_script::put_byte(out, next, b' ');
-    test_script::put_numbers(out, next, &answers(d, base_words::add(w[4], w[5])))
+    test_script::put_numbers(out, next, &answers(d, width, base_words::add(w[4], w[5])))
 }
 
-// run CODE T X Y MASKS C0 R R0 SEED0 SEED1
+// run CODE RULE X Y MASKS C0 R R0 SEED0 SEED1
 pub fn check(line: &[u8], out: &mut [u8; ROOM], at: usize) -> usize {
     let mut x = [0u32; MOST_ELEMENTS];
     let mut y = [0u32; MOST_ELEMENTS];
@@ -160,7 +172,9 @@ pub fn check(line: &[u8], out: &mut [u8; ROOM], at: usize) -> usize {
     if 0 < n {
         if n <= MOST_ELEMENTS {
             if d.ok & (m == n) & (k == 4 * n) {
-                return put_run(line, out, at, two_words(d, n, &x, &y, &masks));
+                let rule = d.rule;
+                let width = measure_table::width_of(rule);
+                return put_run(line, width, out, at, two_words(d, n, &x, &y, &masks));
             }
         }
     }

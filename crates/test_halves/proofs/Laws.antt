@@ -8,12 +8,13 @@ use native.Mathlib.Omega.{arith}
 use borrow.Author.Tests.{ltb-true}
 use Rattle.base_algebra.specs.Bit.{both}
 use Rattle.dcf_node.specs.declared.Correction.{Correction}
-use Rattle.measure_table.specs.Measure.{mostElements, isCode, lengthFits}
+use Rattle.measure_table.specs.Measure.{mostElements, isCode, lengthFits, inOrder}
 use Rattle.measure_table.specs.Laws.{code-lt, length-fits}
 use Rattle.base_messages.specs.Laws.{passed, taken}
 use Rattle.half_content.specs.declared.Set.{Set}
-use Rattle.half_content.specs.Content.{termsIn, keyIn, setIn, noSet, flagsFit, contentFits, FlagBytes, Proper}
-use Rattle.half_content.specs.Laws.{fits-tells}
+use Rattle.half_content.specs.Content.{termsIn, keyIn, widthIn, markIn, setIn}
+use Rattle.half_content.specs.Content.{noSet, flagsFit, contentFits, FlagBytes, Proper}
+use Rattle.half_content.specs.Laws.{fits-tells, width-tells}
 use Rattle.half_deal.specs.Dealing.{Deal, dealtSet}
 use Rattle.half_deal.specs.Laws.{proper}
 use Rattle.half_open.specs.declared.Examined.{Examined}
@@ -21,14 +22,15 @@ use Rattle.half_seal.specs.Half.{whyNot, whyNotOpened, openedSet}
 use Rattle.half_open.specs.Examined.{answerFor, examined}
 
 pub dealt-proper : (d : Deal) (party : ℕ) (s : Set) → s ≡ dealtSet d party → d .number < 2 ^ 64
-    → isCode (d .terms .code) ≡ true → lengthFits (d .terms) ≡ true → party ≤ 1 → Proper s
-dealt-proper d party s e hnumber hcode hlength hparty =
-    subst Proper (sym e) (proper d party hnumber hcode hlength hparty)
+    → isCode (d .terms .code) ≡ true → lengthFits (d .terms) ≡ true → inOrder (d .rule) ≡ true → party ≤ 1 → Proper s
+dealt-proper d party s e hnumber hcode hlength hrule hparty =
+    subst Proper (sym e) (proper d party hnumber hcode hlength hrule hparty)
 
 -- ---- what laying a set out asks of it
 
 abbrev pub Laid : Set → Type 0
-Laid s = (s .terms .code < 256) × (s .terms .n ≤ mostElements) × FlagBytes (s .key .corrections)
+Laid s =
+    (s .terms .code < 256) × (s .terms .n ≤ mostElements) × FlagBytes (s .key .corrections) × (s .mark < 256)
 
 flag-bytes : (cs : List Correction) → flagsFit cs ≡ true → FlagBytes cs
 unfolding flagsFit FlagBytes
@@ -45,6 +47,7 @@ fits-laid name party count number b h =
       omega (arith, code-lt (terms .code) (tells .code-fits)),
       length-fits terms (tells .length-fits) .1,
       flag-bytes (keyIn b .corrections) (tells .flags-fit),
+      omega (arith, width-tells (widthIn b) (markIn b) (tells .width-fits) .0),
     )
 
 pub opened-laid : (key name : List ℕ) (party last : ℕ) (h : List ℕ) (e : Examined) → e ≡ examined key name party last h

@@ -6,8 +6,12 @@ use crate::dealt::Dealt;
 use crate::dealt::HALF;
 use crate::fields;
 use crate::fields::Command;
+use crate::fields::Half;
 use half_content::BLOCK;
 use half_content::ROOM;
+use half_content::TEXT;
+use measure_table::MOST_ELEMENTS;
+use measure_table::Terms;
 
 // What is answered to a line that asks for something else: no refusal has this number.
 const BAD_LINE: u32 = 99;
@@ -72,6 +76,30 @@ pub fn at(d: Dealt, c: Command, byte: u8, i: usize) -> u32
         Command::Flip => flip(d, i),
         _ => set(d, i, i + 1, byte),
     }
+}
+
+// The blocks of a set of length n before it had a width and a mark, which come last.
+fn blocks_before(n: usize) -> usize
+    ensures { λ r. ⌜ r ≤ mostBlocks ⌝ }
+{
+    let length = base_slices::least(n, MOST_ELEMENTS);
+    (half_content::width_at(length) + TEXT - 1) / TEXT
+}
+
+// The refusal of a half of length n as it was laid out then: zeros stand for the width and the mark.
+pub fn before(h: Half, n: usize) -> u32 {
+    let code = h.terms.code;
+    let d = dealt::deal(h, Terms { code, n });
+    if d.blocks == 0 {
+        return BAD_LINE;
+    }
+    let b = d.holder;
+    let key = b.key;
+    let plain = d.plain;
+    let blocks = blocks_before(n);
+    let end = half_content::width_at(base_slices::least(n, MOST_ELEMENTS));
+    let half = dealt::sealed(key, d.number, blocks, spread(plain, end, ROOM, 0));
+    dealt::refusal(b, half, BLOCK * blocks)
 }
 
 // A half whose block i is block j of another.

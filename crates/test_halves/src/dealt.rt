@@ -2,7 +2,7 @@
 ghost use mathlib.Core.Path.{_≡_};
 ghost use mathlib.Core.Bool.{true};
 ghost use Prim.Native.Nat.{_≤_};
-ghost use Rattle.measure_table.specs.Measure.{isCode, lengthFits};
+ghost use Rattle.measure_table.specs.Measure.{isCode, lengthFits, inOrder};
 ghost use Rattle.half_content.specs.Content.{mostBlocks, Proper};
 use crate::fields;
 use crate::fields::Half;
@@ -11,6 +11,7 @@ use half_content::BLOCK;
 use half_content::MOST_BLOCKS;
 use half_content::ROOM;
 use half_content::Set;
+use measure_table::Rule;
 use measure_table::Terms;
 
 // Room for one block more than a half may have.
@@ -61,30 +62,34 @@ fn deal_to(b: Holder, set: Set) -> Dealt
     }
 }
 
-fn deal_in_range(b: Holder, seed: [u8; 32], number: u64, terms: Terms, t: u32) -> Dealt
-    requires { ⌜ (b .party ≤ 1) × (isCode (terms .code) ≡ true) × (lengthFits terms ≡ true) ⌝ }
+fn deal_in_range(b: Holder, seed: [u8; 32], number: u64, terms: Terms, rule: Rule) -> Dealt
+    requires { ⌜ (b .party ≤ 1) × (isCode (terms .code) ≡ true) × (lengthFits terms ≡ true)
+        × (inOrder rule ≡ true) ⌝ }
     ensures { λ r. ⌜ r .blocks ≤ mostBlocks ⌝ }
 {
-    let sets = half_deal::sets(&seed, number, terms, t);
+    let sets = half_deal::sets(&seed, number, terms, rule);
     if b.party == 0 {
         return deal_to(b, sets.camera);
     }
     deal_to(b, sets.office)
 }
 
-fn deal(h: Half) -> Dealt
+// The half of a set of these terms, whatever h has.
+pub fn deal(h: Half, terms: Terms) -> Dealt
     ensures { λ r. ⌜ r .blocks ≤ mostBlocks ⌝ }
 {
     let b = h.holder;
     let seed = h.seed;
-    let terms = h.terms;
-    if !measure_table::threshold_fits(terms, h.t) {
+    let rule = h.rule;
+    if !measure_table::rule_fits(terms, rule) {
         return not_dealt(b);
     }
     if b.party <= 1 {
         if measure_table::is_code(terms.code) {
             if measure_table::length_fits(terms) {
-                return deal_in_range(b, seed, h.number, terms, h.t);
+                if measure_table::in_order(rule) {
+                    return deal_in_range(b, seed, h.number, terms, rule);
+                }
             }
         }
     }
@@ -96,7 +101,8 @@ pub fn made(line: &[u8], at: usize) -> Dealt
     requires { ⌜ at ≤ 10 ⌝ }
     ensures { λ r. ⌜ r .blocks ≤ mostBlocks ⌝ }
 {
-    deal(fields::read_half(line, at))
+    let h = fields::read_half(line, at);
+    deal(h, h.terms)
 }
 
 // Other plain content, sealed.

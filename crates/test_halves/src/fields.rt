@@ -1,6 +1,7 @@
 // What the fields of a line say. One that can't be read stands for some number or bytes all the same,
 // so that a mistake shows as a difference in the output.
 ghost use Prim.Native.Nat.{_≤_};
+use measure_table::Rule;
 use measure_table::Terms;
 
 // half HALF
@@ -12,7 +13,8 @@ use measure_table::Terms;
 // mixed HALF LAST HALF I J
 // content HALF LAST FROM TO BYTE
 // spread HALF LAST FROM TO BYTE
-// where HALF is PARTY CODE L T NUMBER SEED KEY NAME.
+// before HALF LAST FROM TO
+// where HALF is PARTY CODE L RULE NUMBER SEED KEY NAME, and RULE is T or P:Q.
 pub enum Command {
     Half,
     Tag,
@@ -23,6 +25,7 @@ pub enum Command {
     Mixed,
     Content,
     Spread,
+    Before,
     None,
 }
 
@@ -36,6 +39,7 @@ fn command_from(letter: u8, fields: usize) -> Command {
         b'f' => Command::Flip,
         b'm' => Command::Mixed,
         b's' => Command::Spread,
+        b'b' => Command::Before,
         b'c' => {
             if fields == 11 {
                 Command::Cut
@@ -105,13 +109,21 @@ pub fn read_holder(line: &[u8], party: usize, key: usize, name: usize, last: usi
 // What a half is made from, and the box that it is for.
 pub struct Half {
     pub terms: Terms,
-    pub t: u32,
+    pub rule: Rule,
     pub number: u64,
     pub seed: [u8; 32],
     pub holder: Holder,
 }
 
-// PARTY CODE L T NUMBER SEED KEY NAME LAST, of which PARTY is field `at`.
+fn rule(line: &[u8], place: usize) -> Rule {
+    let w = test_script::read_one_or_two(test_script::field(line, place));
+    if w.two {
+        return Rule::Between(w.first, w.second);
+    }
+    Rule::Threshold(word(line, place))
+}
+
+// PARTY CODE L RULE NUMBER SEED KEY NAME LAST, of which PARTY is field `at`.
 pub fn read_half(line: &[u8], at: usize) -> Half
     requires { ⌜ at ≤ 10 ⌝ }
 {
@@ -121,7 +133,7 @@ pub fn read_half(line: &[u8], at: usize) -> Half
     };
     Half {
         terms,
-        t: word(line, at + 3),
+        rule: rule(line, at + 3),
         number: set_number(line, at + 4),
         seed: bytes_32(line, at + 5),
         holder: read_holder(line, at, at + 6, at + 7, at + 8),

@@ -12,6 +12,7 @@ use dealt::Dealt;
 use dealt::HALF;
 use fields::Command;
 use half_content::BLOCK;
+use measure_table::MOST_ELEMENTS;
 use test_script::ROOM;
 
 fn put_half(half: [u8; HALF], blocks: usize, out: &mut [u8; ROOM], at: usize) -> usize
@@ -70,6 +71,23 @@ fn put_each(
     next
 }
 
+// A refusal for each length.
+fn put_before(line: &[u8], out: &mut [u8; ROOM], at: usize) -> usize {
+    let h = fields::read_half(line, 1);
+    let from = fields::number(line, 10);
+    let end = base_slices::least(fields::number(line, 11), MOST_ELEMENTS + 1);
+    let mut next = at;
+    let mut n = from;
+    while n < end {
+        if from < n {
+            next = test_script::put_byte(out, next, b' ');
+        }
+        next = test_script::put_numbers(out, next, &[changed::before(h, n)]);
+        n += 1;
+    }
+    next
+}
+
 fn put_places(d: Dealt, c: Command, line: &[u8], out: &mut [u8; ROOM], at: usize) -> usize
     requires { ⌜ d .blocks ≤ mostBlocks ⌝ }
 {
@@ -89,6 +107,7 @@ fn put_answer(d: Dealt, c: Command, line: &[u8], out: &mut [u8; ROOM], at: usize
         Command::Again => put_again(d, out, at),
         Command::Flip => put_places(d, c, line, out, at),
         Command::Content => put_places(d, c, line, out, at),
+        Command::Before => put_before(line, out, at),
         _ => test_script::put_numbers(out, at, &[changed::refusal(d, c, line)]),
     }
 }

@@ -1,4 +1,5 @@
 // Reads a line: which command it is, and what its fields say.
+ghost use Prim.Native.Nat.{_^_, _<_};
 use crate::memory;
 use crate::memory::ANSWERS;
 use crate::memory::BYTES;
@@ -41,10 +42,15 @@ pub const PUT: usize = 14;
 
 pub const WAITING: usize = 15;
 
-// A line that is no command, and one that asks for nothing.
-pub const BAD_LINE: usize = 16;
+pub const WIDTH: usize = 16;
 
-pub const COMMENT: usize = 17;
+// A line that is no command, and one that asks for nothing.
+pub const BAD_LINE: usize = 17;
+
+pub const COMMENT: usize = 18;
+
+// A deal whose rule is two marks.
+pub const BETWEEN: usize = 19;
 
 // The parts, as `show` counts them; the boxes' numbers are 0 and 1.
 pub const CAMERA: u64 = 0;
@@ -115,6 +121,21 @@ fn read_number(kind: u8, field: &[u8]) -> Value {
     }
 }
 
+fn wide(w: u32) -> u64
+    ensures { λ r. ⌜ r < 2 ^ 32 ⌝ }
+{
+    w as u64
+}
+
+// A rule: a threshold, or a first mark and 2^32 times the second.
+fn read_rule(field: &[u8]) -> Value {
+    let r = test_script::read_one_or_two(field);
+    Value {
+        ok: r.ok,
+        n: wide(r.first) + 4294967296 * wide(r.second),
+    }
+}
+
 // The count of a field's bytes, which go to its slot. A vector has whole words.
 fn read_bytes(kind: u8, field: &[u8], b: &mut [u8; BYTES], slot: usize) -> Value {
     let mut bytes = [0u8; SLOT];
@@ -170,6 +191,7 @@ fn read_field(
             ok: (kind == b'P') & (place < 4),
             n: memory::wide(place),
         },
+        b'T' => read_rule(field),
         _ => read_number(kind, field),
     }
 }
@@ -224,17 +246,22 @@ fn read_fields(
 }
 
 // Reads a line. A letter is the kind of a field: B for bytes, V for a vector, N for a number below
-// 2^64, W for one below 2^32, R, M, J and K for one of at most 8704, 520, 15 and 3, X for a box, P
-// for a part, and v, w and a for a vector, a word and an answer, each of which may be a box's last.
+// 2^64, W for one below 2^32, R, M, J and K for one of at most 8704, 520, 15 and 3, T for a rule, X for
+// a box, P for a part, and v, w and a for a vector, a word and an answer, each of which may be a box's last.
 pub fn read(line: &[u8], b: &mut [u8; BYTES], n: [u64; NUMBERS]) -> Line {
     if (line.len() == 0) | (test_script::first_byte(line) == b'#') {
         return line_of(COMMENT, [0; FIELDS]);
     }
     let command = place_of(
         test_script::field(line, 0),
-        b"dealer deal lock join host show party load mixed bytes mask take finish drop put waiting",
+        b"dealer deal lock join host show party load mixed bytes mask take finish drop put waiting width",
     );
     let kinds =
-        b"BBBN NBWWWRR BN WBWNaWBWNa BNWBWNaWBWNa P XBWBN XXKWW XJKJ XB XVM XWBWNv XWBWNw X XWWWW XNWW ";
-    read_fields(command, test_script::part(kinds, b' ', command), line, b, n)
+        b"BBBN NBWWTRR BN WBWNaWBWNa BNWBWNaWBWNa P XBWBN XXKWW XJKJ XB XVM XWBWNv XWBWNw X XWWWW XNWW XWW ";
+    let mut l = read_fields(command, test_script::part(kinds, b' ', command), line, b, n);
+    let rule = test_script::read_one_or_two(test_script::field(line, 5));
+    if (l.command == DEAL) & rule.two {
+        l.command = BETWEEN;
+    }
+    l
 }

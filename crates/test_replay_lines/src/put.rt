@@ -110,9 +110,9 @@ pub fn answer(
     match command {
         lines::COMMENT => at,
         lines::BAD_LINE => bad_line(place, out, at),
-        lines::PUT | lines::WAITING => test_script::put_text(out, at, b"put"),
+        lines::PUT | lines::WAITING | lines::WIDTH => test_script::put_text(out, at, b"put"),
         lines::HOST => hosted(b, l, out, at),
-        lines::DEAL => two_tags(b, l, out, at),
+        lines::DEAL | lines::BETWEEN => two_tags(b, l, out, at),
         lines::SHOW => tag(b, 0, memory::wide(state_size(l.part)), out, at),
         lines::MASK => {
             let next = accepted(out, at);

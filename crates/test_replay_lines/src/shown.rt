@@ -31,8 +31,10 @@ pub const CORRECTIONS_AT: usize = SEED_AT + 32;
 
 pub const FINAL_WORD_AT: usize = CORRECTIONS_AT + 32 * CORRECTION;
 
-// 7,488 bytes.
-pub const SET: usize = FINAL_WORD_AT + 4;
+pub const WIDTH_AND_MARK_AT: usize = FINAL_WORD_AT + 4;
+
+// 7,496 bytes.
+pub const SET: usize = WIDTH_AND_MARK_AT + 8;
 
 // The fields of a box.
 pub const PARTY_AT: usize = NAME;
@@ -51,7 +53,7 @@ pub const OWN_AND_WORD_AT: usize = MASKED_AT + VECTOR;
 
 pub const WAITING_AT: usize = OWN_AND_WORD_AT + 8;
 
-// 17,096 bytes.
+// 17,112 bytes.
 pub const BOX: usize = WAITING_AT + SET;
 
 // The fields of a dealer.

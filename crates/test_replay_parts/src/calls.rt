@@ -3,6 +3,7 @@ use base_messages::Label;
 use door_parts::Door;
 use door_parts::DoorAnswer;
 use door_parts::Side;
+use measure_table::Rule;
 use measure_table::Terms;
 use test_replay_lines::lines;
 use test_replay_lines::lines::Line;
@@ -52,7 +53,16 @@ fn side(l: Line) -> Side {
     }
 }
 
-// deal NUMBER SEED CODE L T ROOM0 ROOM1. The buffers go to slots 0 and OTHER.
+// A threshold, or two marks.
+fn rule(l: Line) -> Rule {
+    let first = memory::low(l.f5);
+    if l.command == lines::BETWEEN {
+        return Rule::Between(first, memory::low(l.f5 / 4294967296));
+    }
+    Rule::Threshold(first)
+}
+
+// deal NUMBER SEED CODE L RULE ROOM0 ROOM1. The buffers go to slots 0 and OTHER.
 pub fn deal(door: Door, b: &mut [u8; BYTES], l: Line) -> DoorAnswer {
     let mut out0 = no_half();
     let mut out1 = no_half();
@@ -63,7 +73,7 @@ pub fn deal(door: Door, b: &mut [u8; BYTES], l: Line) -> DoorAnswer {
             code: memory::low(l.f3),
             n: memory::size(l.f4),
         },
-        memory::low(l.f5),
+        rule(l),
         test_script::first_mut(&mut out0, memory::size(l.f6)),
         test_script::first_mut(&mut out1, memory::size(l.f7)),
     );

@@ -19,7 +19,7 @@ pub fn closed() -> Door {
     }
 }
 
-// A start, `put`, `waiting` or `show`. Every part is handed the line, and those that it does not ask answer zeros:
+// A start, `put`, `waiting`, `width` or `show`. Every part is handed the line, and those that it does not ask answer zeros:
 // with no branch here the walk carries each state once.
 fn prepare(door: Door, b: &mut [u8; BYTES], l: Line) -> DoorAnswer {
     let d = starts::dealer(door.dealer, b, l);
@@ -46,7 +46,7 @@ fn prepare(door: Door, b: &mut [u8; BYTES], l: Line) -> DoorAnswer {
 pub fn call(door: Door, b: &mut [u8; BYTES], l: Line) -> DoorAnswer {
     let command = l.command;
     match command {
-        lines::DEAL => calls::deal(door, b, l),
+        lines::DEAL | lines::BETWEEN => calls::deal(door, b, l),
         lines::LOAD | lines::MIXED | lines::LOAD_BYTES => calls::load(door, b, l),
         lines::MASK => calls::mask(door, b, l),
         lines::TAKE => calls::take(door, b, l),

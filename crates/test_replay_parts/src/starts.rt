@@ -1,5 +1,5 @@
-// The starts of a door's parts, and what a script does to a state beside its calls: `put`, `waiting`
-// and `show`.
+// The starts of a door's parts, and what a script does to a state beside its calls: `put`, `waiting`,
+// `width` and `show`.
 use crate::states;
 use call_dealer::Dealer;
 use call_dealer::DealerAnswer;
@@ -106,6 +106,18 @@ fn put_waiting(p: Party, l: Line) -> PartyAnswer {
     silent_box(next)
 }
 
+// width BOX WIDTH MARK
+fn put_width(p: Party, l: Line) -> PartyAnswer {
+    let mut set = p.check.set;
+    set.width = memory::low(l.f2);
+    set.mark = memory::low(l.f3);
+    let mut check = p.check;
+    check.set = set;
+    let mut next = p;
+    next.check = check;
+    silent_box(next)
+}
+
 // show BOX: the state's bytes go to slots 0 and 1.
 fn show_box(p: Party, b: &mut [u8; BYTES]) -> PartyAnswer {
     states::lay_party(b, p);
@@ -118,6 +130,7 @@ fn asked_box(p: Party, b: &mut [u8; BYTES], l: Line) -> PartyAnswer {
         lines::PARTY => start_party(p, b, l),
         lines::PUT => put(p, l),
         lines::WAITING => put_waiting(p, l),
+        lines::WIDTH => put_width(p, l),
         lines::SHOW => show_box(p, b),
         _ => silent_box(p),
     }

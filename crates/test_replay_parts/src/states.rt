@@ -1,5 +1,5 @@
 // The states before the first start, and the bytes of a state, from slot 0 on. Each field stands at a
-// fixed place (`shown`), below the 17,096 bytes of a box's state.
+// fixed place (`shown`), below the 17,112 bytes of a box's state.
 ghost use Prim.Native.Nat.{_≤_};
 use base_messages::Identity;
 use base_messages::KEY;
@@ -61,53 +61,53 @@ fn lay_name(b: &mut [u8; BYTES], name: [u8; NAME]) {
 }
 
 fn lay_secret(b: &mut [u8; BYTES], at: usize, key: [u8; KEY])
-    requires { ⌜ at ≤ 17096 ⌝ }
+    requires { ⌜ at ≤ 17112 ⌝ }
 {
     base_slices::copy(b, at, &key);
 }
 
 fn lay_word(b: &mut [u8; BYTES], at: usize, w: u32)
-    requires { ⌜ at ≤ 17096 ⌝ }
+    requires { ⌜ at ≤ 17112 ⌝ }
 {
     base_slices::store(b, at, w);
 }
 
 fn lay_wide(b: &mut [u8; BYTES], at: usize, n: u64)
-    requires { ⌜ at ≤ 17096 ⌝ }
+    requires { ⌜ at ≤ 17112 ⌝ }
 {
     base_slices::store_all(b, at, &[memory::low(n), high(n)]);
 }
 
 fn lay_words(b: &mut [u8; BYTES], at: usize, w: [u32; 2])
-    requires { ⌜ at ≤ 17096 ⌝ }
+    requires { ⌜ at ≤ 17112 ⌝ }
 {
     base_slices::store_all(b, at, &w);
 }
 
 fn lay_seed(b: &mut [u8; BYTES], at: usize, seed: [u32; 8])
-    requires { ⌜ at ≤ 17096 ⌝ }
+    requires { ⌜ at ≤ 17112 ⌝ }
 {
     base_slices::store_all(b, at, &seed);
 }
 
 fn lay_vector(b: &mut [u8; BYTES], at: usize, w: [u32; MOST_ELEMENTS])
-    requires { ⌜ at ≤ 17096 ⌝ }
+    requires { ⌜ at ≤ 17112 ⌝ }
 {
     base_slices::store_all(b, at, &w);
 }
 
-// The last one of a waiting set stands at 17,052.
+// The last one of a waiting set stands at 17,060.
 fn lay_correction(b: &mut [u8; BYTES], at: usize, c: Correction)
-    requires { ⌜ at ≤ 17052 ⌝ }
+    requires { ⌜ at ≤ 17060 ⌝ }
 {
     let seed = c.seed;
     lay_seed(b, at, seed);
     lay_words(b, at + 32, [c.word, c.flags]);
 }
 
-// Those of a waiting set stand at 15,812.
+// Those of a waiting set stand at 15,820.
 fn lay_corrections(b: &mut [u8; BYTES], at: usize, corrections: [Correction; 32])
-    requires { ⌜ at ≤ 15812 ⌝ }
+    requires { ⌜ at ≤ 15820 ⌝ }
 {
     let mut i: usize = 0;
     while i < 32 {
@@ -116,9 +116,9 @@ fn lay_corrections(b: &mut [u8; BYTES], at: usize, corrections: [Correction; 32]
     }
 }
 
-// A set, open or waiting: the waiting one stands at 9,608.
+// A set, open or waiting: the waiting one stands at 9,616.
 fn lay_set(b: &mut [u8; BYTES], at: usize, s: Set)
-    requires { ⌜ at ≤ 9608 ⌝ }
+    requires { ⌜ at ≤ 9616 ⌝ }
 {
     let mask = s.mask;
     let x = s.x;
@@ -135,6 +135,7 @@ fn lay_set(b: &mut [u8; BYTES], at: usize, s: Set)
     lay_seed(b, at + shown::SEED_AT, seed);
     lay_corrections(b, at + shown::CORRECTIONS_AT, corrections);
     lay_word(b, at + shown::FINAL_WORD_AT, s.key.last);
+    lay_words(b, at + shown::WIDTH_AND_MARK_AT, [s.width, s.mark]);
 }
 
 pub fn lay_party(b: &mut [u8; BYTES], p: Party) {

@@ -84,6 +84,34 @@ fn read_words(text: &[u8], w: &mut [u32]) -> bool {
     ok
 }
 
+// One word, or two with a colon between them; of one, `second` is 0.
+pub struct Words {
+    pub ok: bool,
+    pub two: bool,
+    pub first: u32,
+    pub second: u32,
+}
+
+pub fn read_one_or_two(text: &[u8]) -> Words {
+    let mut w = [0u32; 2];
+    let two = read_words(text, &mut w);
+    if two {
+        return Words {
+            ok: true,
+            two,
+            first: w[0],
+            second: w[1],
+        };
+    }
+    let one = read_word(text);
+    Words {
+        ok: one.ok,
+        two,
+        first: one.value,
+        second: 0,
+    }
+}
+
 fn read_hex(digits: &[u8], out: &mut [u8]) -> Bytes {
     let count = digits.len() / 2;
     let n = base_slices::least(count, out.len());

@@ -20,7 +20,7 @@ returns c =
     let at-dealer = at-deal .before .before .before in
     let args = at-dealer .before .before .before .before .args in
     let deals = at-deal .deal .ensures in
-    let dealt = dealFrom (args .number) (args .seed .now) (args .terms) (args .t) in
+    let dealt = dealFrom (args .number) (args .seed .now) (args .terms) (args .rule) in
     (deal-step (args .self) dealt (args .out0 .now) (args .out1 .now) (deals .0), deals .1)
 
 pub deal-spec : {M : Type 1} → statement M

@@ -14,7 +14,7 @@ deal-to-requires : tie.Need-deal-to-requires
 deal-to-requires c κs =
     let at-sets = c .before .before in
     let pre = at-sets .before .before .pre in
-    (pre .0, dealt-proper _ 0 _ (at-sets .sets .ensures .0) (search needs) (pre .1) (pre .2) (omega arith))
+    (pre .0, dealt-proper _ 0 _ (at-sets .sets .ensures .0) (search needs) (pre .1) (pre .2) (pre .3) (omega arith))
 
 returns : tie.Need-returns
 returns c = search needs
@@ -23,7 +23,7 @@ deal-to-requires-2 : tie.Need-deal-to-requires-2
 deal-to-requires-2 c κs =
     let at-sets = c .before .before in
     let pre = at-sets .before .before .pre in
-    (pre .0, dealt-proper _ 1 _ (at-sets .sets .ensures .1) (search needs) (pre .1) (pre .2) (omega arith))
+    (pre .0, dealt-proper _ 1 _ (at-sets .sets .ensures .1) (search needs) (pre .1) (pre .2) (pre .3) (omega arith))
 
 returns-2 : tie.Need-returns-2
 returns-2 c = search needs

@@ -1,5 +1,5 @@
 use Rattle.measure_table.specs.Laws.{length-fits}
-use Rattle.half_content.specs.Laws.{few-blocks, code-byte, flag-bytes}
+use Rattle.half_content.specs.Laws.{few-blocks, code-byte, flag-bytes, mark-byte}
 use native.Mathlib.Omega.{arith}
 use borrow.Author.Needs.{needs}
 use Rattle.test_halves.proofs.dealt.deal_to.Statement.{statement}
@@ -23,8 +23,10 @@ lay-out-requires c κs =
     let at-half = c .before .before in
     let at-name = at-half .before .before .before in
     let start = at-name .before .before in
-    let proper = start .pre .1 in
-    ((omega (arith, start .pre .0), code-byte _ proper, length-fits _ (proper .length-fits) .1), flag-bytes _ proper)
+    let proper = start .pre .1 in (
+      (omega (arith, start .pre .0), code-byte _ proper, length-fits _ (proper .length-fits) .1),
+      (flag-bytes _ proper, mark-byte _ proper),
+    )
 
 blocks-of-requires : tie.Need-blocks-of-requires
 blocks-of-requires c κs =

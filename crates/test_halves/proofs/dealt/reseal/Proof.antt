@@ -23,7 +23,7 @@ lay-out-requires : tie.Need-lay-out-requires
 lay-out-requires c κs =
     let laid =
     opened-laid _ _ _ _ _ _ (c .before .before .before .before .examine .ensures) (c .before .before .if1 .left) in
-    ((omega arith, laid .0, laid .1), laid .2)
+    ((omega arith, laid .0, laid .1), (laid .2, laid .3))
 
 sealed-requires : tie.Need-sealed-requires
 sealed-requires c κs = search needs
