@@ -1,13 +1,13 @@
 -- What an accepted start and an accepted deal have been tested for, that the set which a deal gives each party is
 -- proper, and what 02, §2, moves of a half. Assumes nothing.
-use mathlib.Core.Path.{_≡_, ap}
+use mathlib.Core.Path.{_≡_, refl, sym, ap}
 use mathlib.Core.Bool.{Bool, true, false, not, _&&_}
 use mathlib.Core.List.{List}
 use Prim.Native.Nat.{ℕ, _^_, _<_, _≤_}
 use native.Mathlib.Omega.{arith}
 use borrow.Author.Tests.{eqb-true, leb-true, ltb-true}
 use lib.Dec.{leb, ltb}
-use Rattle.base_algebra.specs.Bit.{both}
+use Rattle.base_algebra.specs.Bit.{both, neither}
 use Rattle.base_words.specs.List.{same}
 use lib.ListN.{length}
 use Rattle.measure_table.specs.declared.Terms.{Terms}
@@ -108,22 +108,33 @@ unfolding halfFor
 scalar-half s d e party =
     ap (half (keyOf s party) (s .name) party) (plain-by-01 d (scalar-sign (d .terms) (markOf (d .rule)) e) party)
 
--- ---- 13 "at the deal between alone": a deal by a threshold is never turned down by it [SPEC 23.13]
+-- ---- 13, "tested after 8" [SPEC 23.13]
+
+-- a deal that is turned down by it has passed all other tests, that of both marks' range included
+pub marks-last : (s : Dealer) (d : Deal) (room0 room1 : ℕ) → whyNotDeal s d room0 room1 ≡ badMarks
+    → (ruleFits (d .terms) (d .rule) ≡ true) × (inOrder (d .rule) ≡ false)
+unfolding whyNotDeal unless
+marks-last s d room0 room1 =
+    told (isCode (d .terms .code)) (isKey (d .seed) && lengthFits (d .terms))
+    (leb (halfSize (d .terms .n)) room0 && leb (halfSize (d .terms .n)) room1) (ltb (s .last) (d .number))
+    (ruleFits (d .terms) (d .rule)) (inOrder (d .rule))
+  where
+    told : (code lengths rooms numbers range order : Bool)
+        → unless code badPartyOrCode (unless lengths wrongLength (unless rooms shortBuffer
+        (unless numbers wrongNumber (unless range outOfRange (unless order badMarks 0))))) ≡ badMarks
+        → (range ≡ true) × (order ≡ false)
+    told false lengths rooms numbers range order e = absurd (omega (arith, e))
+    told true false rooms numbers range order e = absurd (omega (arith, e))
+    told true true false numbers range order e = absurd (omega (arith, e))
+    told true true true false range order e = absurd (omega (arith, e))
+    told true true true true false order e = absurd (omega (arith, e))
+    told true true true true true true e = absurd (omega (arith, e))
+    told true true true true true false e = (refl, refl)
+
+-- so a deal by a threshold is never turned down by it
 
 pub never-marks : (s : Dealer) (number : ℕ) (seed : List ℕ) (terms : Terms) (t room0 room1 : ℕ)
     → whyNotDeal s (dealFrom number seed terms (Threshold t)) room0 room1 ≡ badMarks → ⊥
-unfolding whyNotDeal inOrder unless
-never-marks s number seed terms t room0 room1 =
-    none (isCode (terms .code)) (isKey seed && lengthFits terms)
-    (leb (halfSize (terms .n)) room0 && leb (halfSize (terms .n)) room1) (ltb (s .last) number)
-    (ruleFits terms (Threshold t))
-  where
-    none : (code lengths rooms numbers range : Bool)
-        → unless code badPartyOrCode (unless lengths wrongLength (unless rooms shortBuffer
-        (unless numbers wrongNumber (unless range outOfRange (unless true badMarks 0))))) ≡ badMarks → ⊥
-    none false lengths rooms numbers range e = omega (arith, e)
-    none true false rooms numbers range e = omega (arith, e)
-    none true true false numbers range e = omega (arith, e)
-    none true true true false range e = omega (arith, e)
-    none true true true true false e = omega (arith, e)
-    none true true true true true e = omega (arith, e)
+unfolding inOrder
+never-marks s number seed terms t room0 room1 e =
+    neither (sym (marks-last s (dealFrom number seed terms (Threshold t)) room0 room1 e .1))

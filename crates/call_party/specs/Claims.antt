@@ -1,26 +1,34 @@
 -- What a box may rely on when it loads ahead (02, §1): when the open set ends the waiting one is open, just as if it
--- had been loaded then; and a message for a set that waits is refused. Assumes nothing. [SPEC 15.7, 18.5, 19.2, 27.8]
-use mathlib.Core.Path.{_≡_, refl, sym, ap, _∙_}
+-- had been loaded then; and a message for a set that waits is refused. And an ordinary set answers as before (02, §4).
+-- Assumes nothing. [SPEC 15.7, 18.4, 18.5, 19.2, 27.8]
+use mathlib.Core.Path.{_≡_, refl, sym, ap, _∙_, subst}
 use mathlib.Core.Bool.{Bool, true, false, not}
 use mathlib.Core.List.{List}
-use Prim.Native.Nat.{ℕ, suc, _-_, _<_, _≤_}
+use Prim.Native.Nat.{ℕ, suc, _-_, _^_, _<_, _≤_}
 use native.Mathlib.Omega.{arith}
 use borrow.Author.Tests.{leb-true, lt-ltb, ne-eqb, not-true, eqb-false}
 use lib.Dec.{eqb, leb}
-use Rattle.base_algebra.specs.Bit.{both}
+use Rattle.base_algebra.specs.Bit as Bit
+use Rattle.base_algebra.specs.Bit.{only, odd, both}
+use Rattle.base_algebra.specs.Word.{add, sub}
+use Rattle.dcf_node.specs.Node.{valueAt}
+use Rattle.measure_table.specs.Measure.{ordinaryMark, ordinaryWidth}
+use Rattle.share_vectors.specs.Share as Share
+use Rattle.share_vectors.specs.Claims.{answer-ordinary}
 use Rattle.base_messages.specs.declared.Label.{Label}
 use Rattle.base_messages.specs.Messages.{outOfTurn, wrongLength, wrongMessage, wrongNumber, officeParty, unless}
 use Rattle.base_messages.specs.Messages.{expected}
 use Rattle.base_messages.specs.Laws.{passed, taken}
 use Rattle.half_content.specs.declared.Set.{Set}
-use Rattle.half_content.specs.Content.{noSet}
+use Rattle.half_content.specs.Content.{noSet, widthFits}
+use Rattle.half_content.specs.Laws.{ordinary-width}
 use Rattle.half_seal.specs.Half.{wholeBlocks, whyNot, whyNotOpened, setNumber, openedSet}
 use Rattle.call_party.specs.declared.Check.{Check}
 use Rattle.call_party.specs.declared.Party.{Party}
 use Rattle.call_party.specs.Party.{idlePhase, noCheck, idle, isOpen, waits, stateFits, waitingFits, sound, inTurn}
 use Rattle.call_party.specs.Party.{highWater, whyNotLoad, opened, loaded, load, nextCheck, closed, whyNotMessage}
-use Rattle.call_party.specs.Party.{whyNotFinish, finish, whyNotDrop, dropSet}
-use Rattle.call_party.specs.Laws.{waterOf, load-tells, opened-long}
+use Rattle.call_party.specs.Party.{whyNotFinish, answerOf, finish, whyNotDrop, dropSet}
+use Rattle.call_party.specs.Laws.{waterOf, load-tells, opened-long, opened-width}
 
 -- ---- the open set ends
 
@@ -134,3 +142,24 @@ module _ (phase kind : ℕ) (s : Party) (l : Label) (name : List ℕ) (lengths :
         ≡ unless (inTurn phase s) outOfTurn (earlier wrongNumber)
     unfolding whyNotMessage
     waiting-message = seven (inTurn phase s) refl
+
+-- ---- an ordinary set (02, §4): "An ordinary set has w = 2^31 - 1, keeps its code's sign, and must answer as before"
+-- [SPEC 18.4]
+
+-- each party's answer is what 01 says: "value at Z + 2^31 minus value at Z, and party 1 adds 1 if Z < 2^31"
+pub ordinary-answer : (set : Set) → set .width ≡ ordinaryWidth → (party word other : ℕ)
+    → (let z : ℕ = add word other in
+    answerOf set party word other
+    ≡ add
+    (sub (valueAt party (set .key) (set .seed) (add z (2 ^ 31))) (valueAt party (set .key) (set .seed) z))
+    (only (odd party) (Bit.less z (2 ^ 31))))
+unfolding answerOf
+ordinary-answer set e party word other =
+    ap (λ (w : ℕ). Share.answer w party (set .key) (set .seed) (add word other)) e
+    ∙ answer-ordinary party (set .key) (set .seed) (add word other)
+
+-- and every set that a load opens with mark 0 has that width
+pub ordinary-opened : (s : Party) (h : List ℕ) → whyNotLoad s h ≡ 0 → openedSet (s .who .key) h .mark ≡ ordinaryMark
+    → openedSet (s .who .key) h .width ≡ ordinaryWidth
+ordinary-opened s h e m =
+    ordinary-width _ (subst (λ (k : ℕ). widthFits (openedSet (s .who .key) h .width) k ≡ true) m (opened-width s h e))

@@ -2,18 +2,19 @@
 use mathlib.Core.Path.{_≡_, refl, ap₂}
 use mathlib.Core.Bool.{Bool, true, false, not, cond, _&&_}
 use mathlib.Core.List.{List}
-use Prim.Native.Nat.{ℕ, _<_, _≤_}
+use Prim.Native.Nat.{ℕ, _/_, _<_, _≤_}
 use native.Mathlib.Omega.{arith}
 use borrow.Author.Tests.{leb-true, leb-false, ltb-true, eqb-true, ne-eqb, not-true, not-false}
 use lib.Dec.{eqb, leb}
-use lib.ListN.{getD}
+use lib.ListN.{length}
 use Rattle.base_algebra.specs.Bit.{both}
-use Rattle.base_words.specs.List.{same}
 use Rattle.measure_table.specs.Measure.{isCode, lengthFits}
 use Rattle.measure_table.specs.Laws.{length-fits}
 use Rattle.base_messages.specs.Laws.{passed}
-use Rattle.half_content.specs.Content.{nameField, partyField, field, setIn, contentFits}
-use Rattle.half_seal.specs.Half.{whyNot, whyNotOpened, setNumber, openedSet}
+use Rattle.half_content.specs.declared.Set.{Set}
+use Rattle.half_content.specs.Content.{blockBytes, setIn, widthFits}
+use Rattle.half_content.specs.Laws.{Tells, fits-tells}
+use Rattle.half_seal.specs.Half.{openedBlocks, whyNot, whyNotOpened, setNumber, openedSet}
 use Rattle.call_party.specs.declared.Party.{Party}
 use Rattle.call_party.specs.Party.{waits, sound, highWater, whyNotLoad}
 
@@ -71,26 +72,31 @@ load-tells s h e =
       above-open = λ o. omega (arith, above, water-open (s .check .phase) (s .check .set .number) (s .last) o);
     }
 
--- what a load takes has a code and a length that fit
-content-fits : (name : List ℕ) (party count m : ℕ) (c : List ℕ) → contentFits name party count c ≡ true
-    → isCode (setIn m c .terms .code) && lengthFits (setIn m c .terms) ≡ true
-unfolding contentFits setIn
-content-fits name party count m c e =
-    let named = both (same (field c nameField) name) _ e in
-    let owned = both (eqb (getD (field c partyField) 0 0) party) _ (named .1) in
-    let coded = both (isCode (setIn m c .terms .code)) _ (owned .1) in
-    let long = both (lengthFits (setIn m c .terms)) _ (coded .1) in
-    ap₂ _&&_ (coded .0) (long .0)
+-- what a load takes: its content's tests, ..
+opened-tells : (key name : List ℕ) (party last : ℕ) (x : List ℕ) → whyNot key name party last x ≡ 0
+    → (let count : ℕ = length x / blockBytes in Tells count (openedBlocks key x count))
+unfolding whyNot whyNotOpened
+opened-tells key name party last x e =
+    let blocks = passed _ (passed _ (passed _ e .1) .1) in
+    fits-tells name party _ _ (passed _ (blocks .1) .0)
 
+-- .. so that code and length fit, ..
 pub opened-fits : (key name : List ℕ) (party last : ℕ) (x : List ℕ) → whyNot key name party last x ≡ 0
     → isCode (openedSet key x .terms .code) && lengthFits (openedSet key x .terms) ≡ true
-unfolding whyNot whyNotOpened openedSet
+unfolding openedSet setIn
 opened-fits key name party last x e =
-    let blocks = passed _ (passed _ (passed _ e .1) .1) in
-    content-fits name party _ (setNumber x) _ (passed _ (blocks .1) .0)
+    let tells = opened-tells key name party last x e in
+    ap₂ _&&_ (tells .code-fits) (tells .length-fits)
 
--- .. and so it has elements
+-- .. it has elements, ..
 pub opened-long : (s : Party) (h : List ℕ) → whyNotLoad s h ≡ 0 → 1 ≤ openedSet (s .who .key) h .terms .n
 opened-long s h e =
     let fits = opened-fits (s .who .key) (s .who .name) (s .who .party) (waterOf s) h (load-tells s h e .examined) in
     length-fits _ (both (isCode (openedSet (s .who .key) h .terms .code)) _ fits .1) .0
+
+-- .. and width and mark fit each other
+pub opened-width : (s : Party) (h : List ℕ) → whyNotLoad s h ≡ 0
+    → (let set : Set = openedSet (s .who .key) h in widthFits (set .width) (set .mark) ≡ true)
+unfolding openedSet setIn
+opened-width s h e =
+    opened-tells (s .who .key) (s .who .name) (s .who .party) (waterOf s) h (load-tells s h e .examined) .width-fits

@@ -199,7 +199,7 @@ module _ (name : List ℕ) (party : ℕ) (s : Set) (named : length name ≡ 16) 
   vector a f = length-bytesOf (take n a) ∙ ap (λ (k : ℕ). 4 * k) (words-filled n a f .long)
 
   -- each field has its width
-  lengths : map length (fields name party s) ≡ widths n
+  pub lengths : map length (fields name party s) ≡ widths n
   unfolding fields widths bytes le32
   lengths =
       let cs = s .key .corrections in

@@ -1,3 +1,4 @@
 pub mod Content
 pub mod Pieces
 pub mod Laws
+pub mod Older

@@ -12,7 +12,7 @@ use lib.ListN.{length, take}
 use lib.Seq.{take-all, take-take, take-add}
 use Rattle.base_algebra.specs.Bit.{both}
 use Rattle.base_words.specs.Numbers.{number}
-use Rattle.base_messages.specs.Messages.{unless}
+use Rattle.base_messages.specs.Messages.{badContent, unless}
 use Rattle.base_messages.specs.Laws.{passed}
 use Rattle.half_content.specs.declared.Set.{Set}
 use Rattle.half_content.specs.Content.{blockBytes, textBytes, mostBlocks, part}
@@ -20,6 +20,7 @@ use Rattle.half_content.specs.Content.{blockCount, plain, lengthIn, contentFits
 use Rattle.half_content.specs.Pieces.{part-is, length-part}
 use Rattle.half_content.specs.Laws.{head-is, fits-tells, few-blocks, length-plain, lengthIn-plain, lengthIn-take}
 use Rattle.half_content.specs.Laws.{setIn-plain, fits-plain}
+use Rattle.half_content.specs.Older.{olderPlain, older-refused}
 use Rattle.half_seal.specs.Half.{block, textAt, firstBlocks, half, blockAt, setNumber, blockFits, firstFit}
 use Rattle.half_seal.specs.Half.{openedBlocks, wholeBlocks, whyNotOpened, whyNot, openedSet}
 use Rattle.half_seal.specs.Laws.{length-blocks, block-at, set-of-block, index-of-block, are-fit, are-opened}
@@ -32,6 +33,53 @@ unfolding setNumber blockAt part
 number-of h = ap number (sym (take-take 8 blockBytes h (omega arith)))
 
 module _ (key name : List ℕ) (party : ℕ) (named : length name ≡ 16) where
+  -- ---- any text of whole blocks, sealed under a number
+
+  module _ (set count : ℕ) (text : List ℕ) (whole : length text ≡ textBytes * count)
+      (some : (3 ≤ count) × (count ≤ mostBlocks)) (number-fits : set < 2 ^ 64) where
+    abbrev sealed : List ℕ
+    sealed = firstBlocks key set text count
+
+    length-sealed : length sealed ≡ blockBytes * count
+    length-sealed = length-blocks key set text count (omega (arith, whole))
+
+    sealed-at : (i : ℕ) → i < count → blockAt sealed i ≡ block key set i (textAt text i)
+    sealed-at i l = block-at key set text count i (omega (arith, whole)) l
+
+    sealed-number : setNumber sealed ≡ set
+    sealed-number =
+        number-of sealed
+        ∙ ap (λ (b : List ℕ). number (part 0 8 b)) (sealed-at 0 (omega (arith, some .0)))
+        ∙ set-of-block key set 0 (textAt text 0)
+        (length-part text (textBytes * 0) textBytes (omega (arith, whole, some .0))) number-fits
+
+    sealed-count : length sealed / blockBytes ≡ count
+    sealed-count = omega (arith, length-sealed)
+
+    sealed-opens : openedBlocks key sealed count ≡ text
+    sealed-opens =
+        are-opened key set text sealed count (omega (arith, whole)) sealed-at
+        ∙ take-all (textBytes * count) text (omega (arith, whole))
+
+    -- where the last number is below its own, 11 alone is left to be asked
+    pub sealed-examined : (last : ℕ) → last < set
+        → whyNot key name party last sealed ≡ unless (contentFits name party count text) badContent 0
+    unfolding whyNot whyNotOpened wholeBlocks unless
+    sealed-examined last l =
+        let none : length sealed % blockBytes ≡ 0 = omega (arith, length-sealed) in
+        rw (
+          sealed-count,
+          eq-eqb (length sealed % blockBytes) 0 none,
+          le-leb 3 count (some .0),
+          le-leb count mostBlocks (some .1),
+          sealed-number,
+          lt-ltb last set l,
+          are-fit key set text sealed count (omega (arith, whole)) number-fits (omega (arith, some .1))
+              sealed-number sealed-at,
+          sealed-opens,
+        )
+        refl
+
   module _ (s : Set) (p : Proper s) where
     abbrev text : List ℕ
     text = plain name party s
@@ -42,55 +90,51 @@ module _ (key name : List ℕ) (party : ℕ) (named : length name ≡ 16) where
     long : length text ≡ textBytes * count
     long = length-plain name party s named p
 
-    pub length-half : length (half key name party s) ≡ blockBytes * count
-    unfolding half
-    length-half = length-blocks key (s .number) text count (omega (arith, long))
-
-    are : (i : ℕ) → i < count → blockAt (half key name party s) i ≡ block key (s .number) i (textAt text i)
-    unfolding half
-    are i l = block-at key (s .number) text count i (omega (arith, long)) l
-
     some-blocks : (3 ≤ count) × (count ≤ mostBlocks)
     some-blocks = few-blocks s p
 
+    pub length-half : length (half key name party s) ≡ blockBytes * count
+    unfolding half
+    length-half = length-sealed (s .number) count text long some-blocks (p .number-fits)
+
+    are : (i : ℕ) → i < count → blockAt (half key name party s) i ≡ block key (s .number) i (textAt text i)
+    unfolding half
+    are = sealed-at (s .number) count text long some-blocks (p .number-fits)
+
     pub half-number : setNumber (half key name party s) ≡ s .number
-    half-number =
-        number-of (half key name party s)
-        ∙ ap (λ (b : List ℕ). number (part 0 8 b)) (are 0 (omega (arith, some-blocks .0)))
-        ∙ set-of-block key (s .number) 0 (textAt text 0)
-        (length-part text (textBytes * 0) textBytes (omega (arith, long, some-blocks .0))) (p .number-fits)
-
-    counted : length (half key name party s) / blockBytes ≡ count
-    counted = omega (arith, length-half)
-
-    opens-to : openedBlocks key (half key name party s) count ≡ text
-    opens-to =
-        are-opened key (s .number) text (half key name party s) count (omega (arith, long)) are
-        ∙ take-all (textBytes * count) text (omega (arith, long))
+    unfolding half
+    half-number = sealed-number (s .number) count text long some-blocks (p .number-fits)
 
     -- it is taken where the last number is below its own ..
     pub half-taken : (last : ℕ) → last < s .number → whyNot key name party last (half key name party s) ≡ 0
-    unfolding whyNot whyNotOpened wholeBlocks unless
+    unfolding half unless
     half-taken last l =
-        let none : length (half key name party s) % blockBytes ≡ 0 = omega (arith, length-half) in
-        rw (
-          counted,
-          eq-eqb (length (half key name party s) % blockBytes) 0 none,
-          le-leb 3 count (some-blocks .0),
-          le-leb count mostBlocks (some-blocks .1),
-          half-number,
-          lt-ltb last (s .number) l,
-          are-fit key (s .number) text (half key name party s) count (omega (arith, long))
-              (p .number-fits) (omega (arith, some-blocks .1)) half-number are,
-          opens-to,
-          fits-plain name party s named p,
-        )
-        refl
+        sealed-examined (s .number) count text long some-blocks (p .number-fits) last l
+        ∙ rw (fits-plain name party s named p) refl
 
     -- .. and opens to the set
     pub half-opened : openedSet key (half key name party s) ≡ s
-    unfolding openedSet
-    half-opened = rw (counted, half-number, opens-to) (setIn-plain name party s named p)
+    unfolding openedSet half
+    half-opened =
+        rw (
+          sealed-count (s .number) count text long some-blocks (p .number-fits),
+          sealed-number (s .number) count text long some-blocks (p .number-fits),
+          sealed-opens (s .number) count text long some-blocks (p .number-fits),
+        )
+        (setIn-plain name party s named p)
+
+    -- a half from before 02, §4, whose content ended with the final word, is refused by 11 ("01's eleventh refusal takes
+    -- in .. another w under mark 0"), whatever its number of blocks [SPEC 9.7, 23.11]
+    pub older-half-refused : (fill blocks last : ℕ)
+        → length (olderPlain name party s named p fill) ≡ textBytes * blocks → 3 ≤ blocks → blocks ≤ mostBlocks
+        → last < s .number
+        → whyNot key name party last (firstBlocks key (s .number) (olderPlain name party s named p fill) blocks)
+        ≡ badContent
+    unfolding unless
+    older-half-refused fill blocks last whole three most l =
+        sealed-examined (s .number) blocks (olderPlain name party s named p fill) whole (three, most) (p .number-fits)
+        last l
+        ∙ rw (older-refused name party s named p fill blocks) refl
 
   -- ---- nothing else is taken
 
