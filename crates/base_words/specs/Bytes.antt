@@ -8,7 +8,7 @@ use native.Mathlib.Numerals.{add-one}
 use lib.ListN.{length, getD, take}
 use lib.Pow.{shr-shr}
 use lib.Seq.{take-nil}
-use Rattle.base_words.specs.List.{tab, length-tab, over, over-next}
+use Rattle.base_words.specs.List.{tab, length-tab, tab-ext, tab-getD, over, over-next}
 
 -- a word rotated left by n bits
 unfoldable pub rotl : ℕ → ℕ → ℕ
@@ -96,3 +96,19 @@ wordAt-bytesOf w i l h =
     sum : (x : ℕ) → x < 2 ^ 32
         → x % 256 + x / 2 ^ 8 % 256 * 2 ^ 8 + x / 2 ^ 16 % 256 * 2 ^ 16 + x / 2 ^ 24 % 256 * 2 ^ 24 ≡ x
     sum x h = rw (← (shr-shr x 16 8), ← (shr-shr x 8 8)) (omega arith)
+
+-- ---- n words, read back from their bytes
+
+-- each element is a word
+abbrev pub Below : List ℕ → Type 0
+Below l = (i : ℕ) → getD l i 0 < 2 ^ 32
+
+pub record Words (n : ℕ) (l : List ℕ) : Type 0 where
+  pub long : length l ≡ n
+  pub below : Below l
+
+pub words-back : (n : ℕ) (w : List ℕ) → Words n w → wordsAt n (bytesOf w) ≡ w
+unfolding wordsAt
+words-back n w h =
+    tab-ext (λ i. wordAt (bytesOf w) (4 * i)) (λ i. getD w i 0) n (λ i l.
+    wordAt-bytesOf w i (omega (arith, h .long)) (h .below i)) ∙ ap (tab (λ i. getD w i 0)) (sym (h .long)) ∙ tab-getD w

@@ -32,4 +32,6 @@ termsOf code v = record { code = code; n = length v }
 unfoldable pub wordOrZero : ℕ → ℕ → ℕ → ℕ → List ℕ → List ℕ → List ℕ → List ℕ → List ℕ → ℕ
 wordOrZero code party c r v mx my sx sy =
     let terms : Terms = termsOf code v in
-    cond (wordFits v mx my sx sy) (boxWord terms ordinaryMark (share party (length v) c mx my sx sy) (ownWord terms v) r) 0
+    cond (wordFits v mx my sx sy)
+    (boxWord terms ordinaryMark (share party (length v) c mx my sx sy) (ownWord terms v) r)
+    0

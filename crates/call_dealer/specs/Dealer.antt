@@ -1,6 +1,6 @@
--- The dealer (01, "Dealing a set", "The sealed half" and "When a call is turned down"; 02, §4): why a start or a deal is
--- turned down, the next state, and what a deal leaves in its two lent buffers, for any state and anything handed in. One
--- definition has both deals, by a threshold and between two marks: which of them it is, the rule says. Assumes nothing.
+-- The dealer (01, "Dealing a set", "The sealed half" and "When a call is turned down"; 02, §4): why a start or a deal
+-- is turned down, the next state, and what a deal leaves in its two lent buffers, for any state and anything handed in.
+-- One definition has both deals, by a threshold and between two marks: the rule says which. Assumes nothing.
 -- [SPEC 13.1, 13.2, 13.4, 13.5, 14.1 to 14.4, 24.1, 24.4]
 use mathlib.Core.Bool.{cond, _&&_, not}
 use mathlib.Core.List.{List}

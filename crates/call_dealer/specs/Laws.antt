@@ -1,5 +1,5 @@
 -- What an accepted start and an accepted deal have been tested for, that the set which a deal gives each party is
--- proper, and what 02, §2, moves of a half. Assumes nothing.
+-- proper, what the set's sign moves of a half (02, §2), and when a deal is turned down by 13 (02, §4). Assumes nothing.
 use mathlib.Core.Path.{_≡_, refl, sym, ap}
 use mathlib.Core.Bool.{Bool, true, false, not, _&&_}
 use mathlib.Core.List.{List}
@@ -84,9 +84,10 @@ deal-tells s d room0 room1 h =
 pub dealt-proper : (s : Dealer) (d : Deal) (room0 room1 party : ℕ)
     → DealTells s d room0 room1 → d .number < 2 ^ 64 → party ≤ 1
     → Proper (dealtSet d party)
-dealt-proper s d room0 room1 party a number low = proper d party number (a .code-fits) (a .length-fits) (a .in-order) low
+dealt-proper s d room0 room1 party a number low =
+    proper d party number (a .code-fits) (a .length-fits) (a .in-order) low
 
--- ---- what T and the measure's sign do to the halves [SPEC 5.8, 5.13]
+-- ---- what T and the set's sign do to the halves [SPEC 5.8, 5.13]
 
 -- party 0's half is the one with 01's r1, whatever the code, and the same for every T, and for every two marks that are
 -- as far apart
@@ -110,9 +111,16 @@ scalar-half s d e party =
 
 -- ---- 13, "tested after 8" [SPEC 23.13]
 
--- a deal that is turned down by it has passed all other tests, that of both marks' range included
+-- all that is tested before it, both marks' range included
+abbrev pub BeforeMarks : Dealer → Deal → ℕ → ℕ → Type 0
+BeforeMarks s d room0 room1 =
+    (isCode (d .terms .code) ≡ true) × (isKey (d .seed) && lengthFits (d .terms) ≡ true)
+    × (leb (halfSize (d .terms .n)) room0 && leb (halfSize (d .terms .n)) room1 ≡ true)
+    × (ltb (s .last) (d .number) ≡ true) × (ruleFits (d .terms) (d .rule) ≡ true)
+
+-- a deal is turned down by 13 where the marks are out of order and all else is as it should be, and only there
 pub marks-last : (s : Dealer) (d : Deal) (room0 room1 : ℕ) → whyNotDeal s d room0 room1 ≡ badMarks
-    → (ruleFits (d .terms) (d .rule) ≡ true) × (inOrder (d .rule) ≡ false)
+    → BeforeMarks s d room0 room1 × (inOrder (d .rule) ≡ false)
 unfolding whyNotDeal unless
 marks-last s d room0 room1 =
     told (isCode (d .terms .code)) (isKey (d .seed) && lengthFits (d .terms))
@@ -122,14 +130,19 @@ marks-last s d room0 room1 =
     told : (code lengths rooms numbers range order : Bool)
         → unless code badPartyOrCode (unless lengths wrongLength (unless rooms shortBuffer
         (unless numbers wrongNumber (unless range outOfRange (unless order badMarks 0))))) ≡ badMarks
-        → (range ≡ true) × (order ≡ false)
+        → ((code ≡ true) × (lengths ≡ true) × (rooms ≡ true) × (numbers ≡ true) × (range ≡ true)) × (order ≡ false)
     told false lengths rooms numbers range order e = absurd (omega (arith, e))
     told true false rooms numbers range order e = absurd (omega (arith, e))
     told true true false numbers range order e = absurd (omega (arith, e))
     told true true true false range order e = absurd (omega (arith, e))
     told true true true true false order e = absurd (omega (arith, e))
     told true true true true true true e = absurd (omega (arith, e))
-    told true true true true true false e = (refl, refl)
+    told true true true true true false e = ((refl, refl, refl, refl, refl), refl)
+
+pub marks-said : (s : Dealer) (d : Deal) (room0 room1 : ℕ) → BeforeMarks s d room0 room1 → inOrder (d .rule) ≡ false
+    → whyNotDeal s d room0 room1 ≡ badMarks
+unfolding whyNotDeal unless
+marks-said s d room0 room1 b e = rw (b .0, b .1, b .2, b .3, b .4, e) refl
 
 -- so a deal by a threshold is never turned down by it
 

@@ -164,7 +164,8 @@ fn write_halves(
     out0: &mut [u8],
     out1: &mut [u8],
 )
-    requires { ⌜ whyNotDeal dealer (dealFrom number (now seed) terms rule) (length (now out0)) (length (now out1)) ≡ 0 ⌝ }
+    requires { ⌜ whyNotDeal dealer (dealFrom number (now seed) terms rule)
+        (length (now out0)) (length (now out1)) ≡ 0 ⌝ }
     ensures { λ _. ⌜ now (out0 .exit)
         ≡ over 0 (halfFor dealer (dealFrom number (now (seed .entry)) terms rule) 0) (now (out0 .entry)) ⌝ }
     ensures { λ _. ⌜ now (out1 .exit)

@@ -255,7 +255,8 @@ module _ (s : Party) (t : Bool) (et : t ≡ inTurn maskedPhase s) (l : Label) (n
     take-taken x w none ex ew =
         let is : w ≡ wordOf (s .check .set) (s .who .party) (s .check .masked) (s .check .own) v =
         ew
-        ∙ ap (λ (y : ℕ). Share.boxWord (s .check .set .terms) (s .check .set .mark) y (s .check .own) (s .check .set .r))
+        ∙ ap
+        (λ (y : ℕ). Share.boxWord (s .check .set .terms) (s .check .set .mark) y (s .check .own) (s .check .set .r))
         ex in
         moves k _ _ _ s w _ why-take none (ap (worded s) is) is
 

@@ -10,11 +10,12 @@ use borrow.Author.Tests.{leb-true, lt-ltb, ne-eqb, not-true, eqb-false}
 use lib.Dec.{eqb, leb}
 use Rattle.base_algebra.specs.Bit as Bit
 use Rattle.base_algebra.specs.Bit.{only, odd, both}
-use Rattle.base_algebra.specs.Word.{add, sub}
+use Rattle.base_algebra.specs.Word.{add, sub, mul}
 use Rattle.dcf_node.specs.Node.{valueAt}
-use Rattle.measure_table.specs.Measure.{ordinaryMark, ordinaryWidth}
+use Rattle.measure_table.specs.Measure.{ordinaryMark, betweenMark, ordinaryWidth, sign, kWord}
+use Rattle.measure_table.specs.Laws.{scalar-sign, distance-sign, marked-sign}
 use Rattle.share_vectors.specs.Share as Share
-use Rattle.share_vectors.specs.Claims.{answer-ordinary}
+use Rattle.share_vectors.specs.Claims.{word-plain, word-close, answer-ordinary}
 use Rattle.base_messages.specs.declared.Label.{Label}
 use Rattle.base_messages.specs.Messages.{outOfTurn, wrongLength, wrongMessage, wrongNumber, officeParty, unless}
 use Rattle.base_messages.specs.Messages.{expected}
@@ -27,7 +28,7 @@ use Rattle.call_party.specs.declared.Check.{Check}
 use Rattle.call_party.specs.declared.Party.{Party}
 use Rattle.call_party.specs.Party.{idlePhase, noCheck, idle, isOpen, waits, stateFits, waitingFits, sound, inTurn}
 use Rattle.call_party.specs.Party.{highWater, whyNotLoad, opened, loaded, load, nextCheck, closed, whyNotMessage}
-use Rattle.call_party.specs.Party.{whyNotFinish, answerOf, finish, whyNotDrop, dropSet}
+use Rattle.call_party.specs.Party.{whyNotFinish, boxShare, wordOf, answerOf, finish, whyNotDrop, dropSet}
 use Rattle.call_party.specs.Laws.{waterOf, load-tells, opened-long, opened-width}
 
 -- ---- the open set ends
@@ -163,3 +164,29 @@ pub ordinary-opened : (s : Party) (h : List ℕ) → whyNotLoad s h ≡ 0 → op
     → openedSet (s .who .key) h .width ≡ ordinaryWidth
 ordinary-opened s h e m =
     ordinary-width _ (subst (λ (k : ℕ). widthFits (openedSet (s .who .key) h .width) k ≡ true) m (opened-width s h e))
+
+-- the word by the set's sign: under code 0 it is 01's, "k × (share) + own + its r", by any mark, ..
+module _ (set : Set) (party : ℕ) (ownMasked : List ℕ) (own : ℕ) (other : List ℕ) where
+  abbrev kept : ℕ
+  kept =
+      add
+      (mul (kWord (set .terms)) (boxShare party (set .terms .n) (set .c) ownMasked other (set .x) (set .y)))
+      own
+
+  pub scalar-word : set .terms .code ≡ 0 → wordOf set party ownMasked own other ≡ add kept (set .r)
+  unfolding wordOf
+  scalar-word e = word-plain (set .terms) (set .mark) (scalar-sign (set .terms) (set .mark) e) _ own (set .r)
+
+  -- .. an ordinary set's under the other codes is 02's, "its r minus (k × (share) + own)", .. [SPEC 17.4]
+  pub distance-word : set .mark ≡ ordinaryMark → (set .terms .code ≡ 0 → ⊥)
+      → wordOf set party ownMasked own other ≡ sub (set .r) kept
+  unfolding wordOf
+  distance-word m h =
+      word-close (set .terms) (set .mark) (ap (sign (set .terms)) m ∙ distance-sign (set .terms) h) _ own (set .r)
+
+  -- .. and between two marks it is 01's under every code
+  pub marked-word : set .mark ≡ betweenMark → wordOf set party ownMasked own other ≡ add kept (set .r)
+  unfolding wordOf
+  marked-word m =
+      let plain = marked-sign (set .terms) (set .mark) (λ e. absurd (omega (arith, m, e))) in
+      word-plain (set .terms) (set .mark) plain _ own (set .r)

@@ -1,5 +1,6 @@
--- A box (01, "One check at a box" and "When a call is turned down"; 02, §1 and §4): for each call why it is turned down, the next
--- state, what it sends, and what it leaves in a lent buffer, for any state and anything handed in. Assumes nothing.
+-- A box (01, "One check at a box" and "When a call is turned down"; 02, §1 and §4): for each call why it is turned
+-- down, the next state, what it sends, and what it leaves in a lent buffer, for any state and anything handed in.
+-- Assumes nothing.
 -- [SPEC 12.5, 13.3, 15.3, 16.3, 17.5, 18.5, 19.2, 24.2, 24.5 to 24.9]
 use mathlib.Core.Bool.{Bool, cond, _&&_, not}
 use mathlib.Core.List.{List}
@@ -190,7 +191,7 @@ unfoldable pub boxShare : ℕ → ℕ → ℕ → List ℕ → List ℕ → List
 boxShare party n c ownMasked other x y =
     cond (eqb party cameraParty) (Share.share party n c ownMasked other x y) (Share.share party n c other ownMasked x y)
 
--- "its word: k × (share) + own + its r" (Share.`boxWord`) [SPEC 17.4]
+-- its word, by the sign that the set's terms and mark give (Share.`boxWord`) [SPEC 17.4]
 unfoldable pub wordOf : Set → ℕ → List ℕ → ℕ → List ℕ → ℕ
 wordOf set party ownMasked own other =
     Share.boxWord (set .terms) (set .mark)

@@ -16,7 +16,8 @@ use Rattle.base_words.specs.List.{tab, same}
 use Rattle.measure_table.specs.declared.Terms.{Terms}
 use Rattle.measure_table.specs.Measure.{row, scalarProduct, squaredEuclid, hamming, element, own, cross, measure}
 use Rattle.measure_table.specs.declared.Rule.the-variants.{Between}
-use Rattle.measure_table.specs.Measure.{sign, difference, reached, within, meets, word, ordinaryWidth}
+use Rattle.measure_table.specs.Measure.{sign, difference, reached, within, thresholdFits, meets, ruleFits, inOrder}
+use Rattle.measure_table.specs.Measure.{word, ordinaryWidth}
 use Rattle.share_vectors.specs.Share.{plus, idealGate}
 use Rattle.half_content.specs.Content.{widths, sumFirst, size, blockCount}
 
@@ -28,6 +29,10 @@ pub data Line : Type 0 where
   reaches : ℕ → List ℤ → List ℤ → ℤ → Bool → Line
   -- code, X, Y, P, Q: whether the measure lies from P to Q
   between : ℕ → List ℤ → List ℤ → ℤ → ℤ → Bool → Line
+  -- code, P, Q: whether 8 lets the two marks through
+  ranged : ℕ → ℤ → ℤ → Bool → Line
+  -- P, Q: whether 13 lets them through
+  ordered : ℤ → ℤ → Bool → Line
   -- an element and its mask: the masked element
   masked : ℤ → ℕ → ℕ → Line
   -- width, r and a difference: Z, and what the ideal gate gives
@@ -58,6 +63,8 @@ holds (reaches code x y t b) =
 holds (between code x y p q b) =
     let terms : Terms = termsOf code x in
     Bool·beq (meets terms (Between (word p) (word q)) (measure terms (map word x) (map word y))) b
+holds (ranged code p q b) = Bool·beq (ruleFits (record { code = code; n = 1 }) (Between (word p) (word q))) b
+holds (ordered p q b) = Bool·beq (inOrder (Between (word p) (word q))) b
 holds (masked x m r) = same (plus 1 (word x ∷ []) (m ∷ [])) (r ∷ [])
 holds (gated w r d z g) = eqb (add (word d) r) z && eqb (idealGate w r z) g
 holds (filled n b) = eqb (blockCount n) b
@@ -110,12 +117,15 @@ table =
     -- r = 2^31: difference 2^31 - 1 gives 1; -2^31 gives 0 [SPEC 30.12]
     ∷ gated ordinaryWidth (2 ^ 31) (pos (2 ^ 31 - 1)) (2 ^ 32 - 1) 1
     ∷ gated ordinaryWidth (2 ^ 31) (negℤ (pos (2 ^ 31))) 0 0
-    -- 02, §4: the squared distance 82 from 82 to 82, from 83 to 84 and from 80 to 81; the product -14 from -14 to -13
-    -- and from -16 to -15; two equal vectors of bits from 1 to 513, and from 0 to 0 [SPEC 30.23]
+    -- 02, §4: the squared distance 82 from 82 to 82, from 83 to 84 and from 80 to 81; the product -14 from -14 to -13,
+    -- from -15 to -14, from -15 to -13 and from -16 to -15; two equal vectors of bits from 1 to 513, and from 0 to 0
+    -- [SPEC 30.23]
     ∷ between 1 (pos 3 ∷ negℤ (pos 4) ∷ []) (pos 2 ∷ pos 5 ∷ []) (pos 82) (pos 82) true
     ∷ between 1 (pos 3 ∷ negℤ (pos 4) ∷ []) (pos 2 ∷ pos 5 ∷ []) (pos 83) (pos 84) false
     ∷ between 1 (pos 3 ∷ negℤ (pos 4) ∷ []) (pos 2 ∷ pos 5 ∷ []) (pos 80) (pos 81) false
     ∷ between 0 (pos 3 ∷ negℤ (pos 4) ∷ []) (pos 2 ∷ pos 5 ∷ []) (negℤ (pos 14)) (negℤ (pos 13)) true
+    ∷ between 0 (pos 3 ∷ negℤ (pos 4) ∷ []) (pos 2 ∷ pos 5 ∷ []) (negℤ (pos 15)) (negℤ (pos 14)) true
+    ∷ between 0 (pos 3 ∷ negℤ (pos 4) ∷ []) (pos 2 ∷ pos 5 ∷ []) (negℤ (pos 15)) (negℤ (pos 13)) true
     ∷ between 0 (pos 3 ∷ negℤ (pos 4) ∷ []) (pos 2 ∷ pos 5 ∷ []) (negℤ (pos 16)) (negℤ (pos 15)) false
     ∷ between 2 (pos 1 ∷ pos 0 ∷ pos 1 ∷ pos 1 ∷ []) (pos 1 ∷ pos 0 ∷ pos 1 ∷ pos 1 ∷ []) (pos 1) (pos 513) false
     ∷ between 2 (pos 1 ∷ pos 0 ∷ pos 1 ∷ pos 1 ∷ []) (pos 1 ∷ pos 0 ∷ pos 1 ∷ pos 1 ∷ []) (pos 0) (pos 0) true
@@ -125,10 +135,20 @@ table =
     ∷ gated 5 (2 ^ 32 - 1) (pos 5) 4 1
     ∷ gated 5 (2 ^ 32 - 1) (pos 6) 5 0
     ∷ gated 5 0 (negℤ (pos 1)) (2 ^ 32 - 1) 0
-    -- blocks: L = 1: 3; 16: 3; 17: 4; 512: 16 [SPEC 30.13]
+    -- 8 of two marks under Hamming: 0 and 513; -1 and 513; 0 and 514 [SPEC 30.25]
+    ∷ ranged 2 (pos 0) (pos 513) true
+    ∷ ranged 2 (negℤ (pos 1)) (pos 513) false
+    ∷ ranged 2 (pos 0) (pos 514) false
+    -- 13: 5 and 5; 5 and 4; -2^30 and 2^30; -2^30 and 2^30 - 1 [SPEC 30.26]
+    ∷ ordered (pos 5) (pos 5) true
+    ∷ ordered (pos 5) (pos 4) false
+    ∷ ordered (negℤ (pos (2 ^ 30))) (pos (2 ^ 30)) false
+    ∷ ordered (negℤ (pos (2 ^ 30))) (pos (2 ^ 30 - 1)) true
+    -- blocks: 01's line, with 17: 4 by 02, §4, and 16 beside it. L = 1: 3; 16: 3; 17: 4; 18: 4; 512: 16 [SPEC 30.13]
     ∷ filled 1 3
     ∷ filled 16 3
     ∷ filled 17 4
+    ∷ filled 18 4
     ∷ filled 512 16
     ∷ []
 
@@ -138,6 +158,6 @@ all (l ∷ t) = holds l && all t
 
 pub the-cases : all table ≡ true
 unfolding all table holds termsOf sameℤ crossed widths sumFirst size blockCount idealGate measure own cross element
-    sign difference reached within meets row scalarProduct squaredEuclid hamming word
+    sign difference reached within thresholdFits meets ruleFits inOrder row scalarProduct squaredEuclid hamming word
     plus tab same sum sumℤ add sub W.neg W.signed only less
 the-cases = refl

@@ -14,6 +14,7 @@ use lib.Seq.{getD-at}
 use borrow.Author.Tests.{ltb-true, ltb-false}
 use Rattle.base_algebra.specs.Word.{sub, neg-lt, add-lt, sub-lt}
 use Rattle.base_algebra.specs.Bit.{only, bit-le}
+use Rattle.base_words.specs.Bytes.{Below, Words}
 use Rattle.base_words.specs.Xor.{xors}
 use Rattle.chacha20_rounds.specs.Rounds.{blockFrom}
 use Rattle.chacha20_block.specs.ChaCha20.{block}
@@ -23,10 +24,6 @@ use Rattle.dcf_node.specs.declared.Key.{Key}
 use Rattle.dcf_node.specs.Node.{child, nodeNonce, openedBlock, node, first, packed, corrections, keyFor}
 use Rattle.dcf_node.specs.Node.{correctionAt, walkOf}
 use Rattle.dcf_node.specs.Claims.{seed-length, length-corrections, at-level, blockword-lt}
-
--- each element is a word
-abbrev pub Below : List ℕ → Type 0
-Below l = (i : ℕ) → getD l i 0 < 2 ^ 32
 
 pub take-below : (n : ℕ) (l : List ℕ) → Below l → Below (take n l)
 take-below zero l h i = omega arith
@@ -60,22 +57,23 @@ xors-below (x ∷ a) (y ∷ b) h k (suc i) = xors-below a b (λ j. h (suc j)) (�
 
 -- ---- seeds of eight words
 
-abbrev pub Eight : List ℕ → Type 0
-Eight s = (length s ≡ 8) × Below s
+child-eight : (i : ℕ) (s : List ℕ) (d : Bool) → Words 8 ((node i s d) .seed)
+child-eight i s d = record { long = seed-length i s d; below = seed-below i s d }
 
-child-eight : (i : ℕ) (s : List ℕ) (d : Bool) → Eight ((node i s d) .seed)
-child-eight i s d = (seed-length i s d, seed-below i s d)
-
-xors-eight : (a b : List ℕ) → Eight a → Eight b → Eight (xors a b)
-xors-eight a b ha hb = (length-xors a b (ha .0 ∙ sym (hb .0)) ∙ hb .0, xors-below a b (ha .1) (hb .1))
+xors-eight : (a b : List ℕ) → Words 8 a → Words 8 b → Words 8 (xors a b)
+xors-eight a b ha hb =
+    record {
+      long = length-xors a b (ha .long ∙ sym (hb .long)) ∙ hb .long;
+      below = xors-below a b (ha .below) (hb .below);
+    }
 
 correction-eight : (i : ℕ) (b : Bool) (g : D.Making (List ℕ))
-    → Eight ((D.levelCorrection xors node first i b g) .seed)
+    → Words 8 ((D.levelCorrection xors node first i b g) .seed)
 unfolding D.levelCorrection D.correction
 correction-eight i b g = xors-eight _ _ (child-eight i (g .s0) (not b)) (child-eight i (g .s1) (not b))
 
-next-eight : (c : D.Correction (List ℕ)) (t : Bool) (k : D.Child (List ℕ)) → Eight (c .seed) → Eight (k .seed)
-    → Eight (D.nextSeed xors c t k)
+next-eight : (c : D.Correction (List ℕ)) (t : Bool) (k : D.Child (List ℕ)) → Words 8 (c .seed) → Words 8 (k .seed)
+    → Words 8 (D.nextSeed xors c t k)
 unfolding D.nextSeed D.corrected
 next-eight c true k hc hk = xors-eight (k .seed) (c .seed) hk hc
 next-eight c false k hc hk = hk
@@ -83,8 +81,7 @@ next-eight c false k hc hk = hk
 -- ---- a correction
 
 pub record Fits (c : Correction) : Type 0 where
-  pub seed-long : length (c .seed) ≡ 8
-  pub seed-below : Below (c .seed)
+  pub seed-fits : Words 8 (c .seed)
   pub word-below : c .word < 2 ^ 32
   pub flags-below : c .flags < 4
 
@@ -92,8 +89,7 @@ level-fits : (i : ℕ) (b : Bool) (g : D.Making (List ℕ)) → Fits (packed (D.
 unfolding packed D.levelCorrection D.correction
 level-fits i b g =
     record {
-      seed-long = correction-eight i b g .0;
-      seed-below = correction-eight i b g .1;
+      seed-fits = correction-eight i b g;
       word-below = add-lt _ _;
       flags-below = two _ _;
     }
@@ -139,9 +135,9 @@ last-below k0 k1 r = signed-lt _ _ _
 -- ---- the seeds that are opened, where the key seeds have eight words
 
 module _ (k0 k1 : List ℕ) (point : ℕ) where
-  pub making-eight : Eight k0 → Eight k1 → (i : ℕ)
+  pub making-eight : Words 8 k0 → Words 8 k1 → (i : ℕ)
       → (let g : D.Making (List ℕ) = D.making xors node first k0 k1 (D.bits 32 point) i in
-      Eight (g .s0) × Eight (g .s1))
+      Words 8 (g .s0) × Words 8 (g .s1))
   unfolding D.making D.nextMaking D.kept
   making-eight h0 h1 zero = (h0, h1)
   making-eight h0 h1 (suc i) = (
@@ -149,13 +145,13 @@ module _ (k0 k1 : List ℕ) (point : ℕ) where
     next-eight _ _ _ (correction-eight i _ _) (child-eight i _ _),
   )
 
-  pub key-eight : (i : ℕ) → i < 32 → Eight ((correctionAt ((keyFor k0 k1 point) .corrections) i) .seed)
+  pub key-eight : (i : ℕ) → i < 32 → Words 8 ((correctionAt ((keyFor k0 k1 point) .corrections) i) .seed)
   unfolding keyFor D.keyCorrection
   key-eight i h = rw (at-level k0 k1 point 32 i h) (correction-eight i _ _)
 
-pub walk-eight : (party : ℕ) (key : Key) (seed : List ℕ) (u : ℕ) → Eight seed
-    → ((i : ℕ) → i < 32 → Eight ((correctionAt (key .corrections) i) .seed)) → (i : ℕ) → i ≤ 32
-    → Eight ((walkOf party key seed u i) .seed)
+pub walk-eight : (party : ℕ) (key : Key) (seed : List ℕ) (u : ℕ) → Words 8 seed
+    → ((i : ℕ) → i < 32 → Words 8 ((correctionAt (key .corrections) i) .seed)) → (i : ℕ) → i ≤ 32
+    → Words 8 ((walkOf party key seed u i) .seed)
 unfolding walkOf D.walk D.nextWalk D.taken
 walk-eight party key seed u h fits zero l = h
 walk-eight party key seed u h fits (suc i) l =

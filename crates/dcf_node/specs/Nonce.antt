@@ -8,8 +8,8 @@ use Prim.Native.Nat.{ℕ, suc, _+_, _*_, _^_, _<_}
 use native.Mathlib.Omega.{arith}
 use lib.ListN.{getD, take, replicate}
 use Rattle.base_algebra.specs.Bit.{only, odd}
-use Rattle.base_words.specs.List.{tab, tab-ext, tab-getD}
-use Rattle.base_words.specs.Bytes.{le32, bytesOf, wordAt, wordsAt, wordAt-bytesOf}
+use Rattle.base_words.specs.List.{tab}
+use Rattle.base_words.specs.Bytes.{le32, bytesOf, wordAt, wordsAt, wordAt-bytesOf, Words, words-back}
 use Rattle.base_words.specs.Xor.{xors}
 use Rattle.chacha20_block.specs.ChaCha20.{block, blockBytes}
 use Rattle.dcf_function.specs.Dcf as D
@@ -17,7 +17,6 @@ use Rattle.dcf_node.specs.declared.Key.{Key}
 use Rattle.dcf_node.specs.Node.{child, nodeNonce, openedBlock, node, first, keyFor, correctionAt}
 use Rattle.dcf_node.specs.Node.{walkOf, valueAt}
 use Rattle.dcf_node.specs.Claims.{at-level, in-bytes}
-use Rattle.dcf_node.specs.Bounds.{Eight}
 
 -- ---- the nonce
 
@@ -50,23 +49,16 @@ separate a b ha hb e = sym (level-in a ha) ∙ ap (λ (n : List ℕ). wordAt n 4
 abbrev pub opened : ℕ → List ℕ → D.Opened (List ℕ)
 opened i seed side = child (block seed (only side 1) (nodeNonce (i + 1)))
 
--- eight words as the cipher reads them from a key's bytes
-key-words : (seed : List ℕ) → Eight seed → wordsAt 8 (bytesOf seed) ≡ seed
-unfolding wordsAt
-key-words seed h =
-    tab-ext (λ i. wordAt (bytesOf seed) (4 * i)) (λ i. getD seed i 0) 8 (λ i l.
-    wordAt-bytesOf seed i (omega (arith, h .0)) (h .1 i)) ∙ ap (tab (λ i. getD seed i 0)) (sym (h .0)) ∙ tab-getD seed
-
 -- it is read off RFC 8439's block of a key of 32 bytes and this nonce of 12. That the seeds which are opened have eight
 -- words, if the key seeds do, is Bounds.`making-eight`, `walk-eight`
-module _ (i : ℕ) (level : i < 32) (seed : List ℕ) (long : Eight seed) (side : Bool) where
+module _ (i : ℕ) (level : i < 32) (seed : List ℕ) (long : Words 8 seed) (side : Bool) where
   abbrev counter : ℕ
   counter = only side 1
 
   rfc-block : bytesOf (block seed counter (nodeNonce (i + 1))) ≡ blockBytes (bytesOf seed) counter (nonceOf (i + 1))
   unfolding blockBytes
   rfc-block =
-      ap₂ (λ (k n : List ℕ). bytesOf (block k counter n)) (sym (key-words seed long))
+      ap₂ (λ (k n : List ℕ). bytesOf (block k counter n)) (sym (words-back 8 seed long))
       (sym (nonce-words (i + 1) (omega arith)))
 
   pub opened-bytes :

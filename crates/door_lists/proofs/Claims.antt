@@ -106,7 +106,8 @@ verdict-is : VerdictIs
 unfolding VerdictIs meets within
 verdict-is d x y = (
   λ t is. (
-    λ e. by-rule (Threshold t) is ∙ ap bit (reached-plain (d .terms) (scalar-sign (d .terms) ordinaryMark e) m (signed t)),
+    λ e. by-rule (Threshold t) is
+        ∙ ap bit (reached-plain (d .terms) (scalar-sign (d .terms) ordinaryMark e) m (signed t)),
     λ h. by-rule (Threshold t) is ∙ ap bit (reached-close (d .terms) (distance-sign (d .terms) h) m (signed t)),
   ),
   λ p q is. by-rule (Between p q) is,

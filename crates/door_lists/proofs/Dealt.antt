@@ -83,15 +83,19 @@ module _ (d : Deal) (v : Box → List ℕ) where
       Share.boxWord (d .terms) (s .mark) (share (partyOf b) (d .terms .n) (s .c) (m camera) (m office) (s .x) (s .y))
       (ownWord (d .terms) (v b)) (s .r)
 
+  -- a box's word with this share
+  with-share : Box → ℕ → ℕ
+  with-share b k = Share.boxWord (d .terms) (setOf d b .mark) k (ownWord (d .terms) (v b)) (setOf d b .r)
+
   word-is : (b : Box) → wordBy d v b ≡ plain b
   unfolding wordOf boxShare
   word-is camera =
       rw (mask-is camera, mask-is office, set-terms d camera)
-      (ap (λ (k : ℕ). Share.boxWord (d .terms) (setOf d camera .mark) k (ownWord (d .terms) (v camera)) (setOf d camera .r))
+      (ap (with-share camera)
       (share-fill-x 0 (d .terms .n) _ (m camera) (m office) _ _))
   word-is office =
       rw (mask-is camera, mask-is office, set-terms d office)
-      (ap (λ (k : ℕ). Share.boxWord (d .terms) (setOf d office .mark) k (ownWord (d .terms) (v office)) (setOf d office .r))
+      (ap (with-share office)
       (share-fill-y 1 (d .terms .n) _ (m camera) (m office) _ _))
 
   swap : (a b : ℕ) → add a b ≡ add b a

@@ -86,7 +86,8 @@ pub record Message (A : Type 0) : Type 0 where
 -- "It holds deals, loads, calls 2 to 4, drops and joins in any order, refused ones included": a call with all that it
 -- is handed beside its part's state [SPEC 25.3]
 pub data Call : Type 0 where
-  -- what is to be dealt, and the two buffers lent
+  -- what is to be dealt, by a threshold or between two marks, and the two buffers lent. 02, §4's deal is a call of the
+  -- list too: "A later request's calls on these parts may stand in it too" [SPEC 25.5]
   deal : Deal → List ℕ → List ℕ → Call
   -- a half
   load : Box → List ℕ → Call

@@ -137,8 +137,8 @@ BothCanEnd = (s : Starts) (cs : List Call) (d e : Deal) (v u : Box → List ℕ)
     → BothEnded s cs d e v u
 
 -- there are two such checks: after every admissible list that leaves no set open, under every two numbers that are
--- free, for every two measures and lengths, each by a threshold or between two marks (mark 0 or 1), one that says 1 and
--- one that says 0 [SPEC 28.16]
+-- free, for every two measures and lengths, each by a threshold or between two marks (mark 0 or 1), the first says 1
+-- and the second 0 [SPEC 28.16]
 unfoldable pub TwoThereAre : Type 0
 TwoThereAre = (s : Starts) → Started s → (cs : List Call) → Admissible s cs → (n m : ℕ) → n < m → m < 2 ^ 64
     → Free s (history s cs) n → (first second : Terms) (mark mark' : ℕ)

@@ -1,6 +1,6 @@
 -- What a half holds (01, "The sealed half"; 02, §4): the plain content of a set for a party, as a list of fields in
--- order, and the set read back from it. A field more is a name for its place, its width, its bytes, and where it is read back.
--- Bytes are numbers below 256. Assumes nothing. [SPEC 9.1 to 9.6]
+-- order, and the set read back from it. A field more is a name for its place, its width, its bytes, and where it is
+-- read back. Bytes are numbers below 256. Assumes nothing. [SPEC 9.1 to 9.6]
 use mathlib.Core.Path.{_≡_}
 use mathlib.Core.Bool.{Bool, true, cond, _&&_}
 use mathlib.Core.List.{List, [], _∷_, _++_, map}
@@ -9,7 +9,7 @@ use lib.Dec.{eqb, leb, ltb}
 use lib.ListN.{length, getD, take, drop, replicate}
 use Rattle.base_words.specs.Numbers.{bytes, number}
 use Rattle.base_words.specs.List.{same, flat}
-use Rattle.base_words.specs.Bytes.{le32, bytesOf, wordAt, wordsAt}
+use Rattle.base_words.specs.Bytes.{le32, bytesOf, wordAt, wordsAt, Words}
 use Rattle.dcf_node.specs.declared.Correction.{Correction}
 use Rattle.dcf_node.specs.declared.Key.{Key}
 use Rattle.measure_table.specs.declared.Terms.{Terms}
@@ -229,11 +229,6 @@ contentFits name party count b =
     && (widthFits (widthIn b) (markIn b) && zeros (drop (size (terms .n)) b)))))))
 
 -- ---- a set as a deal makes it: what lies in the ranges of its fields
-
--- n words
-pub record Words (n : ℕ) (l : List ℕ) : Type 0 where
-  pub long : length l ≡ n
-  pub below : (i : ℕ) → getD l i 0 < 2 ^ 32
 
 -- n words in an array
 unfoldable pub Filled : ℕ → List ℕ → Type 0

@@ -11,7 +11,7 @@ use lib.Seq.{take-at, drop-at, take-suc, take-all, getD-take, getD-drop, take-ap
 use Rattle.base_algebra.specs.Bit.{both}
 use Rattle.base_words.specs.Numbers.{bytes, number}
 use Rattle.base_words.specs.List.{over, same, same-refl, drop-replicate, over-zeros, flat}
-use Rattle.base_words.specs.Bytes.{le32, bytesOf, wordAt, wordsAt, length-bytesOf}
+use Rattle.base_words.specs.Bytes.{le32, bytesOf, wordAt, wordsAt, length-bytesOf, Words, words-back}
 use Rattle.dcf_node.specs.declared.Correction.{Correction}
 use Rattle.dcf_node.specs.declared.Key.{Key}
 use Rattle.measure_table.specs.declared.Terms.{Terms}
@@ -20,13 +20,13 @@ use Rattle.measure_table.specs.Laws.{code-lt, length-fits}
 use Rattle.half_content.specs.declared.Set.{Set}
 use Rattle.half_content.specs.Content.{textBytes, mostBlocks, roomBytes, part, fill, correctionBytes}
 use Rattle.half_content.specs.Content.{nameField, partyField, codeField, lengthField, maskField, xField, yField}
-use Rattle.half_content.specs.Content.{cField, rField, seedField, correctionsField, lastField, widthField, markField}
-use Rattle.half_content.specs.Content.{fields, widths, sumFirst, offset, width, size, blockCount, plain}
-use Rattle.half_content.specs.Content.{lengthIn, field, termsIn, correctionIn, correctionsIn, keyIn, setIn}
+use Rattle.half_content.specs.Content.{cField, rField, seedField, correctionsField, lastField, widthField}
+use Rattle.half_content.specs.Content.{markField, fields, widths, sumFirst, offset, width, size, blockCount}
+use Rattle.half_content.specs.Content.{plain, lengthIn, field, termsIn, correctionIn, correctionsIn, keyIn, setIn}
 use Rattle.half_content.specs.Content.{widthIn, markIn, noCorrection, flagsFit, widthFits, zeros, contentFits}
-use Rattle.half_content.specs.Content.{Words, Filled, Corrections, FlagBytes, Proper}
+use Rattle.half_content.specs.Content.{Filled, Corrections, FlagBytes, Proper}
 use Rattle.half_content.specs.Pieces.{sumFirst-suc, length-flat, piece-at, part-flat, take-replicate, wordAt-past}
-use Rattle.half_content.specs.Pieces.{getD-past, length-even, wordsAt-bytesOf, words-back, wordAt-le32}
+use Rattle.half_content.specs.Pieces.{getD-past, length-even, wordsAt-bytesOf, wordAt-le32}
 
 -- ---- sizes
 
@@ -39,6 +39,15 @@ size-is n = omega arith
 pub head-is : (n : ℕ) → offset n maskField ≡ 20
 unfolding offset widths sumFirst
 head-is n = refl
+
+-- the width, "one more word after the final word", and "then a mark byte" [SPEC 9.1]
+pub width-is : (n : ℕ) → offset n widthField ≡ 1248 + 12 * n
+unfolding offset widths sumFirst
+width-is n = omega arith
+
+pub mark-is : (n : ℕ) → offset n markField ≡ 1252 + 12 * n
+unfolding offset widths sumFirst
+mark-is n = omega arith
 
 -- a field ends where the next one starts
 pub offset-next : (n f : ℕ) → offset n (suc f) ≡ offset n f + width n f
@@ -167,12 +176,11 @@ lengthIn-take k b h =
 
 -- ---- width and mark
 
-pub width-tells : (w mark : ℕ) → widthFits w mark ≡ true → (mark ≤ betweenMark) × (w < 2 ^ 32)
+pub width-tells : (w mark : ℕ) → widthFits w mark ≡ true → (mark ≤ betweenMark) × (w ≤ ordinaryWidth)
 unfolding widthFits
 width-tells w mark h =
     let parts = both (leb mark betweenMark) _ h in
-    let narrow = leb-true w ordinaryWidth (both (leb w ordinaryWidth) _ (parts .1) .0) in
-    (leb-true mark betweenMark (parts .0), omega (arith, narrow))
+    (leb-true mark betweenMark (parts .0), leb-true w ordinaryWidth (both (leb w ordinaryWidth) _ (parts .1) .0))
 
 -- an ordinary set has 2^31 - 1, "another w under mark 0" being turned down
 pub ordinary-width : (w : ℕ) → widthFits w ordinaryMark ≡ true → w ≡ ordinaryWidth
@@ -280,7 +288,8 @@ module _ (name : List ℕ) (party : ℕ) (s : Set) (named : length name ≡ 16) 
 
   its-width : widthIn (plain name party s) ≡ s .width
   unfolding widthIn fields
-  its-width = word widthField (s .width) refl (width-tells (s .width) (s .mark) (p .width-fits) .1)
+  its-width =
+      word widthField (s .width) refl (omega (arith, width-tells (s .width) (s .mark) (p .width-fits) .1))
 
   its-mark : markIn (plain name party s) ≡ s .mark
   unfolding markIn fields

@@ -1,7 +1,7 @@
 -- A half from before 02, §4: its content ended with the final word, and zeros filled its blocks. Of every such content,
 -- whatever its number of blocks, 11 now says that it does not fit. Assumes nothing. [SPEC 9.7, 23.11]
-use mathlib.Core.Path.{_≡_, refl, sym, ap, ap₂, _∙_}
-use mathlib.Core.Bool.{Bool, true, false, _&&_, and-false}
+use mathlib.Core.Path.{_≡_, refl, sym, ap, _∙_}
+use mathlib.Core.Bool.{Bool, true, false, _&&_}
 use mathlib.Core.List.{List, [], _∷_, _++_, map}
 use Prim.Native.Nat.{ℕ, zero, suc, _+_, _*_, _<_}
 use native.Mathlib.Omega.{arith}
@@ -15,10 +15,11 @@ use Rattle.measure_table.specs.Measure.{isCode, lengthFits}
 use Rattle.measure_table.specs.Laws.{length-fits}
 use Rattle.half_content.specs.declared.Set.{Set}
 use Rattle.half_content.specs.Content.{part, nameField, partyField, lengthField, widthField, markField, fields}
-use Rattle.half_content.specs.Content.{widths, sumFirst, offset, width, size, blockCount, lengthIn, field, termsIn}
-use Rattle.half_content.specs.Content.{keyIn, widthIn, markIn, flagsFit, widthFits, zeros, contentFits, Proper}
-use Rattle.half_content.specs.Pieces.{length-flat, piece-at, wordAt-past, getD-past, wordAt-part, getD-part}
-use Rattle.half_content.specs.Laws.{lengths}
+use Rattle.half_content.specs.Content.{widths, sumFirst, offset, width, size, blockCount, lengthIn, field}
+use Rattle.half_content.specs.Content.{termsIn, keyIn, widthIn, markIn, flagsFit, widthFits, zeros, contentFits}
+use Rattle.half_content.specs.Content.{Proper}
+use Rattle.half_content.specs.Pieces.{length-flat, piece-at, getD-past, getD-part}
+use Rattle.half_content.specs.Laws.{width-is, lengths}
 
 no-byte : (k i : ℕ) → _≡_ {A = ℕ} (getD (replicate k 0) i 0) 0
 no-byte zero i = refl
@@ -55,6 +56,10 @@ module _ (name : List ℕ) (party : ℕ) (s : Set) (named : length name ≡ 16) 
   unfolding offset widths sumFirst fields
   older-end =
       length-flat olderFields ∙ ap (λ (ws : List ℕ). sumFirst ws widthField) older-lengths
+
+  -- 01's size: "That is 1,248 + 12 × L bytes"
+  pub older-size : length (flat olderFields) ≡ 1248 + 12 * n
+  older-size = older-end ∙ width-is n
 
   no-byte-there : (i : ℕ) → getD olderPlain (offset n widthField + i) 0 ≡ 0
   no-byte-there i = getD-past (flat olderFields) (replicate fill 0) (offset n widthField) i older-end ∙ no-byte fill i

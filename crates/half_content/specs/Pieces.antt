@@ -8,8 +8,8 @@ use lib.ListN.{replicate-append-replicate}
 use lib.Seq.{take-append-seam, drop-append-add, drop-drop, getD-append-add, getD-take, getD-drop, take-at, drop-at}
 use lib.Seq.{length-take-le}
 use Rattle.base_words.specs.List.{tab, tab-ext, tab-getD, flat}
-use Rattle.base_words.specs.Bytes.{le32, bytesOf, wordAt, wordsAt, length-bytesOf, wordAt-bytesOf}
-use Rattle.half_content.specs.Content.{part, sumFirst, Words}
+use Rattle.base_words.specs.Bytes.{le32, bytesOf, wordAt, wordsAt, length-bytesOf, wordAt-bytesOf, Words}
+use Rattle.half_content.specs.Content.{part, sumFirst}
 
 -- within a list the default does not matter
 pub getD-any {ℓ} : {A : Type ℓ} (l : List A) (i : ℕ) (d e : A) → i < length l → getD l i d ≡ getD l i e
@@ -132,9 +132,6 @@ wordsAt-bytesOf n w rest h =
     word : (i : ℕ) → i < length w → wordAt (bytesOf w ++ rest) (4 * i) ≡ getD w i 0
     word i l =
         wordAt-append (bytesOf w) rest (4 * i) (omega (arith, length-bytesOf w)) ∙ wordAt-bytesOf w i l (h .below i)
-
-pub words-back : (n : ℕ) (w : List ℕ) → Words n w → wordsAt n (bytesOf w) ≡ w
-words-back n w h = ap (wordsAt n) (sym (append-nil (bytesOf w))) ∙ wordsAt-bytesOf n w [] h
 
 pub wordAt-le32 : (x : ℕ) (rest : List ℕ) → x < 2 ^ 32 → wordAt (le32 x ++ rest) 0 ≡ x
 unfolding bytesOf le32

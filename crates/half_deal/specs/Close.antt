@@ -1,7 +1,8 @@
 -- What T and the set's sign do to a set (02, §2): they go into party 1's r word and nowhere else. With the plain sign,
 -- the scalar product's and that of every set between two marks, that word is 01's. With the sign -1, that of squared
 -- Euclid and Hamming in an ordinary set, it is 02's, and of a half's content nothing but this word differs from what
--- 01's would give. T is the threshold, or the first mark. Assumes nothing. [SPEC 5.8, 5.13]
+-- 01's would give. Between two marks P stands for T here, and is in the width Q - P as well. Assumes nothing.
+-- [SPEC 5.8, 5.13]
 use mathlib.Core.Path.{_≡_, refl, ap, ap₂}
 use mathlib.Core.Bool.{cond}
 use mathlib.Core.List.{List}
@@ -64,7 +65,8 @@ module _ (d : Deal) where
 -- and party 0's is the same for every two rules of one width and mark: for every T, and for every two marks that are as
 -- far apart
 pub camera-any : (number : ℕ) (seed : List ℕ) (terms : Terms) (rule other : Rule) → widthOf rule ≡ widthOf other
-    → markOf rule ≡ markOf other → dealtSet (dealFrom number seed terms rule) 0 ≡ dealtSet (dealFrom number seed terms other) 0
+    → markOf rule ≡ markOf other
+    → dealtSet (dealFrom number seed terms rule) 0 ≡ dealtSet (dealFrom number seed terms other) 0
 unfolding dealtSet setFrom rOf
 camera-any number seed terms rule other ew em = ap₂ told ew em
   where

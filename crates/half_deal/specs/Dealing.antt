@@ -1,5 +1,5 @@
--- Dealing a set (01, "Dealing a set"; 02, §2 and §4): the words that the dealer draws, and the set that each party gets. A
--- party is its number. Assumes nothing. [SPEC 5.1, 5.9 to 5.11, 5.13]
+-- Dealing a set (01, "Dealing a set"; 02, §2 and §4): the words that the dealer draws, and the set that each party
+-- gets. A party is its number. Assumes nothing. [SPEC 5.1, 5.9 to 5.11, 5.13, 5.16]
 use mathlib.Core.Bool.{cond}
 use mathlib.Core.List.{List, [], _∷_}
 use Prim.Native.Nat.{ℕ, _+_, _*_}
@@ -65,7 +65,8 @@ pub record Deal : Type 0 where
 abbrev pub dealFrom : ℕ → List ℕ → Terms → Rule → Deal
 dealFrom number seed terms rule = record { number = number; seed = seed; terms = terms; rule = rule }
 
--- r0 at party 0, r1 at party 1, from the words that were drawn; T or P is in no other word [SPEC 5.8, 5.9]
+-- r0 at party 0, r1 at party 1, from the words that were drawn: T is in no other word, and P in the width alone
+-- [SPEC 5.8, 5.9, 5.13]
 unfoldable pub rOf : Deal → List ℕ → ℕ → ℕ
 rOf d w party =
     let n : ℕ = d .terms .n in

@@ -15,10 +15,10 @@ use Rattle.base_algebra.specs.Word.{add, sub, mul, add-lt, sub-lt}
 use Rattle.base_algebra.specs.Bit.{only, odd}
 use Rattle.base_algebra.specs.Sum.{sum-ext}
 use Rattle.base_words.specs.List.{tab, length-tab, tab-ext}
-use Rattle.base_words.specs.Bytes.{wordsAt}
+use Rattle.base_words.specs.Bytes.{wordsAt, Below, Words}
 use Rattle.chacha20_stream.specs.Keystream.{keyWord, stream}
 use Rattle.dcf_node.specs.declared.Correction.{Correction}
-use Rattle.dcf_node.specs.Bounds.{Below, Fits, take-below, block-below, key-long, key-fits, last-below}
+use Rattle.dcf_node.specs.Bounds.{Fits, take-below, block-below, key-long, key-fits, last-below}
 use Rattle.measure_table.specs.declared.Terms.{Terms}
 use Rattle.measure_table.specs.declared.Rule.{Rule}
 use Rattle.measure_table.specs.declared.Rule.the-variants.{Threshold, Between}
@@ -28,7 +28,7 @@ use Rattle.measure_table.specs.Laws.{width-most}
 use Rattle.share_vectors.specs.Share.{plus, inner, otherC, otherR, share, boxWord, answer}
 use Rattle.share_vectors.specs.Claims.{join-law}
 use Rattle.half_content.specs.declared.Set.{Set}
-use Rattle.half_content.specs.Content.{part, fill, noCorrection, widthFits, Words, Filled, Corrections, Proper}
+use Rattle.half_content.specs.Content.{part, fill, noCorrection, widthFits, Filled, Corrections, Proper}
 use Rattle.half_content.specs.Pieces.{length-part}
 use Rattle.half_deal.specs.Dealing.{setWords, x, y, c0, r, r0, keySeed, maskX, maskY, ownMask, cOf, Deal, rOf}
 use Rattle.half_deal.specs.Dealing.{setFrom, dealtSet}
@@ -113,7 +113,7 @@ module _ (d : Deal) (w : List ℕ) (long : length w ≡ 4 * d .terms .n + 19) (b
       below-either false h k = k
 
       fits : {c : Correction} → Fits c → Words 8 (c .seed) × (c .word < 2 ^ 32) × (c .flags < 4)
-      fits f = (record { long = f .seed-long; below = f .seed-below }, f .word-below, f .flags-below)
+      fits f = (f .seed-fits, f .word-below, f .flags-below)
 
 pub proper : (d : Deal) (party : ℕ) → d .number < 2 ^ 64 → isCode (d .terms .code) ≡ true
     → lengthFits (d .terms) ≡ true → inOrder (d .rule) ≡ true → party ≤ 1 → Proper (dealtSet d party)

@@ -1,5 +1,6 @@
--- A dealt set with another key in it, as it was dealt before 02, §3, over another nonce. Of its content nothing but the
--- 32 corrections and the final word differs, and 11 lets it through. Assumes nothing. [SPEC 5.14, 5.15]
+-- A dealt set with another key in it, as another opening of a node would make it (02, §3). Of its content nothing but
+-- the 32 corrections and the final word differs, and 11 lets it through. (A half that was dealt before 02, §3, has no
+-- width and no mark either, and 11 refuses it: half_content Older.) Assumes nothing. [SPEC 5.15]
 use mathlib.Core.Path.{_≡_, refl}
 use mathlib.Core.Bool.{true}
 use mathlib.Core.List.{List, map}

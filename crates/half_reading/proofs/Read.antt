@@ -122,7 +122,8 @@ module _ (b : List ℕ) (n : ℕ) (en : n ≡ lengthIn b) where
       λ k. record { code = coded k; n = en k }
 
 -- the set: each of its fields where it stands
-module _ (set : ℕ) (b : List ℕ) (terms : Terms) (et : terms ≡ termsIn b) (xAt yAt cAt rAt seedAt csAt widthAt markAt : ℕ)
+module _ (set : ℕ) (b : List ℕ) (terms : Terms) (et : terms ≡ termsIn b)
+    (xAt yAt cAt rAt seedAt csAt widthAt markAt : ℕ)
     (ex : xAt ≡ offset (terms .n) xField) (ey : yAt ≡ offset (terms .n) yField) (ec : cAt ≡ offset (terms .n) cField)
     (er : rAt ≡ offset (terms .n) rField) (es : seedAt ≡ offset (terms .n) seedField)
     (ek : csAt ≡ offset (terms .n) correctionsField) (ew : widthAt ≡ offset (terms .n) widthField)

@@ -1,6 +1,6 @@
 -- Claim half: the half that a deal writes for a party is taken there and opens to the dealt set; and of any whole
 -- blocks that some deals of distinct numbers wrote for that party, only one deal's whole half is taken. A deal is its
--- set here. Assumes nothing.
+-- set here. And a half from before 02, §4, is refused by 11. Assumes nothing.
 use mathlib.Core.Path.{_≡_, refl, sym, ap, ap₂, _∙_, subst}
 use mathlib.Core.Bool.{Bool, true, false, _&&_}
 use mathlib.Core.List.{List, _++_}
@@ -123,8 +123,8 @@ module _ (key name : List ℕ) (party : ℕ) (named : length name ≡ 16) where
         )
         (setIn-plain name party s named p)
 
-    -- a half from before 02, §4, whose content ended with the final word, is refused by 11 ("01's eleventh refusal takes
-    -- in .. another w under mark 0"), whatever its number of blocks [SPEC 9.7, 23.11]
+    -- a half from before 02, §4, whose content ended with the final word, is refused by 11 ("01's eleventh refusal
+    -- takes in .. another w under mark 0"), whatever its number of blocks [SPEC 9.7, 23.11]
     pub older-half-refused : (fill blocks last : ℕ)
         → length (olderPlain name party s named p fill) ≡ textBytes * blocks → 3 ≤ blocks → blocks ≤ mostBlocks
         → last < s .number

@@ -425,7 +425,8 @@ bound terms mark t x y hn hx hy ht =
 -- the scalar product's sign is plain by any mark ..
 pub scalar-sign : (terms : Terms) (mark : ℕ) → terms .code ≡ 0 → sign terms mark ≡ pos 1
 unfolding sign row scalarProduct
-scalar-sign terms mark e = ap (λ (c : ℕ). cond (eqb mark ordinaryMark) (row c .sign) (pos 1)) e ∙ either (eqb mark ordinaryMark)
+scalar-sign terms mark e =
+    ap (λ (c : ℕ). cond (eqb mark ordinaryMark) (row c .sign) (pos 1)) e ∙ either (eqb mark ordinaryMark)
   where
     either : (b : Bool) → cond b (pos 1) (pos 1) ≡ pos 1
     either true = refl
@@ -538,7 +539,7 @@ marks-apart : (p q : ℕ) → inOrder (Between p q) ≡ true → signed q -ℤ s
 unfolding inOrder
 marks-apart p q h =
     let ordered = both (leZ (signed p) (signed q)) _ h in
-    let wide = le-trans (of-test _ _ (ordered .1)) (of-test (pos ordinaryWidth) (pos (2 ^ 32 - 1)) refl) in
+    let wide = le-trans (of-test _ _ (ordered .1)) (of-test _ (pos (2 ^ 32 - 1)) refl) in
     apart p q (ordered .0) (to-test {a = signed q -ℤ signed p} wide)
 
 -- a rule's width is at most an ordinary set's [SPEC 3.15]

@@ -101,7 +101,8 @@ unfoldable pub measure : Terms → List ℕ → List ℕ → ℤ
 measure terms x y = own terms x +ℤ own terms y +ℤ row (terms .code) .k *ℤ cross terms x y
 
 -- the sign of a set's sum: an ordinary set, of mark 0, "keeps its code's sign", and one between two marks has "the
--- plain sign for every code" (02, §4). Terms, mark [SPEC 3.6, 3.14]
+-- plain sign for every code" (02, §4). A mark above 1, which a state handed in may have, counts as 1. Terms, mark
+-- [SPEC 3.6, 3.14, 12.21]
 unfoldable pub sign : Terms → ℕ → ℤ
 sign terms mark = cond (eqb mark ordinaryMark) (row (terms .code) .sign) (pos 1)
 

@@ -19,8 +19,8 @@ pub struct Terms {
 }
 
 // What a set answers yes to: a measure that reaches the threshold, or one that lies from the first
-// mark to the second, both included. Only the dealer knows it: of two marks the boxes know how far
-// they are apart.
+// mark to the second, both included. Only the dealer knows it: the boxes know which of the two it is,
+// and of two marks how far they are apart.
 pub enum Rule {
     Threshold(u32),
     Between(u32, u32),
@@ -31,8 +31,8 @@ pub const ORDINARY_MARK: u32 = 0;
 
 pub const BETWEEN_MARK: u32 = 1;
 
-// The width of an ordinary set (2^31 - 1): what its boxes open lies from 0 to this if the threshold is
-// reached.
+// The width of an ordinary set (2^31 - 1): what its boxes open, less r, lies from 0 to this if the
+// threshold is reached.
 pub const ORDINARY_WIDTH: u32 = 2147483647;
 
 // -1, -2, -1024 and -2^30
@@ -46,7 +46,7 @@ const MINUS_2_30: u32 = 3221225472;
 
 // A row of the table. `squares`: own is the sum of squares, else 0. An element lies from `low` to
 // `high`, a threshold from `least` to `most`. A vector has at most `longest` elements. `sign`: 1 where
-// a set opens measure - T, and -1 where it opens T - measure.
+// an ordinary set opens measure - T, less r, and -1 where it opens T - measure.
 pub struct Row {
     pub squares: bool,
     pub k: u32,

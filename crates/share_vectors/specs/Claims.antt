@@ -1,7 +1,7 @@
 -- Claim opened-sum: whatever the masks, the two boxes' words sum to measure - T + r, and with sign -1 to
--- T - measure + r. Claim join law: whatever the key seeds, their answers sum to 1 if the rule that was dealt is met,
--- else to 0. Both over free words: where they come from is another layer's matter; and over either sign. And that the
--- formulas are equal to the papers'. Assumes nothing.
+-- T - measure + r, where T is the threshold or the first mark. Claim join law: whatever the key seeds, their answers
+-- sum to 1 if the rule that was dealt is met, else to 0. Both over free words: where they come from is another layer's
+-- matter; and over either sign. And that the formulas are equal to the papers'. Assumes nothing.
 use mathlib.Core.Path.{_≡_, refl, sym, ap, ap₂, _∙_}
 use mathlib.Core.Bool.{true}
 use mathlib.Core.List.{List, [], _∷_}
@@ -241,7 +241,7 @@ module _ (terms : Terms) (mark t : ℕ) (x y x0 x1 y0 y1 : List ℕ) (c0 r r0 : 
       last G M S z g m r t ez eg em es =
           ring (residue (2 ^ 32) G ∷ residue (2 ^ 32) M ∷ r ∷ t ∷ []) (search words depth 40 fits 5000) refl
 
-  -- "measure - T + r" ..
+  -- measure - T + r ..
   pub opened-plain : sign terms mark ≡ pos 1
       → add word0 word1 ≈ residue (2 ^ 32) (measure terms x y -ℤ signed t) + r
   opened-plain plain = rw (sym (difference-plain terms mark plain (measure terms x y) (signed t))) opened-sum

@@ -43,8 +43,9 @@ unfoldable pub boxWord : Terms → ℕ → ℕ → ℕ → ℕ → ℕ
 boxWord terms mark s own r = add (mul (signWord terms mark) (add (mul (kWord terms) s) own)) r
 
 -- call 4 (02, §4): "An answer is then value at Z - (w + 1) minus value at Z, and party 1 adds 1 if Z < w + 1". At an
--- ordinary set's w that is 01's: "value at Z + 2^31 minus value at Z, and party 1 adds 1 if Z < 2^31". Width, party,
--- key, key seed, Z [SPEC 18.3, 18.4]
+-- ordinary set's w that is 01's: "value at Z + 2^31 minus value at Z, and party 1 adds 1 if Z < 2^31". A w of 2^32 - 1,
+-- which a state handed in may have, makes w + 1 zero, and the answer too. Width, party, key, key seed, Z
+-- [SPEC 12.21, 18.3, 18.4]
 unfoldable pub answer : ℕ → ℕ → Key → List ℕ → ℕ → ℕ
 answer w party key seed z =
     let end : ℕ = add w 1 in

@@ -19,8 +19,8 @@ pub fn closed() -> Door {
     }
 }
 
-// A start, `put`, `waiting`, `width` or `show`. Every part is handed the line, and those that it does not ask answer zeros:
-// with no branch here the walk carries each state once.
+// A start, `put`, `waiting`, `width` or `show`. Every part is handed the line, and those that it does not
+// ask answer zeros: with no branch here the walk carries each state once.
 fn prepare(door: Door, b: &mut [u8; BYTES], l: Line) -> DoorAnswer {
     let d = starts::dealer(door.dealer, b, l);
     let c = starts::box_at(door.camera, lines::CAMERA, b, l);
