@@ -1,8 +1,8 @@
 /*
- * For test.c alone: sets that older versions dealt, with number and threshold below. The boxes' keys
- * and the seed are 32 bytes each, which count up from the first ones below. The first set is what
- * door_deal of landing 13 wrote, for the door "Hut 4", DOOR_SCALAR and L = 1. Each node of its
- * comparison key was opened under a nonce of zeros.
+ * Sets that older versions dealt, for test.c, which loads them, and for the second implementation,
+ * which deals them again. The boxes' keys and the seed are 32 bytes each, which count up from the
+ * first ones below. The first set is what door_deal of landing 13 wrote, for the door "Hut 4",
+ * DOOR_SCALAR and L = 1. Each node of its comparison key was opened under a nonce of zeros.
  */
 #define OLDER_NUMBER 41
 #define OLDER_T 6

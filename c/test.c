@@ -1,8 +1,8 @@
 /*
  * Calls every function of door.h as a host does: whole checks, whose answers must be those of the
- * measure computed here, and each refusal of each call, which must change nothing, empty slices with
- * a null pointer among them; and loads of sets that older versions dealt, which are all refused. Its
- * argument is the level that must be in use. c/test runs it.
+ * measure computed here, and each refusal of each call, which must change nothing, empty slices
+ * with a null pointer among them; and loads of sets that older versions dealt, which are all
+ * refused. Its argument is the level that must be in use. c/test runs it.
  */
 #include "door.h"
 #include "older.h"
@@ -211,6 +211,16 @@ static struct check drawn_check(uint32_t code, size_t n)
     return k;
 }
 
+/* Two marks, of which the first is just the measure. */
+static void draw_marks(struct check *k)
+{
+    k->between = true;
+    k->t = measure(k);
+    k->q = k->t + draw() % 1000;
+    while (!may_be_dealt(k))
+        k->q--;
+}
+
 /* How many bytes the half of a set of length n has: 484 of its content in each block. */
 static size_t half_size(size_t n)
 {
@@ -402,8 +412,8 @@ static void masks(struct door *d, const struct check *k, struct vector sent[2])
     }
 }
 
-/* For a product, and between two marks, the sum of the words is measure - T + r, and the two r words
-   sum to r - T; for a distance with a threshold they are T - measure + r, and r + T. */
+/* For a product, and between two marks, the sum of the words is measure - T + r, and the two r
+   words sum to r - T; for a distance with a threshold they are T - measure + r, and r + T. */
 static void takes(
     struct door *d, uint64_t number, const struct check *k, struct vector sent[2],
     uint32_t words[2])
@@ -1035,10 +1045,12 @@ struct stage {
 
 static struct stage stage;
 
-static void set_stage(uint32_t code, size_t n)
+static void set_stage(uint32_t code, size_t n, bool between)
 {
     struct door d = open_door(40);
     struct check k = drawn_check(code, n);
+    if (between)
+        draw_marks(&k);
     struct vector sent[2];
     uint32_t words[2];
     deals(&d, 41, &k, &stage.halves);
@@ -1304,6 +1316,27 @@ static void empty_at_dealer(uint8_t *none)
     EXPECT(memcmp(&h, &before, sizeof h) == 0);
 }
 
+static void empty_at_deal_between(uint8_t *none)
+{
+    static struct halves h, before;
+    const struct door_terms terms = {DOOR_SCALAR, 18};
+    const struct door_dealer dealer = dealer_of(BARE, sizeof BARE, 40);
+    size_t key = DOOR_KEY, room = sizeof h.half[0];
+    uint8_t *out0 = h.half[0], *out1 = h.half[1];
+    draw_bytes(out0, room);
+    draw_bytes(out1, room);
+    before = h;
+    dealer_refused(door_deal_between(dealer, 41, none, 0, terms, 0, 1, out0, room, out1, room),
+        &dealer, DOOR_WRONG_LENGTH);
+    dealer_refused(door_deal_between(dealer, 41, seed, key, terms, 0, 1, none, 0, out1, room),
+        &dealer, DOOR_SHORT_BUFFER);
+    dealer_refused(door_deal_between(dealer, 41, seed, key, terms, 0, 1, out0, room, none, 0),
+        &dealer, DOOR_SHORT_BUFFER);
+    dealer_refused(door_deal_between(dealer, 41, none, 0, terms, 1, 0, none, 0, none, 0),
+        &dealer, DOOR_WRONG_LENGTH);
+    EXPECT(memcmp(&h, &before, sizeof h) == 0);
+}
+
 static void empty_at_box(uint8_t *none, uint32_t *no_words)
 {
     static const struct door_party none_started;
@@ -1354,34 +1387,15 @@ static void empty_at_lock(uint8_t *none)
 static void empty_slices(uint8_t *none, uint32_t *no_words)
 {
     empty_at_dealer(none);
+    empty_at_deal_between(none);
     empty_at_box(none, no_words);
     empty_at_lock(none);
 }
 
-/* Load ahead. Every buffer that is lent has drawn bytes on both sides, which must stay. */
+/* Load ahead. */
 
-#define FENCE 64 /* bytes on each side */
-#define FENCED_MOST DOOR_HALF_MOST
 #define AHEAD 50   /* the number of the set that waits while set 41 is open */
 #define FURTHER 51 /* of one that cannot wait as well */
-
-struct fenced {
-    _Alignas(8) uint8_t at[FENCE + FENCED_MOST + FENCE];
-    uint8_t expected[FENCE + FENCED_MOST + FENCE];
-};
-
-static void *fence(struct fenced *f, const void *bytes, size_t size)
-{
-    draw_bytes(f->at, sizeof f->at);
-    memcpy(f->at + FENCE, bytes, size);
-    memcpy(f->expected, f->at, sizeof f->at);
-    return f->at + FENCE;
-}
-
-static void unhurt(const struct fenced *f)
-{
-    EXPECT(memcmp(f->at, f->expected, sizeof f->at) == 0);
-}
 
 static struct door_party_answer load_fenced(
     const struct door_party *box, const uint8_t *half, size_t size)
@@ -1460,18 +1474,20 @@ static struct door_party load_ahead(const struct door_party *box)
     return a.party;
 }
 
-static void set_ahead(uint32_t code, size_t n)
+static void set_ahead(uint32_t code, size_t n, bool between)
 {
     struct door d = open_door(41);
     struct check k = drawn_check(code, n);
     struct door_party unloaded = idle(1, 41);
+    if (between)
+        draw_marks(&k);
     deals(&d, AHEAD, &k, &ahead.halves);
     deals(&d, FURTHER, &k, &ahead.further);
     ahead.size = half_size(n);
     ahead.n = n;
     struct door_party_answer a = load_fenced(&unloaded, ahead.halves.half[1], ahead.size);
     EXPECT(a.why == DOOR_ACCEPTED && a.party.last == AHEAD);
-    EXPECT(same_set(&a.party.waiting, &NO_SET));
+    EXPECT(has_rule(&a.party.check.set, &k) && same_set(&a.party.waiting, &NO_SET));
     ahead.opened = a.party;
     for (uint32_t phase = DOOR_LOADED; phase <= DOOR_TAKEN; phase++)
         ahead.at[phase] = load_ahead(&stage.at[phase]);
@@ -1632,9 +1648,74 @@ static void messages_ahead(void)
     fenced_refused(finish_fenced(taken, word_message, 1), taken, DOOR_WRONG_MESSAGE);
 }
 
-static void loads_ahead(uint32_t code, size_t n)
+/* Width and mark of a state that is handed in are not tested, whatever they are. */
+
+static const struct { uint32_t width, mark; } ODD_RULES[] = {
+    {0, 0}, {5, 0}, {WIDEST + 1u, 0}, {UINT32_MAX, 0}, {0, 1}, {WIDEST, 1}, {UINT32_MAX, 1},
+    {0, 2}, {WIDEST, 256}, {UINT32_MAX, UINT32_MAX}};
+#define COUNT_ODD (sizeof ODD_RULES / sizeof *ODD_RULES)
+
+static void give_rule(struct door_set *set, size_t i)
 {
-    set_ahead(code, n);
+    set->width = ODD_RULES[i].width;
+    set->mark = ODD_RULES[i].mark;
+}
+
+/* The words under mark 0 and under another one sum to 2 r; for a product they are the same. */
+static void word_goes_by_mark(const struct door_party *odd)
+{
+    struct door_party ordinary = *odd;
+    ordinary.check.set.mark = 0;
+    const uint32_t word0 = take_fenced(&ordinary, stage.vector, stage.v).word;
+    const uint32_t word1 = take_fenced(odd, stage.vector, stage.v).word;
+    if (odd->check.set.mark == 0 || odd->check.set.terms.code == DOOR_SCALAR)
+        EXPECT(word0 == word1);
+    else
+        EXPECT(word0 + word1 == 2 * odd->check.set.r);
+}
+
+static void odd_rules_open(size_t i)
+{
+    for (uint32_t phase = DOOR_IDLE; phase <= DOOR_TAKEN; phase++) {
+        struct door_party box = stage.at[phase];
+        give_rule(&box.check.set, i);
+        turns(&box, true);
+        if (phase == DOOR_MASKED)
+            word_goes_by_mark(&box);
+        struct door_party none_waiting = stage.at[phase];
+        give_rule(&none_waiting.waiting, i);
+        turns(&none_waiting, true);
+    }
+}
+
+/* What waits keeps them when it is opened. */
+static void odd_rules_ahead(size_t i)
+{
+    struct door_party opened = ahead.opened;
+    give_rule(&opened.check.set, i);
+    for (uint32_t phase = DOOR_LOADED; phase <= DOOR_TAKEN; phase++) {
+        struct door_party box = ahead.at[phase];
+        give_rule(&box.waiting, i);
+        struct door_party_answer a = door_drop(box);
+        EXPECT(a.why == DOOR_ACCEPTED && same_party(&a.party, &opened));
+        if (phase == DOOR_TAKEN) {
+            a = finish_fenced(&box, stage.word, 12345);
+            EXPECT(a.why == DOOR_ACCEPTED && same_party(&a.party, &opened));
+        }
+    }
+}
+
+static void odd_rules(void)
+{
+    for (size_t i = 0; i < COUNT_ODD; i++) {
+        odd_rules_open(i);
+        odd_rules_ahead(i);
+    }
+}
+
+static void loads_ahead(uint32_t code, size_t n, bool between)
+{
+    set_ahead(code, n, between);
     goes_on_ahead();
     opens_what_waits();
     waits_alone();
@@ -1739,11 +1820,19 @@ static void set_goals(struct overlap *o, int set, uint32_t goal0, uint32_t goal1
     o->goal[1][set] = goal1;
 }
 
-/* From a threshold that the measure just meets to one that it does not, if there is one. */
-static void turn(struct check *k)
+/* A threshold that the measure just meets or just does not, or two marks, which the measure is at
+   or beside; where these cannot be dealt, it stays at the threshold that is met. */
+static void draw_rule(struct check *k)
 {
     const struct check met = *k;
-    k->t += k->terms.code == DOOR_SCALAR ? 1 : -1;
+    const long width = draw() % 1000, above_p[] = {-1, 0, width, width + 1};
+    k->between = draw() % 2 == 0;
+    if (k->between) {
+        k->t -= above_p[draw() % 4];
+        k->q = k->t + width;
+    } else if (draw() % 2 == 0) {
+        k->t += k->terms.code == DOOR_SCALAR ? 1 : -1;
+    }
     if (!may_be_dealt(k))
         *k = met;
 }
@@ -1755,8 +1844,7 @@ static void begin_overlap(struct overlap *o)
     memset(o, 0, sizeof *o);
     for (int set = 0; set < 2; set++) {
         o->k[set] = drawn_check(draw() % 3, lengths[draw() % 4]);
-        if (draw() % 2 == 0)
-            turn(&o->k[set]);
+        draw_rule(&o->k[set]);
         deals(&d, overlap_number(set), &o->k[set], &o->halves[set]);
         o->box[set] = d.box[set];
     }
@@ -1824,7 +1912,9 @@ static void overlaps(void)
         }
 }
 
-/* A set that an older version dealt. */
+/* Sets that older versions dealt. */
+
+#define OLDER_SIZE (3 * DOOR_BLOCK) /* bytes of each of their halves */
 
 static void from_hex(const char *hex, uint8_t *bytes, size_t size)
 {
@@ -1834,66 +1924,72 @@ static void from_hex(const char *hex, uint8_t *bytes, size_t size)
     EXPECT(read == size && strlen(hex) == 2 * size);
 }
 
-/* The door's keys, and the seed of the next deal, are those of the older set from here on. */
+/* The door's keys are those of the older sets from here on. */
 static void take_older_keys(void)
 {
     for (uint8_t i = 0; i < DOOR_KEY; i++) {
         keys[0][i] = OLDER_KEY0 + i;
         keys[1][i] = OLDER_KEY1 + i;
-        seed[i] = OLDER_SEED + i;
     }
 }
 
-/* Of what a half has, the same deal by this version changes the key alone: every correction of it,
-   and its last word. */
-static void differs_in_key(const struct door_set *old, uint32_t party, const struct check *k)
+static void older_refused(const struct door *d, uint32_t why)
 {
-    static struct halves h;
-    struct door_dealer dealer = dealer_of(BARE, sizeof BARE, OLDER_NUMBER - 1);
-    EXPECT(deal(dealer, OLDER_NUMBER, k, &h).why == DOOR_ACCEPTED);
-    struct door_party_answer a =
-        door_load(idle(party, OLDER_NUMBER - 1), h.half[party], half_size(k->terms.n));
-    struct door_set *new = &a.party.check.set;
-    EXPECT(a.why == DOOR_ACCEPTED);
-    for (int level = 0; level < 32; level++)
-        EXPECT(!SAME(&old->key, &new->key, corrections[level].seed));
-    EXPECT(old->key.last != new->key.last);
-    new->key = old->key;
-    EXPECT(same_set(old, new));
+    for (int party = 0; party < 2; party++) {
+        uint8_t half[OLDER_SIZE];
+        from_hex(OLDER_HALF[party], half, sizeof half);
+        load_refused(&d->box[party], half, sizeof half, why);
+        from_hex(LATER_HALF[party], half, sizeof half);
+        load_refused(&d->box[party], half, sizeof half, why);
+    }
 }
 
-/* It loads, and the boxes answer. The lock refuses the answers by 12 and stays as it is; one that
-   starts from the dealer's last number refuses them by 7. */
-static void comes_to_nothing(struct door *d, const struct check *k, const struct halves *h)
+/* With no set open, and with one in each phase, of either rule, no load takes them. The check goes
+   on, and a box whose last number is above theirs refuses them by that. */
+static void older_sets(bool between)
 {
+    static struct halves h;
+    const uint64_t number = OLDER_NUMBER - 1;
+    struct door d = open_door(number - 1);
+    struct check k = drawn_check(DOOR_EUCLID, 17);
     struct vector sent[2];
     uint32_t words[2], answers[2];
-    loads(d, OLDER_NUMBER, k, h);
-    fit(&d->box[0].check.set, &d->box[1].check.set);
-    differs_in_key(&d->box[0].check.set, 0, k);
-    differs_in_key(&d->box[1].check.set, 1, k);
-    masks(d, k, sent);
-    takes(d, OLDER_NUMBER, k, sent, words);
-    finishes(d, OLDER_NUMBER, words, answers);
-    const struct join j = join_of(OLDER_NUMBER, answers[0], answers[1]);
-    EXPECT(join(d->last, &j, d->last) == LOCK_REFUSED + DOOR_BAD_SUM);
-    EXPECT(join(OLDER_NUMBER, &j, OLDER_NUMBER) == LOCK_REFUSED + DOOR_WRONG_NUMBER);
+    if (between)
+        draw_marks(&k);
+    older_refused(&d, DOOR_BAD_CONTENT);
+    deals(&d, number, &k, &h);
+    loads(&d, number, &k, &h);
+    older_refused(&d, DOOR_BAD_CONTENT);
+    masks(&d, &k, sent);
+    older_refused(&d, DOOR_BAD_CONTENT);
+    takes(&d, number, &k, sent, words);
+    older_refused(&d, DOOR_BAD_CONTENT);
+    finishes(&d, number, words, answers);
+    older_refused(&d, DOOR_BAD_CONTENT);
+    const struct join j = join_of(number, answers[0], answers[1]);
+    EXPECT(join(d.last, &j, number) == 1);
+    d.box[0].last = d.box[1].last = OLDER_NUMBER;
+    older_refused(&d, DOOR_WRONG_NUMBER);
 }
 
-/* A box that starts from the dealer's last number refuses it too, and the next set is answered. */
-static void older_set(void)
+/* At a box that has a set of this code and rule open, while others of all codes and of both rules
+   wait. */
+static void refusals_of(uint32_t code, bool between)
 {
-    static struct halves h;
-    const struct check k = {.terms = {DOOR_SCALAR, 1}, .t = OLDER_T, .v = {{2}, {3}}};
-    take_older_keys();
-    struct door d = open_door(OLDER_NUMBER - 1);
-    for (uint32_t party = 0; party < 2; party++) {
-        from_hex(OLDER_HALF[party], h.half[party], half_size(1));
-        const struct door_party started = idle(party, OLDER_NUMBER);
-        load_refused(&started, h.half[party], half_size(1), DOOR_WRONG_NUMBER);
-    }
-    comes_to_nothing(&d, &k, &h);
-    EXPECT(whole(&d, OLDER_NUMBER + 1, &k) == 1);
+    set_stage(code, 20, between);
+    states();
+    for (uint32_t phase = DOOR_IDLE; phase <= DOOR_TAKEN; phase++)
+        load_in_turn(phase);
+    load_alone();
+    mask();
+    message(&stage.at[DOOR_MASKED], stage.vector);
+    message(&stage.at[DOOR_TAKEN], stage.word);
+    empty_slices(keys[0], stage.v);
+    empty_slices(NULL, NULL);
+    loads_ahead(code, 20, !between);
+    odd_rules();
+    loads_ahead((code + 1) % 3, 1, between);
+    loads_ahead((code + 2) % 3, MOST, !between);
 }
 
 int main(int count, char **arguments)
@@ -1904,28 +2000,18 @@ int main(int count, char **arguments)
     draw_bytes(seed, sizeof seed);
     whole_checks();
     short_ones();
+    short_ones_between();
     ends();
     starts();
-    deal_in_turn(dealer_of(BARE, sizeof BARE, 40));
-    deal_alone(dealer_of(BARE, sizeof BARE, 40));
-    for (uint32_t code = 0; code < 3; code++) {
-        set_stage(code, 20);
-        states();
-        for (uint32_t phase = DOOR_IDLE; phase <= DOOR_TAKEN; phase++)
-            load_in_turn(phase);
-        load_alone();
-        mask();
-        message(&stage.at[DOOR_MASKED], stage.vector);
-        message(&stage.at[DOOR_TAKEN], stage.word);
-        empty_slices(keys[0], stage.v);
-        empty_slices(NULL, NULL);
-        loads_ahead(code, 20);
-        loads_ahead((code + 1) % 3, 1);
-        loads_ahead((code + 2) % 3, MOST);
-    }
+    deals_refused(dealer_of(BARE, sizeof BARE, 40));
+    for (uint32_t code = 0; code < 3; code++)
+        for (int between = 0; between < 2; between++)
+            refusals_of(code, between);
     for (int i = 0; i < 4; i++)
         overlaps();
     joins();
-    older_set();
+    take_older_keys();
+    older_sets(false);
+    older_sets(true);
     printf("c/test: %s: %ld passed\n", door_level(), passed);
 }
