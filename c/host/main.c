@@ -43,15 +43,20 @@ static bool go_to(const char *folder)
     return false;
 }
 
-/* Folder, name, and the settings' numbers. An empty one is not left out: what was meant as the
-   second of two marks would make the first one a threshold. */
+static bool is_blank(const char *text)
+{
+    return text[strspn(text, " \t\r\n")] == '\0';
+}
+
+/* Folder, name, and the settings' numbers. A blank one is not passed over: where it was to be the
+   second mark, the first would be a threshold. */
 static int run_setup(int count, char **arguments)
 {
     char text[PATH_ROOM] = "";
     size_t size = 0;
     for (int i = 2; i < count; i++) {
         int more = snprintf(text + size, sizeof text - size, "%s ", arguments[i]);
-        if (more <= 1 || (size_t)more >= sizeof text - size)
+        if (is_blank(arguments[i]) || more < 0 || (size_t)more >= sizeof text - size)
             return usage();
         size += (size_t)more;
     }

@@ -1039,6 +1039,7 @@ static void setups_refused(void)
     refuses_setup((char *[]){"1", "128", NULL}, "usage: ");
     refuses_setup((char *[]){"1", "128", "5", "900", "7", NULL}, "usage: ");
     refuses_setup((char *[]){"1", "128", "5", "", NULL}, "usage: ");
+    refuses_setup((char *[]){"1", "128", "5", " ", NULL}, "usage: ");
     refuses_setup((char *[]){"1", "128", "x", NULL}, nothing);
     refuses_setup((char *[]){"1", "128", "5", "900x", NULL}, nothing);
     refuses_setup((char *[]){"1", "128", "900", "5", NULL},
