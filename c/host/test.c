@@ -473,6 +473,17 @@ static void checks_to_marks_and_back(uint32_t code)
     }
 }
 
+/* One mark moves across the measure, the other one stays: shut, open, shut. */
+static void checks_with_one_mark_moved(uint32_t code)
+{
+    static const struct { int64_t below, width; } moves[] = {{-1, 2}, {3, 6}, {3, 2}};
+    const int64_t found = draw_pair(code);
+    for (size_t i = 0; i < sizeof moves / sizeof *moves; i++) {
+        set_marks(found, moves[i].below, moves[i].width);
+        check_as_set();
+    }
+}
+
 /* The threshold 0, and marks that are both 0: no number tells them apart. */
 static void checks_at_zero(void)
 {
@@ -498,6 +509,7 @@ static void checks_at_the_turn(void)
         checks_at_marks(code, 0);
         checks_at_marks(code, 1 + (int64_t)chance(20));
         checks_to_marks_and_back(code);
+        checks_with_one_mark_moved(code);
     }
     checks_at_zero();
 }
