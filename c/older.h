@@ -79,8 +79,8 @@ static const char *const OLDER_HALF[2] = {
     "8440f4508dbd7af98eca03dc5588d8c6e2abe74732b639403ef3d068eaa4e055f62e22b168bb619cf14bc9fa71d21601",
 };
 
-/* The same of landing 14, for DOOR_EUCLID and L = 17, as its second implementation made it. That was
-   the last version without width and mark: a half of this one has one block more. */
+/* What door_deal of landing 14 wrote, for the same door, DOOR_EUCLID and L = 17. That was the last
+   version without width and mark: a half of this one has one block more. */
 static const char *const LATER_HALF[2] = {
     "290000000000000000000000eaf111b9410db0701f4d546928a94c257e2635c6b086ec6f0b39ec2dfaa3a562aadb166e"
     "ecdd862b84faf60df7f4f144fcb0901e238c6078a95a084020e67d2e2f949f28fcabf64ca51daf119fd9b81fd30c3374"

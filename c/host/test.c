@@ -967,11 +967,12 @@ static void summary(void)
     printf("); asked again %lu times; %lu sets handed out, %lu messages seen, no number used "
            "twice\n",
         asked_again, tally.dealt, tally.messages);
-    printf("c/host/test: %lu sets dealt ahead: %lu handed out, %lu left unused by other settings; "
+    printf("c/host/test: from a threshold to two marks %lu times, and back %lu times; "
+           "%lu sets dealt ahead: %lu handed out, %lu left unused by other settings; "
            "killed with a set waiting: %lu boxes, loaded ahead and open: %lu boxes, dealt ahead: "
            "%lu dealers; %lu checks begun anew with another set\n",
-        tally.ahead, tally.taken, tally.unused, killed_waiting(),
-        kills_with[CAMERA][READY_AHEAD] + kills_with[OFFICE][READY_AHEAD],
+        tally.to_marks, tally.to_threshold, tally.ahead, tally.taken, tally.unused,
+        killed_waiting(), kills_with[CAMERA][READY_AHEAD] + kills_with[OFFICE][READY_AHEAD],
         kills_with[DEALER][READY_AHEAD], begun_anew);
     printf("c/host/test: upgrades cut short %lu times, %lu of them with a power cut; %lu between "
            "the first part's and the last one's; each was then finished\n",
