@@ -27,20 +27,19 @@
  * with it. While a set waits, `last` is the waiting set's number: do not send under `last`.
  *
  * Older sets. Every set that an older version of this library dealt must be scrapped, of every
- * code: its comparison key was made under other nonces. No call can tell such a half from a new
- * one. door_load takes it. Where a box is of this version, door_join refuses the two answers by 12
- * (as good as always): nobody is let in. So it is with a new set where a box is older. Where the
- * dealer and both boxes are older and the lock alone is new, door_join reports, by the older rule:
+ * code. door_load refuses an older half by 11, always, and so does an older box with a new half:
+ * where a box or the dealer alone is older, nobody is let in. But where the dealer and both boxes
+ * are older and the lock alone is new, no call can tell. door_join then reports, by the older rule:
  * for distances that may be the other way about. So change all four parts together:
  *
  * 1. Stop the dealer, both boxes and the lock. Use no state from before: a box may have loaded an
- *    older set.
+ *    older set, and the structs have other fields.
  * 2. Compare the last numbers. If a box's or the lock's is above the dealer's, the dealer's is an
  *    old copy, and which halves there are is not known: take new keys and another name instead.
  * 3. Throw away the halves that were dealt and not loaded: each would be a load refused by 7.
  * 4. Keep the dealer's last number on disk as that of both boxes and of the lock too, before any
- *    part starts. Else a power cut before the next load brings the lower one back, and older halves
- *    load.
+ *    part starts. Else a power cut before the next join brings the lower one back, and the lock
+ *    joins what older boxes have answered.
  * 5. Start all four with this version, and with that number as the floor. So door_load and
  *    door_join refuse by 7 all that is older, wherever it has been. The dealer too: its keys stay,
  *    and from a lower floor it would use numbers twice, and with them the nonces of sealing.
@@ -62,12 +61,12 @@
  * one of the call, read or written. Nothing else is asked of a caller: any number, length or byte
  * may be handed in.
  *
- * Numbers. A vector's element and a threshold are 32-bit words, a negative number plus 2^32: a
- * host that has int32_t may hand these in, (uint32_t)x for x and (const uint32_t *)v for v. Every
- * element and every threshold that a measure takes is an int32_t. But a call sees 32 bits and no
- * more: a host whose threshold or elements are wider has to compare them with the range itself,
- * since C cuts 2^32 + 5 to 5 on the way, which a call would take. The same goes for a code, a kind
- * and a party that a host has in more than 32 bits.
+ * Numbers. A vector's element, a threshold and a mark are 32-bit words, a negative number plus
+ * 2^32: a host that has int32_t may hand these in, (uint32_t)x for x and (const uint32_t *)v for v.
+ * Every element, threshold and mark that a measure takes is an int32_t. But a call sees 32 bits and
+ * no more: a host that has one of them wider has to compare it with the range itself, since C cuts
+ * 2^32 + 5 to 5 on the way, which a call would take. The same goes for a code, a kind and a party
+ * that a host has in more than 32 bits.
  */
 #ifndef DOOR_H
 #define DOOR_H
@@ -80,15 +79,16 @@
 extern "C" {
 #endif
 
-#define DOOR_NAME 16         /* bytes of a padded name, zero after the name's end */
-#define DOOR_KEY 32          /* bytes of a box's key, and of a set seed */
-#define DOOR_LENGTH_MOST 512 /* elements of a vector: L is from 1 to this */
-#define DOOR_BLOCK 512       /* bytes of a block of a half */
-#define DOOR_HALF_MOST 8192  /* bytes of a half of 16 blocks: room for every L */
-#define DOOR_STACK 98304     /* bytes of stack that suffice for a call */
+#define DOOR_NAME 16               /* bytes of a padded name, zero after the name's end */
+#define DOOR_KEY 32                /* bytes of a box's key, and of a set seed */
+#define DOOR_LENGTH_MOST 512       /* elements of a vector: L is from 1 to this */
+#define DOOR_WIDTH_MOST 0x7fffffff /* how far apart two marks may be: 2^31 - 1 */
+#define DOOR_BLOCK 512             /* bytes of a block of a half */
+#define DOOR_HALF_MOST 8192        /* bytes of a half of 16 blocks: room for every L */
+#define DOOR_STACK 98304           /* bytes of stack that suffice for a call */
 
 /* Bytes of a half of vectors of length n, from 1 to DOOR_LENGTH_MOST. */
-#define DOOR_HALF(n) (DOOR_BLOCK * ((1248 + 12 * (size_t)(n) + 483) / 484))
+#define DOOR_HALF(n) (DOOR_BLOCK * ((1253 + 12 * (size_t)(n) + 483) / 484))
 
 /* Why a call was refused. */
 enum door_refusal {
@@ -113,21 +113,26 @@ enum door_refusal {
        above the last one (deal, load, join) or the open one (load), or differs between two joined
        answers. */
     DOOR_WRONG_NUMBER = 7,
-    /* An element or a threshold is outside its measure's range. */
+    /* An element, a threshold or a mark is outside its measure's range. */
     DOOR_OUT_OF_RANGE = 8,
     /* The dealer starts with two equal keys. */
     DOOR_EQUAL_KEYS = 9,
     /* A block is not in its place, is of another set number, or its tag doesn't fit. */
     DOOR_BAD_BLOCK = 10,
-    /* A half of another door or party, with a code, an L or a flag byte out of range, with a block
-       count that doesn't fit L, or with a fill that is not zero. */
+    /* A half of another door or party, with a code, an L or a flag byte out of range, with a mark
+       above 1, a width above DOOR_WIDTH_MOST or another one under mark 0, with a block count that
+       doesn't fit L, or with a fill that is not zero. So every half of an older version. */
     DOOR_BAD_CONTENT = 11,
-    /* The joined sum is not 0 or 1. A box or the dealer may be of another version (Older sets). */
-    DOOR_BAD_SUM = 12
+    /* The joined sum is not 0 or 1. Dealer and boxes may be of several older versions. */
+    DOOR_BAD_SUM = 12,
+    /* The second mark is below the first, or more than DOOR_WIDTH_MOST above it: that is P = -2^30
+       with Q = 2^30, and no other two marks of a measure's range. */
+    DOOR_BAD_MARKS = 13
 };
 
 /* Measures, with the ranges of elements and of the threshold T, and what the lock's 1 means: a
-   product is large enough, a distance small enough. Where the measure is just T it is always 1. */
+   product is large enough, a distance small enough. Where the measure is just T it is always 1.
+   Two marks P and Q each have T's range. Between them 1 means P <= measure <= Q for every code. */
 enum door_code {
     DOOR_SCALAR = 0, /* scalar product: -1024 to 1023, T from -2^30 to 2^30; 1: measure >= T */
     DOOR_EUCLID = 1, /* squared Euclid: -1024 to 1023, T from 0 to 2^31 - 1; 1: measure <= T */
@@ -160,7 +165,7 @@ struct door_identity {
     uint8_t key[DOOR_KEY];
 };
 
-/* What both boxes know of a set. */
+/* What a set is dealt for, beside its threshold or marks. */
 struct door_terms {
     uint32_t code; /* enum door_code */
     size_t n;      /* L */
@@ -188,6 +193,8 @@ struct door_set {
     uint32_t r;
     uint32_t seed[8];
     struct door_key key;
+    uint32_t width; /* between two marks: Q - P; with a threshold: DOOR_WIDTH_MOST */
+    uint32_t mark;  /* between two marks: 1; with a threshold: 0 */
 };
 
 struct door_dealer {
@@ -233,8 +240,9 @@ struct door_lock {
 struct door_lock_answer {
     uint32_t why;
     struct door_lock lock;
-    uint32_t bit; /* what an accepted join reports: 1 means measure >= T for DOOR_SCALAR, and
-                     measure <= T for DOOR_EUCLID and DOOR_HAMMING; a refused one has 0 */
+    uint32_t bit; /* what an accepted join reports. With a threshold 1 means measure >= T for
+                     DOOR_SCALAR, and measure <= T for DOOR_EUCLID and DOOR_HAMMING; between two
+                     marks it means P <= measure <= Q. A refused join has 0 */
 };
 
 /*
@@ -259,6 +267,21 @@ struct door_dealer_answer door_deal(
     const uint8_t *seed, size_t seed_len,
     struct door_terms terms,
     uint32_t t,
+    uint8_t *out0, size_t out0_len,
+    uint8_t *out1, size_t out1_len);
+
+/*
+ * The same for a set between two marks, P and Q: the lock reports 1 if P <= measure <= Q, both ends
+ * included, for every code. P = Q is taken. Why: a distance of nearly nothing means that a copied
+ * template was played in, and a P above 0 keeps that out. Each box learns how far apart the marks
+ * are (`width`), and not where they are. Refusals: 2, 4, 5, 7, 8 (of P or of Q), 13.
+ */
+struct door_dealer_answer door_deal_between(
+    struct door_dealer dealer,
+    uint64_t number,
+    const uint8_t *seed, size_t seed_len,
+    struct door_terms terms,
+    uint32_t p, uint32_t q,
     uint8_t *out0, size_t out0_len,
     uint8_t *out1, size_t out1_len);
 
@@ -401,7 +424,7 @@ DOOR_AT(door_correction, word, 32);
 DOOR_AT(door_correction, flags, 36);
 DOOR_SIZE(door_key, 1284);
 DOOR_AT(door_key, last, 1280);
-DOOR_SIZE(door_set, 7496);
+DOOR_SIZE(door_set, 7504);
 DOOR_AT(door_set, terms, 8);
 DOOR_AT(door_set, mask, 24);
 DOOR_AT(door_set, x, 2072);
@@ -410,6 +433,8 @@ DOOR_AT(door_set, c, 6168);
 DOOR_AT(door_set, r, 6172);
 DOOR_AT(door_set, seed, 6176);
 DOOR_AT(door_set, key, 6208);
+DOOR_AT(door_set, width, 7492);
+DOOR_AT(door_set, mark, 7496);
 DOOR_SIZE(door_dealer, 88);
 DOOR_AT(door_dealer, key0, 16);
 DOOR_AT(door_dealer, key1, 48);
@@ -421,18 +446,18 @@ DOOR_AT(door_lock, last, 16);
 DOOR_SIZE(door_lock_answer, 40);
 DOOR_AT(door_lock_answer, lock, 8);
 DOOR_AT(door_lock_answer, bit, 32);
-DOOR_SIZE(door_check, 9560);
+DOOR_SIZE(door_check, 9568);
 DOOR_AT(door_check, set, 8);
-DOOR_AT(door_check, masked, 7504);
-DOOR_AT(door_check, own, 9552);
-DOOR_AT(door_check, word, 9556);
-DOOR_SIZE(door_party, 17120);
+DOOR_AT(door_check, masked, 7512);
+DOOR_AT(door_check, own, 9560);
+DOOR_AT(door_check, word, 9564);
+DOOR_SIZE(door_party, 17136);
 DOOR_AT(door_party, last, 56);
 DOOR_AT(door_party, check, 64);
-DOOR_AT(door_party, waiting, 9624);
-DOOR_SIZE(door_party_answer, 17136);
+DOOR_AT(door_party, waiting, 9632);
+DOOR_SIZE(door_party_answer, 17152);
 DOOR_AT(door_party_answer, party, 8);
-DOOR_AT(door_party_answer, word, 17128);
+DOOR_AT(door_party_answer, word, 17144);
 static_assert(sizeof(size_t) == 8, "size_t is the crates' usize");
 #undef DOOR_AT
 #undef DOOR_SIZE

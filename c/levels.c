@@ -19,6 +19,7 @@
 #define CALLS(CALL)         \
     CALL(door_start_dealer) \
     CALL(door_deal)         \
+    CALL(door_deal_between) \
     CALL(door_start_party)  \
     CALL(door_load)         \
     CALL(door_mask)         \

@@ -1,8 +1,8 @@
 /*
  * Calls every function of door.h as a host does: whole checks, whose answers must be those of the
- * measure computed here, and each refusal of each call, which must change nothing, empty slices with
- * a null pointer among them; and a set that an older version dealt, which must come to nothing. Its
- * argument is the level that must be in use. c/test runs it.
+ * measure computed here, and each refusal of each call, which must change nothing, empty slices
+ * with a null pointer among them; and loads of sets that older versions dealt, which are all
+ * refused. Its argument is the level that must be in use. c/test runs it.
  */
 #include "door.h"
 #include "older.h"
@@ -14,6 +14,8 @@
 
 #define MOST DOOR_LENGTH_MOST
 #define BEYOND 64 /* elements behind an output buffer's use that must stay */
+#define WIDEST 0x7fffffff   /* how far apart two marks may be; the width of every ordinary set */
+#define PRODUCT_END 0x40000000 /* DOOR_SCALAR's thresholds and marks go this far from 0 */
 
 static long passed;
 
@@ -80,7 +82,7 @@ static bool same_set(const struct door_set *a, const struct door_set *b)
 {
     return a->number == b->number && same_terms(&a->terms, &b->terms) && SAME(a, b, mask)
         && SAME(a, b, x) && SAME(a, b, y) && a->c == b->c && a->r == b->r && SAME(a, b, seed)
-        && SAME(a, b, key);
+        && SAME(a, b, key) && a->width == b->width && a->mark == b->mark;
 }
 
 static bool same_check(const struct door_check *a, const struct door_check *b)
@@ -142,7 +144,9 @@ static struct door open_door(uint64_t floor)
 
 struct check {
     struct door_terms terms;
-    long t;
+    bool between; /* two marks, else a threshold */
+    long t;       /* T, or P */
+    long q;       /* Q */
     long v[2][MOST];
 };
 
@@ -157,17 +161,30 @@ static long measure(const struct check *k)
     return sum;
 }
 
-/* Whether the lock must say 1: a product has to reach T, a distance must not be above it. */
+/* Whether the lock must say 1: a product has to reach T, a distance must not be above it. Between
+   two marks the code does not count. */
 static bool meets(const struct check *k)
 {
-    return k->terms.code == DOOR_SCALAR ? measure(k) >= k->t : measure(k) <= k->t;
+    const long found = measure(k);
+    if (k->between)
+        return k->t <= found && found <= k->q;
+    return k->terms.code == DOOR_SCALAR ? found >= k->t : found <= k->t;
 }
 
-/* Whether T is in its measure's range. */
+/* Whether T, or each mark, is in its measure's range, and the marks are in order and not too far
+   apart. */
 static bool may_be_dealt(const struct check *k)
 {
-    static const long least[] = {-0x40000000, 0, 0}, most[] = {0x40000000, 0x7fffffff, 513};
-    return least[k->terms.code] <= k->t && k->t <= most[k->terms.code];
+    static const long least[] = {-PRODUCT_END, 0, 0}, most[] = {PRODUCT_END, 0x7fffffff, 513};
+    const long low = least[k->terms.code], high = most[k->terms.code];
+    bool marks_fit = !k->between || (k->t <= k->q && k->q <= high && k->q - k->t <= WIDEST);
+    return low <= k->t && k->t <= high && marks_fit;
+}
+
+/* What a half tells of the rule: how far apart the marks are, and not where they lie. */
+static bool has_rule(const struct door_set *set, const struct check *k)
+{
+    return set->width == (k->between ? word(k->q - k->t) : WIDEST) && set->mark == k->between;
 }
 
 static long own(const struct check *k, int party)
@@ -194,10 +211,20 @@ static struct check drawn_check(uint32_t code, size_t n)
     return k;
 }
 
+/* Two marks, of which the first is just the measure. */
+static void draw_marks(struct check *k)
+{
+    k->between = true;
+    k->t = measure(k);
+    k->q = k->t + draw() % 1000;
+    while (!may_be_dealt(k))
+        k->q--;
+}
+
 /* How many bytes the half of a set of length n has: 484 of its content in each block. */
 static size_t half_size(size_t n)
 {
-    size_t content = 1248 + 12 * n, blocks = content / 484 + (content % 484 != 0);
+    size_t content = 1253 + 12 * n, blocks = content / 484 + (content % 484 != 0);
     return 512 * blocks;
 }
 
@@ -206,12 +233,73 @@ struct halves {
     uint8_t half[2][DOOR_HALF_MOST + BEYOND];
 };
 
+/* A buffer that is lent has drawn bytes on both sides, which must stay. */
+
+#define FENCE 64 /* bytes on each side */
+#define FENCED_MOST sizeof((struct halves *)0)->half[0]
+
+struct fenced {
+    _Alignas(8) uint8_t at[FENCE + FENCED_MOST + FENCE];
+    uint8_t expected[FENCE + FENCED_MOST + FENCE];
+};
+
+static void *fence(struct fenced *f, const void *bytes, size_t size)
+{
+    draw_bytes(f->at, sizeof f->at);
+    memcpy(f->at + FENCE, bytes, size);
+    memcpy(f->expected, f->at, sizeof f->at);
+    return f->at + FENCE;
+}
+
+static void unhurt(const struct fenced *f)
+{
+    EXPECT(memcmp(f->at, f->expected, sizeof f->at) == 0);
+}
+
+/* What is handed to a deal. */
+struct order {
+    uint64_t number;
+    size_t seed_size;
+    struct door_terms terms;
+    uint32_t t; /* T, or P */
+    size_t room[2];
+    bool between;
+    uint32_t q;
+};
+
+/* Of the two buffers so many bytes may be written, from the start. */
+static void take_written(struct fenced out[2], size_t size, struct halves *h, const size_t room[2])
+{
+    for (int party = 0; party < 2; party++) {
+        memcpy(out[party].expected + FENCE, out[party].at + FENCE, size);
+        unhurt(&out[party]);
+        memcpy(h->half[party], out[party].at + FENCE, room[party]);
+    }
+}
+
+static struct door_dealer_answer deal_order(
+    struct door_dealer dealer, const struct order *o, struct halves *h)
+{
+    static struct fenced in, out[2];
+    const uint8_t *lent = fence(&in, seed, o->seed_size);
+    uint8_t *out0 = fence(&out[0], h->half[0], o->room[0]);
+    uint8_t *out1 = fence(&out[1], h->half[1], o->room[1]);
+    struct door_dealer_answer a = o->between
+        ? door_deal_between(dealer, o->number, lent, o->seed_size, o->terms, o->t, o->q, out0,
+              o->room[0], out1, o->room[1])
+        : door_deal(dealer, o->number, lent, o->seed_size, o->terms, o->t, out0, o->room[0], out1,
+              o->room[1]);
+    unhurt(&in);
+    take_written(out, a.why == DOOR_ACCEPTED ? half_size(o->terms.n) : 0, h, o->room);
+    return a;
+}
+
 static struct door_dealer_answer deal(
     struct door_dealer dealer, uint64_t number, const struct check *k, struct halves *h)
 {
-    size_t room = sizeof h->half[0];
-    return door_deal(dealer, number, seed, DOOR_KEY, k->terms, word(k->t), h->half[0], room,
-        h->half[1], room);
+    const struct order o = {number, DOOR_KEY, k->terms, word(k->t),
+        {sizeof h->half[0], sizeof h->half[1]}, k->between, word(k->q)};
+    return deal_order(dealer, &o, h);
 }
 
 /* Every block begins with the set number and its place, and nothing is written behind the last. */
@@ -254,6 +342,7 @@ static void loads(struct door *d, uint64_t number, const struct check *k, const 
         EXPECT(same_identity(&a.party.who, &old.who) && a.party.who.party == party);
         EXPECT(a.party.last == number && new->phase == DOOR_LOADED);
         EXPECT(new->set.number == number && same_terms(&new->set.terms, &k->terms));
+        EXPECT(has_rule(&new->set, k));
         EXPECT(all_zero(new->set.mask + n, rest));
         EXPECT(all_zero(new->set.x + n, rest) && all_zero(new->set.y + n, rest));
         EXPECT(all_zero(new->masked, sizeof new->masked) && new->own == 0 && new->word == 0);
@@ -283,6 +372,7 @@ static uint32_t r_of(uint64_t number, const struct check *k)
     static struct halves h;
     struct check at_zero = *k;
     uint32_t sum = 0;
+    at_zero.between = false;
     at_zero.t = 0;
     struct door_dealer dealer = dealer_of(BARE, sizeof BARE, number - 1);
     EXPECT(deal(dealer, number, &at_zero, &h).why == DOOR_ACCEPTED);
@@ -322,14 +412,14 @@ static void masks(struct door *d, const struct check *k, struct vector sent[2])
     }
 }
 
-/* For a product the sum of the words is measure - T + r, and the two r words sum to r - T; for a
-   distance they are T - measure + r, and r + T. */
+/* For a product, and between two marks, the sum of the words is measure - T + r, and the two r
+   words sum to r - T; for a distance with a threshold they are T - measure + r, and r + T. */
 static void takes(
     struct door *d, uint64_t number, const struct check *k, struct vector sent[2],
     uint32_t words[2])
 {
     const uint32_t r = r_of(number, k);
-    const long sign = k->terms.code == DOOR_SCALAR ? 1 : -1;
+    const long sign = k->terms.code == DOOR_SCALAR || k->between ? 1 : -1;
     uint32_t z = 0, r_words = 0;
     for (int party = 0; party < 2; party++) {
         uint32_t other = 1 - party;
@@ -416,7 +506,7 @@ static uint32_t join(uint64_t last, const struct join *j, uint64_t next)
     return said;
 }
 
-/* From deal to join: what the lock says, which must be whether the measure meets T. */
+/* From deal to join: what the lock says, which must be whether the measure meets T or the marks. */
 static uint32_t whole(struct door *d, uint64_t number, const struct check *k)
 {
     static struct halves h;
@@ -446,17 +536,38 @@ static void around_the_turn(struct door *d, uint64_t *number, struct check *k)
         }
 }
 
+/* At P - 1, P, Q and Q + 1, with marks that are equal, side by side, or far apart. */
+static void around_the_marks(struct door *d, uint64_t *number, struct check *k)
+{
+    const long found = measure(k), widths[] = {0, 1, 2 + draw() % 1000, PRODUCT_END - 1};
+    k->between = true;
+    for (size_t i = 0; i < sizeof widths / sizeof *widths; i++) {
+        const long above_p[] = {-1, 0, widths[i], widths[i] + 1};
+        for (size_t place = 0; place < sizeof above_p / sizeof *above_p; place++) {
+            k->t = found - above_p[place];
+            k->q = k->t + widths[i];
+            if (may_be_dealt(k)) {
+                *number += 1 + draw() % 1000;
+                whole(d, *number, k);
+            }
+        }
+    }
+    k->between = false;
+}
+
 static void whole_checks(void)
 {
-    static const size_t lengths[] = {1, 2, 17, 18, 128, 501, 502, 512};
+    static const size_t lengths[] = {1, 2, 16, 17, 56, 57, 128, 500, 501, 512};
     struct door d = open_door(1000);
     uint64_t number = 1000;
     for (uint32_t code = 0; code < 3; code++)
         for (size_t i = 0; i < sizeof lengths / sizeof *lengths; i++) {
             struct check k = drawn_check(code, lengths[i]);
             around_the_turn(&d, &number, &k);
+            around_the_marks(&d, &number, &k);
             memcpy(k.v[1], k.v[0], sizeof k.v[1]); /* at distance 0 no T is below it */
             around_the_turn(&d, &number, &k);
+            around_the_marks(&d, &number, &k);
         }
 }
 
@@ -465,6 +576,14 @@ static void says(struct door *d, struct check k, long t, uint32_t said)
 {
     k.t = t;
     EXPECT(whole(d, d->last + 1, &k) == said);
+}
+
+/* The same between two marks. */
+static void says_between(struct door *d, struct check k, long p, long q, uint32_t said)
+{
+    k.between = true;
+    k.q = q;
+    says(d, k, p, said);
 }
 
 static void short_ones(void)
@@ -484,6 +603,30 @@ static void short_ones(void)
     says(&d, bits, 3, 1);
 }
 
+/* The measures of the short ones, -14, 82 and 2, and marks around them. */
+static void short_ones_between(void)
+{
+    struct door d = open_door(0);
+    struct check k = {.terms = {DOOR_SCALAR, 2}, .v = {{3, -4}, {2, 5}}};
+    says_between(&d, k, -13, 14, 0);
+    says_between(&d, k, -14, 14, 1);
+    says_between(&d, k, -14, -14, 1);
+    says_between(&d, k, -20, -14, 1);
+    says_between(&d, k, -20, -15, 0);
+    k.terms.code = DOOR_EUCLID;
+    says_between(&d, k, 83, 90, 0);
+    says_between(&d, k, 82, 90, 1);
+    says_between(&d, k, 82, 82, 1);
+    says_between(&d, k, 0, 82, 1);
+    says_between(&d, k, 0, 81, 0);
+    struct check bits = {.terms = {DOOR_HAMMING, 4}, .v = {{1, 0, 1, 1}, {1, 1, 0, 1}}};
+    says_between(&d, bits, 3, 4, 0);
+    says_between(&d, bits, 2, 4, 1);
+    says_between(&d, bits, 2, 2, 1);
+    says_between(&d, bits, 1, 2, 1);
+    says_between(&d, bits, 0, 1, 0);
+}
+
 /* Equal vectors: nothing is closer. */
 static void equal_ones(struct door *d)
 {
@@ -496,6 +639,32 @@ static void equal_ones(struct door *d)
     says(d, bits, 0, 1);
     says(d, bits, 1, 1);
     says(d, bits, 513, 1);
+    says_between(d, k, 0, 0, 1);
+    says_between(d, k, 0, 0x7fffffff, 1);
+    says_between(d, k, 1, 0x7fffffff, 0); /* a copied template */
+    says_between(d, bits, 0, 0, 1);
+    says_between(d, bits, 0, 513, 1);
+    says_between(d, bits, 1, 513, 0);
+}
+
+/* With marks at the ends of their ranges. Those of a product are as far apart as can be, and one
+   further they are refused. */
+static void opposite_ones_between(struct door *d, struct check k, struct check bits)
+{
+    says_between(d, k, -PRODUCT_END, PRODUCT_END - 1, 1);
+    says_between(d, k, 1 - PRODUCT_END, PRODUCT_END, 1);
+    says_between(d, k, -PRODUCT_END, -PRODUCT_END, 0);
+    says_between(d, k, PRODUCT_END, PRODUCT_END, 0);
+    k.terms.code = DOOR_EUCLID;
+    says_between(d, k, 0, 0x7fffffff, 1);
+    says_between(d, k, 0, 2145387007, 0);
+    says_between(d, k, 2145387008, 2145387008, 1);
+    says_between(d, k, 2145387009, 0x7fffffff, 0);
+    says_between(d, k, 0x7fffffff, 0x7fffffff, 0);
+    says_between(d, bits, 0, 513, 1);
+    says_between(d, bits, 0, 511, 0);
+    says_between(d, bits, 512, 512, 1);
+    says_between(d, bits, 513, 513, 0);
 }
 
 /* Vectors as far apart as can be. */
@@ -514,12 +683,13 @@ static void opposite_ones(struct door *d)
     says(d, k, 0x7fffffff, 1);
     says(d, k, 0, 0);
     k.terms.code = DOOR_SCALAR;
-    says(d, k, -0x40000000, 1);
-    says(d, k, 0x40000000, 0);
+    says(d, k, -PRODUCT_END, 1);
+    says(d, k, PRODUCT_END, 0);
     says(d, bits, 513, 1);
     says(d, bits, 512, 1);
     says(d, bits, 511, 0);
     says(d, bits, 0, 0);
+    opposite_ones_between(d, k, bits);
 }
 
 /* The ends of the ranges: every number that fits is taken. */
@@ -599,23 +769,13 @@ static void starts(void)
     EXPECT(same_set(&box.check.set, &NO_SET) && same_set(&box.waiting, &NO_SET));
 }
 
-/* What is handed to a deal. */
-struct order {
-    uint64_t number;
-    size_t seed_size;
-    struct door_terms terms;
-    uint32_t t;
-    size_t room[2];
-};
-
 static void deal_refused(struct door_dealer dealer, struct order o, uint32_t why)
 {
     static struct halves h, before;
     draw_bytes(h.half[0], sizeof h.half[0]);
     draw_bytes(h.half[1], sizeof h.half[1]);
     before = h;
-    struct door_dealer_answer a = door_deal(dealer, o.number, seed, o.seed_size, o.terms, o.t,
-        h.half[0], o.room[0], h.half[1], o.room[1]);
+    struct door_dealer_answer a = deal_order(dealer, &o, &h);
     EXPECT(a.why == why);
     if (why == DOOR_ACCEPTED)
         return;
@@ -623,10 +783,12 @@ static void deal_refused(struct door_dealer dealer, struct order o, uint32_t why
     EXPECT(memcmp(&h, &before, sizeof h) == 0);
 }
 
-static void deal_in_turn(struct door_dealer dealer)
+/* Where there are two marks, the first is put right before the second, and then their order. */
+static void deal_in_turn(struct door_dealer dealer, bool between)
 {
     size_t enough = half_size(18);
-    struct order o = {dealer.last, 31, {3, 18}, 514, {enough - 1, enough - 1}};
+    struct order o = {
+        dealer.last, 31, {3, 18}, 514, {enough - 1, enough - 1}, between, word(-1)};
     deal_refused(dealer, o, DOOR_BAD_PARTY_OR_CODE);
     o.terms.code = DOOR_HAMMING;
     deal_refused(dealer, o, DOOR_WRONG_LENGTH);
@@ -639,34 +801,154 @@ static void deal_in_turn(struct door_dealer dealer)
     o.number++;
     deal_refused(dealer, o, DOOR_OUT_OF_RANGE);
     o.t = 513;
+    deal_refused(dealer, o, between ? DOOR_OUT_OF_RANGE : DOOR_ACCEPTED);
+    o.q = 512;
+    deal_refused(dealer, o, between ? DOOR_BAD_MARKS : DOOR_ACCEPTED);
+    o.q = 513;
     deal_refused(dealer, o, DOOR_ACCEPTED);
 }
 
-static void deal_alone(struct door_dealer dealer)
+/* What may be wrong with a deal, by the number that refuses it. */
+enum fault {
+    FAULT_CODE, FAULT_SEED, FAULT_LENGTH, FAULT_ROOM_0, FAULT_ROOM_1, FAULT_NUMBER, FAULT_T,
+    THRESHOLD_FAULTS,
+    FAULT_Q = THRESHOLD_FAULTS, FAULT_TOO_FAR, FAULT_ORDER,
+    FAULTS
+};
+
+static const uint32_t WHY_FAULTY[FAULTS] = {
+    [FAULT_CODE] = DOOR_BAD_PARTY_OR_CODE, [FAULT_SEED] = DOOR_WRONG_LENGTH,
+    [FAULT_LENGTH] = DOOR_WRONG_LENGTH, [FAULT_ROOM_0] = DOOR_SHORT_BUFFER,
+    [FAULT_ROOM_1] = DOOR_SHORT_BUFFER, [FAULT_NUMBER] = DOOR_WRONG_NUMBER,
+    [FAULT_T] = DOOR_OUT_OF_RANGE, [FAULT_Q] = DOOR_OUT_OF_RANGE,
+    [FAULT_TOO_FAR] = DOOR_BAD_MARKS, [FAULT_ORDER] = DOOR_BAD_MARKS,
+};
+
+static void spoil(struct order *o, enum fault fault)
 {
-    static const size_t lengths[] = {0, 513, 65537, ((size_t)1 << 32) + 1, SIZE_MAX};
+    switch (fault) {
+    case FAULT_CODE: o->terms.code = 3; break;
+    case FAULT_SEED: o->seed_size = 31; break;
+    case FAULT_LENGTH: o->terms.n = 513; break;
+    case FAULT_ROOM_0: o->room[0] = half_size(o->terms.n) - 1; break;
+    case FAULT_ROOM_1: o->room[1] = half_size(o->terms.n) - 1; break;
+    case FAULT_NUMBER: o->number--; break;
+    case FAULT_T: o->t = word(PRODUCT_END + 1); break;
+    case FAULT_Q: o->q = word(-PRODUCT_END - 1); break;
+    case FAULT_TOO_FAR: o->t = word(-PRODUCT_END); o->q = word(PRODUCT_END); break;
+    case FAULT_ORDER: o->t = 5; o->q = 4; break;
+    default: break;
+    }
+}
+
+/* Every fault alone, and every two: the lower number refuses. The marks of the later fault, which
+   the earlier may change again, come first. */
+static void deal_with_two_faults(struct door_dealer dealer, bool between)
+{
+    const struct order good = {dealer.last + 1, 32, {DOOR_SCALAR, 18}, 4,
+        {half_size(18), half_size(18)}, between, 4};
+    const int faults = between ? FAULTS : THRESHOLD_FAULTS;
+    deal_refused(dealer, good, DOOR_ACCEPTED);
+    for (int lower = 0; lower < faults; lower++)
+        for (int higher = lower; higher < faults; higher++) {
+            struct order o = good;
+            spoil(&o, (enum fault)higher);
+            spoil(&o, (enum fault)lower);
+            deal_refused(dealer, o, WHY_FAULTY[lower]);
+        }
+}
+
+/* A half of every length has just the room that its content needs. */
+static void deal_lengths(struct door_dealer dealer)
+{
+    for (size_t n = 1; n <= MOST; n++) {
+        const size_t size = half_size(n);
+        struct order o = {dealer.last + 1, 32, {DOOR_HAMMING, n}, 0, {size, size}, n % 2 == 0, 3};
+        EXPECT(size == DOOR_HALF(n));
+        deal_refused(dealer, o, DOOR_ACCEPTED);
+        o.room[n % 2]--;
+        deal_refused(dealer, o, DOOR_SHORT_BUFFER);
+    }
+}
+
+static void deal_thresholds(struct door_dealer dealer, struct order o)
+{
     static const struct { uint32_t code; long t; } thresholds[] = {
-        {DOOR_SCALAR, 0x40000001}, {DOOR_SCALAR, -0x40000001},
+        {DOOR_SCALAR, PRODUCT_END + 1}, {DOOR_SCALAR, -PRODUCT_END - 1},
         {DOOR_EUCLID, -1}, {DOOR_HAMMING, -1}, {DOOR_HAMMING, 514},
     };
-    const struct order good = {
-        dealer.last + 1, 32, {DOOR_SCALAR, 18}, 0, {DOOR_HALF_MOST, DOOR_HALF_MOST}};
+    for (size_t i = 0; i < sizeof thresholds / sizeof *thresholds; i++) {
+        o.terms.code = thresholds[i].code;
+        o.t = word(thresholds[i].t);
+        deal_refused(dealer, o, DOOR_OUT_OF_RANGE);
+    }
+}
+
+static const struct marks {
+    uint32_t code;
+    long p, q;
+    uint32_t why;
+} MARKS[] = {
+    {DOOR_SCALAR, -PRODUCT_END, PRODUCT_END - 1, DOOR_ACCEPTED},
+    {DOOR_SCALAR, 1 - PRODUCT_END, PRODUCT_END, DOOR_ACCEPTED},
+    {DOOR_SCALAR, -PRODUCT_END, -PRODUCT_END, DOOR_ACCEPTED},
+    {DOOR_SCALAR, PRODUCT_END, PRODUCT_END, DOOR_ACCEPTED},
+    {DOOR_SCALAR, -1, 0, DOOR_ACCEPTED},
+    {DOOR_SCALAR, -PRODUCT_END, PRODUCT_END, DOOR_BAD_MARKS}, /* too far apart by one */
+    {DOOR_SCALAR, PRODUCT_END, -PRODUCT_END, DOOR_BAD_MARKS}, /* from here on in no order */
+    {DOOR_SCALAR, 0, -1, DOOR_BAD_MARKS},
+    {DOOR_SCALAR, 1, 0, DOOR_BAD_MARKS},
+    {DOOR_SCALAR, -PRODUCT_END - 1, 0, DOOR_OUT_OF_RANGE},
+    {DOOR_SCALAR, -PRODUCT_END - 1, PRODUCT_END, DOOR_OUT_OF_RANGE}, /* and too far apart */
+    {DOOR_SCALAR, 0, PRODUCT_END + 1, DOOR_OUT_OF_RANGE},
+    {DOOR_SCALAR, PRODUCT_END + 1, 0, DOOR_OUT_OF_RANGE}, /* and in no order, as the next */
+    {DOOR_SCALAR, 0, -PRODUCT_END - 1, DOOR_OUT_OF_RANGE},
+    {DOOR_SCALAR, INT32_MIN, INT32_MAX, DOOR_OUT_OF_RANGE},
+    {DOOR_EUCLID, 0, 0x7fffffff, DOOR_ACCEPTED},
+    {DOOR_EUCLID, 0, 0, DOOR_ACCEPTED},
+    {DOOR_EUCLID, 0x7fffffff, 0x7fffffff, DOOR_ACCEPTED},
+    {DOOR_EUCLID, 1, 0, DOOR_BAD_MARKS},
+    {DOOR_EUCLID, 0x7fffffff, 0x7ffffffe, DOOR_BAD_MARKS},
+    {DOOR_EUCLID, 0x7fffffff, 0, DOOR_BAD_MARKS},
+    {DOOR_EUCLID, -1, 0x7fffffff, DOOR_OUT_OF_RANGE},
+    {DOOR_EUCLID, 5, -1, DOOR_OUT_OF_RANGE},
+    {DOOR_EUCLID, -1, -2, DOOR_OUT_OF_RANGE},
+    {DOOR_HAMMING, 0, 513, DOOR_ACCEPTED},
+    {DOOR_HAMMING, 0, 0, DOOR_ACCEPTED},
+    {DOOR_HAMMING, 513, 513, DOOR_ACCEPTED},
+    {DOOR_HAMMING, 513, 512, DOOR_BAD_MARKS},
+    {DOOR_HAMMING, 513, 0, DOOR_BAD_MARKS},
+    {DOOR_HAMMING, -1, 513, DOOR_OUT_OF_RANGE},
+    {DOOR_HAMMING, 0, 514, DOOR_OUT_OF_RANGE},
+    {DOOR_HAMMING, 514, 0, DOOR_OUT_OF_RANGE},
+    {DOOR_HAMMING, 514, 514, DOOR_OUT_OF_RANGE},
+};
+
+static void deal_marks(struct door_dealer dealer, struct order o)
+{
+    o.between = true;
+    for (size_t i = 0; i < sizeof MARKS / sizeof *MARKS; i++) {
+        o.terms.code = MARKS[i].code;
+        o.t = word(MARKS[i].p);
+        o.q = word(MARKS[i].q);
+        deal_refused(dealer, o, MARKS[i].why);
+    }
+}
+
+static void deal_alone(struct door_dealer dealer, bool between)
+{
+    static const size_t lengths[] = {0, 513, 65537, ((size_t)1 << 32) + 1, SIZE_MAX};
+    const struct order good = {dealer.last + 1, 32, {DOOR_SCALAR, 18}, 0,
+        {DOOR_HALF_MOST, DOOR_HALF_MOST}, between, 0};
     deal_refused(dealer, good, DOOR_ACCEPTED);
     for (size_t i = 0; i < sizeof lengths / sizeof *lengths; i++) {
         struct order o = good;
         o.terms.n = lengths[i];
         deal_refused(dealer, o, DOOR_WRONG_LENGTH);
     }
-    for (size_t i = 0; i < sizeof thresholds / sizeof *thresholds; i++) {
-        struct order o = good;
-        o.terms.code = thresholds[i].code;
-        o.t = word(thresholds[i].t);
-        deal_refused(dealer, o, DOOR_OUT_OF_RANGE);
-    }
+    deal_thresholds(dealer, good);
+    deal_marks(dealer, good);
     struct order o = good;
-    o.room[0] = half_size(18) - 1;
-    deal_refused(dealer, o, DOOR_SHORT_BUFFER);
-    o = good;
     o.seed_size = 33;
     deal_refused(dealer, o, DOOR_WRONG_LENGTH);
     o = good;
@@ -676,6 +958,16 @@ static void deal_alone(struct door_dealer dealer)
     o = good;
     o.number = UINT64_MAX;
     deal_refused(dealer, o, DOOR_WRONG_NUMBER);
+}
+
+static void deals_refused(struct door_dealer dealer)
+{
+    for (int between = 0; between < 2; between++) {
+        deal_in_turn(dealer, between);
+        deal_with_two_faults(dealer, between);
+        deal_alone(dealer, between);
+    }
+    deal_lengths(dealer);
 }
 
 /* What is handed to calls 3 and 4. */
@@ -753,10 +1045,12 @@ struct stage {
 
 static struct stage stage;
 
-static void set_stage(uint32_t code, size_t n)
+static void set_stage(uint32_t code, size_t n, bool between)
 {
     struct door d = open_door(40);
     struct check k = drawn_check(code, n);
+    if (between)
+        draw_marks(&k);
     struct vector sent[2];
     uint32_t words[2];
     deals(&d, 41, &k, &stage.halves);
@@ -1022,6 +1316,27 @@ static void empty_at_dealer(uint8_t *none)
     EXPECT(memcmp(&h, &before, sizeof h) == 0);
 }
 
+static void empty_at_deal_between(uint8_t *none)
+{
+    static struct halves h, before;
+    const struct door_terms terms = {DOOR_SCALAR, 18};
+    const struct door_dealer dealer = dealer_of(BARE, sizeof BARE, 40);
+    size_t key = DOOR_KEY, room = sizeof h.half[0];
+    uint8_t *out0 = h.half[0], *out1 = h.half[1];
+    draw_bytes(out0, room);
+    draw_bytes(out1, room);
+    before = h;
+    dealer_refused(door_deal_between(dealer, 41, none, 0, terms, 0, 1, out0, room, out1, room),
+        &dealer, DOOR_WRONG_LENGTH);
+    dealer_refused(door_deal_between(dealer, 41, seed, key, terms, 0, 1, none, 0, out1, room),
+        &dealer, DOOR_SHORT_BUFFER);
+    dealer_refused(door_deal_between(dealer, 41, seed, key, terms, 0, 1, out0, room, none, 0),
+        &dealer, DOOR_SHORT_BUFFER);
+    dealer_refused(door_deal_between(dealer, 41, none, 0, terms, 1, 0, none, 0, none, 0),
+        &dealer, DOOR_WRONG_LENGTH);
+    EXPECT(memcmp(&h, &before, sizeof h) == 0);
+}
+
 static void empty_at_box(uint8_t *none, uint32_t *no_words)
 {
     static const struct door_party none_started;
@@ -1072,34 +1387,15 @@ static void empty_at_lock(uint8_t *none)
 static void empty_slices(uint8_t *none, uint32_t *no_words)
 {
     empty_at_dealer(none);
+    empty_at_deal_between(none);
     empty_at_box(none, no_words);
     empty_at_lock(none);
 }
 
-/* Load ahead. Every buffer that is lent has drawn bytes on both sides, which must stay. */
+/* Load ahead. */
 
-#define FENCE 64 /* bytes on each side */
-#define FENCED_MOST DOOR_HALF_MOST
 #define AHEAD 50   /* the number of the set that waits while set 41 is open */
 #define FURTHER 51 /* of one that cannot wait as well */
-
-struct fenced {
-    _Alignas(8) uint8_t at[FENCE + FENCED_MOST + FENCE];
-    uint8_t expected[FENCE + FENCED_MOST + FENCE];
-};
-
-static void *fence(struct fenced *f, const void *bytes, size_t size)
-{
-    draw_bytes(f->at, sizeof f->at);
-    memcpy(f->at + FENCE, bytes, size);
-    memcpy(f->expected, f->at, sizeof f->at);
-    return f->at + FENCE;
-}
-
-static void unhurt(const struct fenced *f)
-{
-    EXPECT(memcmp(f->at, f->expected, sizeof f->at) == 0);
-}
 
 static struct door_party_answer load_fenced(
     const struct door_party *box, const uint8_t *half, size_t size)
@@ -1178,18 +1474,20 @@ static struct door_party load_ahead(const struct door_party *box)
     return a.party;
 }
 
-static void set_ahead(uint32_t code, size_t n)
+static void set_ahead(uint32_t code, size_t n, bool between)
 {
     struct door d = open_door(41);
     struct check k = drawn_check(code, n);
     struct door_party unloaded = idle(1, 41);
+    if (between)
+        draw_marks(&k);
     deals(&d, AHEAD, &k, &ahead.halves);
     deals(&d, FURTHER, &k, &ahead.further);
     ahead.size = half_size(n);
     ahead.n = n;
     struct door_party_answer a = load_fenced(&unloaded, ahead.halves.half[1], ahead.size);
     EXPECT(a.why == DOOR_ACCEPTED && a.party.last == AHEAD);
-    EXPECT(same_set(&a.party.waiting, &NO_SET));
+    EXPECT(has_rule(&a.party.check.set, &k) && same_set(&a.party.waiting, &NO_SET));
     ahead.opened = a.party;
     for (uint32_t phase = DOOR_LOADED; phase <= DOOR_TAKEN; phase++)
         ahead.at[phase] = load_ahead(&stage.at[phase]);
@@ -1350,9 +1648,74 @@ static void messages_ahead(void)
     fenced_refused(finish_fenced(taken, word_message, 1), taken, DOOR_WRONG_MESSAGE);
 }
 
-static void loads_ahead(uint32_t code, size_t n)
+/* Width and mark of a state that is handed in are not tested, whatever they are. */
+
+static const struct { uint32_t width, mark; } ODD_RULES[] = {
+    {0, 0}, {5, 0}, {WIDEST + 1u, 0}, {UINT32_MAX, 0}, {0, 1}, {WIDEST, 1}, {UINT32_MAX, 1},
+    {0, 2}, {WIDEST, 256}, {UINT32_MAX, UINT32_MAX}};
+#define COUNT_ODD (sizeof ODD_RULES / sizeof *ODD_RULES)
+
+static void give_rule(struct door_set *set, size_t i)
 {
-    set_ahead(code, n);
+    set->width = ODD_RULES[i].width;
+    set->mark = ODD_RULES[i].mark;
+}
+
+/* The words under mark 0 and under another one sum to 2 r; for a product they are the same. */
+static void word_goes_by_mark(const struct door_party *odd)
+{
+    struct door_party ordinary = *odd;
+    ordinary.check.set.mark = 0;
+    const uint32_t word0 = take_fenced(&ordinary, stage.vector, stage.v).word;
+    const uint32_t word1 = take_fenced(odd, stage.vector, stage.v).word;
+    if (odd->check.set.mark == 0 || odd->check.set.terms.code == DOOR_SCALAR)
+        EXPECT(word0 == word1);
+    else
+        EXPECT(word0 + word1 == 2 * odd->check.set.r);
+}
+
+static void odd_rules_open(size_t i)
+{
+    for (uint32_t phase = DOOR_IDLE; phase <= DOOR_TAKEN; phase++) {
+        struct door_party box = stage.at[phase];
+        give_rule(&box.check.set, i);
+        turns(&box, true);
+        if (phase == DOOR_MASKED)
+            word_goes_by_mark(&box);
+        struct door_party none_waiting = stage.at[phase];
+        give_rule(&none_waiting.waiting, i);
+        turns(&none_waiting, true);
+    }
+}
+
+/* What waits keeps them when it is opened. */
+static void odd_rules_ahead(size_t i)
+{
+    struct door_party opened = ahead.opened;
+    give_rule(&opened.check.set, i);
+    for (uint32_t phase = DOOR_LOADED; phase <= DOOR_TAKEN; phase++) {
+        struct door_party box = ahead.at[phase];
+        give_rule(&box.waiting, i);
+        struct door_party_answer a = door_drop(box);
+        EXPECT(a.why == DOOR_ACCEPTED && same_party(&a.party, &opened));
+        if (phase == DOOR_TAKEN) {
+            a = finish_fenced(&box, stage.word, 12345);
+            EXPECT(a.why == DOOR_ACCEPTED && same_party(&a.party, &opened));
+        }
+    }
+}
+
+static void odd_rules(void)
+{
+    for (size_t i = 0; i < COUNT_ODD; i++) {
+        odd_rules_open(i);
+        odd_rules_ahead(i);
+    }
+}
+
+static void loads_ahead(uint32_t code, size_t n, bool between)
+{
+    set_ahead(code, n, between);
     goes_on_ahead();
     opens_what_waits();
     waits_alone();
@@ -1457,11 +1820,19 @@ static void set_goals(struct overlap *o, int set, uint32_t goal0, uint32_t goal1
     o->goal[1][set] = goal1;
 }
 
-/* From a threshold that the measure just meets to one that it does not, if there is one. */
-static void turn(struct check *k)
+/* A threshold that the measure just meets or just does not, or two marks, which the measure is at
+   or beside; where these cannot be dealt, it stays at the threshold that is met. */
+static void draw_rule(struct check *k)
 {
     const struct check met = *k;
-    k->t += k->terms.code == DOOR_SCALAR ? 1 : -1;
+    const long width = draw() % 1000, above_p[] = {-1, 0, width, width + 1};
+    k->between = draw() % 2 == 0;
+    if (k->between) {
+        k->t -= above_p[draw() % 4];
+        k->q = k->t + width;
+    } else if (draw() % 2 == 0) {
+        k->t += k->terms.code == DOOR_SCALAR ? 1 : -1;
+    }
     if (!may_be_dealt(k))
         *k = met;
 }
@@ -1473,8 +1844,7 @@ static void begin_overlap(struct overlap *o)
     memset(o, 0, sizeof *o);
     for (int set = 0; set < 2; set++) {
         o->k[set] = drawn_check(draw() % 3, lengths[draw() % 4]);
-        if (draw() % 2 == 0)
-            turn(&o->k[set]);
+        draw_rule(&o->k[set]);
         deals(&d, overlap_number(set), &o->k[set], &o->halves[set]);
         o->box[set] = d.box[set];
     }
@@ -1542,7 +1912,9 @@ static void overlaps(void)
         }
 }
 
-/* A set that an older version dealt. */
+/* Sets that older versions dealt. */
+
+#define OLDER_SIZE (3 * DOOR_BLOCK) /* bytes of each of their halves */
 
 static void from_hex(const char *hex, uint8_t *bytes, size_t size)
 {
@@ -1552,66 +1924,72 @@ static void from_hex(const char *hex, uint8_t *bytes, size_t size)
     EXPECT(read == size && strlen(hex) == 2 * size);
 }
 
-/* The door's keys, and the seed of the next deal, are those of the older set from here on. */
+/* The door's keys are those of the older sets from here on. */
 static void take_older_keys(void)
 {
     for (uint8_t i = 0; i < DOOR_KEY; i++) {
         keys[0][i] = OLDER_KEY0 + i;
         keys[1][i] = OLDER_KEY1 + i;
-        seed[i] = OLDER_SEED + i;
     }
 }
 
-/* Of what a half has, the same deal by this version changes the key alone: every correction of it,
-   and its last word. */
-static void differs_in_key(const struct door_set *old, uint32_t party, const struct check *k)
+static void older_refused(const struct door *d, uint32_t why)
 {
-    static struct halves h;
-    struct door_dealer dealer = dealer_of(BARE, sizeof BARE, OLDER_NUMBER - 1);
-    EXPECT(deal(dealer, OLDER_NUMBER, k, &h).why == DOOR_ACCEPTED);
-    struct door_party_answer a =
-        door_load(idle(party, OLDER_NUMBER - 1), h.half[party], half_size(k->terms.n));
-    struct door_set *new = &a.party.check.set;
-    EXPECT(a.why == DOOR_ACCEPTED);
-    for (int level = 0; level < 32; level++)
-        EXPECT(!SAME(&old->key, &new->key, corrections[level].seed));
-    EXPECT(old->key.last != new->key.last);
-    new->key = old->key;
-    EXPECT(same_set(old, new));
+    for (int party = 0; party < 2; party++) {
+        uint8_t half[OLDER_SIZE];
+        from_hex(OLDER_HALF[party], half, sizeof half);
+        load_refused(&d->box[party], half, sizeof half, why);
+        from_hex(LATER_HALF[party], half, sizeof half);
+        load_refused(&d->box[party], half, sizeof half, why);
+    }
 }
 
-/* It loads, and the boxes answer. The lock refuses the answers by 12 and stays as it is; one that
-   starts from the dealer's last number refuses them by 7. */
-static void comes_to_nothing(struct door *d, const struct check *k, const struct halves *h)
+/* With no set open, and with one in each phase, of either rule, no load takes them. The check goes
+   on, and a box whose last number is above theirs refuses them by that. */
+static void older_sets(bool between)
 {
+    static struct halves h;
+    const uint64_t number = OLDER_NUMBER - 1;
+    struct door d = open_door(number - 1);
+    struct check k = drawn_check(DOOR_EUCLID, 17);
     struct vector sent[2];
     uint32_t words[2], answers[2];
-    loads(d, OLDER_NUMBER, k, h);
-    fit(&d->box[0].check.set, &d->box[1].check.set);
-    differs_in_key(&d->box[0].check.set, 0, k);
-    differs_in_key(&d->box[1].check.set, 1, k);
-    masks(d, k, sent);
-    takes(d, OLDER_NUMBER, k, sent, words);
-    finishes(d, OLDER_NUMBER, words, answers);
-    const struct join j = join_of(OLDER_NUMBER, answers[0], answers[1]);
-    EXPECT(join(d->last, &j, d->last) == LOCK_REFUSED + DOOR_BAD_SUM);
-    EXPECT(join(OLDER_NUMBER, &j, OLDER_NUMBER) == LOCK_REFUSED + DOOR_WRONG_NUMBER);
+    if (between)
+        draw_marks(&k);
+    older_refused(&d, DOOR_BAD_CONTENT);
+    deals(&d, number, &k, &h);
+    loads(&d, number, &k, &h);
+    older_refused(&d, DOOR_BAD_CONTENT);
+    masks(&d, &k, sent);
+    older_refused(&d, DOOR_BAD_CONTENT);
+    takes(&d, number, &k, sent, words);
+    older_refused(&d, DOOR_BAD_CONTENT);
+    finishes(&d, number, words, answers);
+    older_refused(&d, DOOR_BAD_CONTENT);
+    const struct join j = join_of(number, answers[0], answers[1]);
+    EXPECT(join(d.last, &j, number) == 1);
+    d.box[0].last = d.box[1].last = OLDER_NUMBER;
+    older_refused(&d, DOOR_WRONG_NUMBER);
 }
 
-/* A box that starts from the dealer's last number refuses it too, and the next set is answered. */
-static void older_set(void)
+/* At a box that has a set of this code and rule open, while others of all codes and of both rules
+   wait. */
+static void refusals_of(uint32_t code, bool between)
 {
-    static struct halves h;
-    const struct check k = {.terms = {DOOR_SCALAR, 1}, .t = OLDER_T, .v = {{2}, {3}}};
-    take_older_keys();
-    struct door d = open_door(OLDER_NUMBER - 1);
-    for (uint32_t party = 0; party < 2; party++) {
-        from_hex(OLDER_HALF[party], h.half[party], half_size(1));
-        const struct door_party started = idle(party, OLDER_NUMBER);
-        load_refused(&started, h.half[party], half_size(1), DOOR_WRONG_NUMBER);
-    }
-    comes_to_nothing(&d, &k, &h);
-    EXPECT(whole(&d, OLDER_NUMBER + 1, &k) == 1);
+    set_stage(code, 20, between);
+    states();
+    for (uint32_t phase = DOOR_IDLE; phase <= DOOR_TAKEN; phase++)
+        load_in_turn(phase);
+    load_alone();
+    mask();
+    message(&stage.at[DOOR_MASKED], stage.vector);
+    message(&stage.at[DOOR_TAKEN], stage.word);
+    empty_slices(keys[0], stage.v);
+    empty_slices(NULL, NULL);
+    loads_ahead(code, 20, !between);
+    odd_rules();
+    loads_ahead((code + 1) % 3, 1, between);
+    loads_ahead((code + 2) % 3, MOST, !between);
 }
 
 int main(int count, char **arguments)
@@ -1622,28 +2000,18 @@ int main(int count, char **arguments)
     draw_bytes(seed, sizeof seed);
     whole_checks();
     short_ones();
+    short_ones_between();
     ends();
     starts();
-    deal_in_turn(dealer_of(BARE, sizeof BARE, 40));
-    deal_alone(dealer_of(BARE, sizeof BARE, 40));
-    for (uint32_t code = 0; code < 3; code++) {
-        set_stage(code, 20);
-        states();
-        for (uint32_t phase = DOOR_IDLE; phase <= DOOR_TAKEN; phase++)
-            load_in_turn(phase);
-        load_alone();
-        mask();
-        message(&stage.at[DOOR_MASKED], stage.vector);
-        message(&stage.at[DOOR_TAKEN], stage.word);
-        empty_slices(keys[0], stage.v);
-        empty_slices(NULL, NULL);
-        loads_ahead(code, 20);
-        loads_ahead((code + 1) % 3, 1);
-        loads_ahead((code + 2) % 3, MOST);
-    }
+    deals_refused(dealer_of(BARE, sizeof BARE, 40));
+    for (uint32_t code = 0; code < 3; code++)
+        for (int between = 0; between < 2; between++)
+            refusals_of(code, between);
     for (int i = 0; i < 4; i++)
         overlaps();
     joins();
-    older_set();
+    take_older_keys();
+    older_sets(false);
+    older_sets(true);
     printf("c/test: %s: %ld passed\n", door_level(), passed);
 }

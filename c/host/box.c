@@ -132,6 +132,19 @@ static bool load(struct box *box, uint64_t number, const uint8_t *half, size_t s
     return true;
 }
 
+/* A box knows of a set's marks how far apart they are, and of a threshold nothing. */
+static void say_loaded(const struct box *box, const char *how)
+{
+    const struct door_set *set = is_waiting(box) ? &box->party.waiting : &box->party.check.set;
+    char terms[TERMS_ROOM];
+    terms_words(set->terms, terms);
+    if (set->mark == 0)
+        say("set %" PRIu64 ": %s: %s, by a threshold", set->number, how, terms);
+    else
+        say("set %" PRIu64 ": %s: %s, between two marks %" PRIu32 " apart", set->number, how,
+            terms, set->width);
+}
+
 /* Loads the set that is announced, if it is the next one and there is room. Numbers only rise: a
    box that has not begun the set before it would spend that one's number too. It is tried again
    after every message. A set that cannot be loaded is left to its begin, and harms nothing. */
@@ -147,10 +160,11 @@ static void load_announced(struct box *box)
     bool loaded = read_half(box->party.who.party, number, half, &size)
         && load(box, number, half, size, &why);
     explicit_bzero(half, sizeof half);
-    say("set %" PRIu64 ": %s", number,
-        !loaded ? "could not be loaded ahead; its check tries again, or takes another set"
-            : is_waiting(box) ? "loaded ahead; it waits for the open set to end"
-                              : "loaded ahead; it is open");
+    if (loaded)
+        say_loaded(box, is_waiting(box) ? "loaded ahead, behind the open set" : "loaded ahead");
+    else
+        say("set %" PRIu64 ": could not be loaded ahead; its check tries again, or takes another "
+            "set", number);
 }
 
 static bool mask(
@@ -247,6 +261,8 @@ static bool open_from_stick(struct box *box, uint64_t number, uint32_t *why)
         drop_open_set(box, because);
     bool loaded = load(box, number, half, size, why);
     explicit_bzero(half, sizeof half);
+    if (loaded)
+        say_loaded(box, "loaded");
     if (loaded && is_waiting(box))
         drop_open_set(box, because);
     return loaded;

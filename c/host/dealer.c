@@ -6,11 +6,6 @@
 
 #define FOLDER PART[DEALER].command
 
-/* Both halves of one set. */
-struct halves {
-    uint8_t half[2][DOOR_HALF_MOST];
-};
-
 struct dealer {
     struct door_dealer state;
     bool deals_ahead;
@@ -39,6 +34,25 @@ static bool start_dealer(struct door_dealer *dealer)
     return started;
 }
 
+struct door_dealer_answer deal_for(const struct door_dealer *dealer, uint64_t number,
+    const uint8_t seed[DOOR_KEY], const struct settings *s, struct halves *h)
+{
+    uint8_t *out0 = h->half[CAMERA], *out1 = h->half[OFFICE];
+    const size_t room = DOOR_HALF_MOST;
+    if (s->between)
+        return door_deal_between(*dealer, number, seed, DOOR_KEY, s->terms,
+            (uint32_t)s->p, (uint32_t)s->q, out0, room, out1, room);
+    return door_deal(*dealer, number, seed, DOOR_KEY, s->terms,
+        (uint32_t)s->threshold, out0, room, out1, room);
+}
+
+/* But for the number, what a deal may be refused for is in its settings. */
+static void say_not_dealt(uint64_t number, uint32_t why)
+{
+    say_refused("the deal", number, why, why == DOOR_WRONG_NUMBER ? "no set was dealt"
+        : "no set was dealt: put dealer/settings right");
+}
+
 /* Deals the next set into memory, and says whether the proved call took it. */
 static bool deal_next(
     struct door_dealer *dealer, const struct settings *s, struct halves *h, uint32_t *why)
@@ -49,15 +63,13 @@ static bool deal_next(
         return false;
     /* Past the last 64-bit number this is 0, which the deal refuses. */
     uint64_t number = dealer->last + 1;
-    struct door_dealer_answer a =
-        door_deal(*dealer, number, seed, sizeof seed, s->terms, (uint32_t)s->threshold,
-            h->half[CAMERA], DOOR_HALF_MOST, h->half[OFFICE], DOOR_HALF_MOST);
+    struct door_dealer_answer a = deal_for(dealer, number, seed, s, h);
     *dealer = a.dealer;
     *why = a.why;
     explicit_bzero(seed, sizeof seed);
     explicit_bzero(&a, sizeof a);
     if (*why != DOOR_ACCEPTED)
-        say_refused("the deal", number, *why, "no set was dealt");
+        say_not_dealt(number, *why);
     return *why == DOOR_ACCEPTED;
 }
 
@@ -73,13 +85,15 @@ static bool hand_out(const struct door_dealer *dealer, size_t length, const stru
 static bool deal(struct door_dealer *dealer, const struct settings *s, uint32_t *why)
 {
     static struct halves h;
+    char words[SETTINGS_ROOM];
     if (!deal_next(dealer, s, &h, why))
         return false;
     bool done = hand_out(dealer, s->terms.n, &h);
     explicit_bzero(&h, sizeof h);
+    settings_words(s, words);
     if (done)
-        say("set %" PRIu64 ": dealt; a half of %zu bytes is on each stick", dealer->last,
-            DOOR_HALF(s->terms.n));
+        say("set %" PRIu64 ": dealt: %s; a half of %zu bytes is on each stick", dealer->last,
+            words, DOOR_HALF(s->terms.n));
     else
         say("set %" PRIu64 ": its number or a half could not be forced to disk; the set is lost",
             dealer->last);
@@ -89,7 +103,10 @@ static bool deal(struct door_dealer *dealer, const struct settings *s, uint32_t 
 static bool same_settings(const struct settings *a, const struct settings *b)
 {
     return a->terms.code == b->terms.code && a->terms.n == b->terms.n
-        && a->threshold == b->threshold;
+        && a->between == b->between
+        && a->threshold == b->threshold
+        && a->p == b->p
+        && a->q == b->q;
 }
 
 /* Finds the set that was dealt ahead, if it was dealt for these settings, or else deals one. A set
@@ -115,6 +132,11 @@ static void send_dealt(const struct dealer *dealer, const struct link *link, uin
 {
     struct message dealt = {.kind = HOST_DEALT, .sender = DEALER, .number = number,
         .words = {s->terms.code, (uint32_t)s->terms.n, (uint32_t)s->threshold}, .count = 3};
+    if (s->between) {
+        dealt.words[2] = (uint32_t)s->p;
+        dealt.words[3] = (uint32_t)s->q;
+        dealt.count = 4;
+    }
     memcpy(dealt.name, dealer->state.name, DOOR_NAME);
     send_to(link, OPERATOR, &dealt);
 }

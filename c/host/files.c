@@ -225,13 +225,20 @@ static bool next_number(const char **text, intmax_t low, intmax_t high, intmax_t
 /* Nothing is cut to a narrower type here before the deal has tested it. */
 bool parse_settings(const char *text, struct settings *settings)
 {
-    intmax_t code, length, threshold;
+    intmax_t code, length, first, second;
     if (!next_number(&text, 0, UINT32_MAX, &code) || !next_number(&text, 0, INTMAX_MAX, &length)
-        || !next_number(&text, INT32_MIN, INT32_MAX, &threshold) || *text != '\0')
+        || !next_number(&text, INT32_MIN, INT32_MAX, &first))
         return false;
-    settings->terms.code = (uint32_t)code;
-    settings->terms.n = (size_t)length;
-    settings->threshold = (int32_t)threshold;
+    *settings = (struct settings){
+        .terms = {.code = (uint32_t)code, .n = (size_t)length}, .threshold = (int32_t)first};
+    if (*text == '\0')
+        return true;
+    if (!next_number(&text, INT32_MIN, INT32_MAX, &second) || *text != '\0')
+        return false;
+    settings->between = true;
+    settings->threshold = 0;
+    settings->p = (int32_t)first;
+    settings->q = (int32_t)second;
     return true;
 }
 
@@ -243,16 +250,35 @@ bool read_settings(struct settings *settings)
         return false;
     if (parse_settings(text, settings))
         return true;
-    say("dealer/settings has not three whole numbers: measure code, length, threshold");
+    say("dealer/settings has to have three or four whole numbers: measure code, length, and a "
+        "threshold or two marks");
     return false;
 }
 
 bool write_settings(const struct settings *settings)
 {
     char text[PATH_ROOM];
-    int size = snprintf(text, sizeof text, "%" PRIu32 " %zu %" PRId32 "\n", settings->terms.code,
-        settings->terms.n, settings->threshold);
+    const struct door_terms terms = settings->terms;
+    int size = settings->between
+        ? snprintf(text, sizeof text, "%" PRIu32 " %zu %" PRId32 " %" PRId32 "\n", terms.code,
+              terms.n, settings->p, settings->q)
+        : snprintf(text, sizeof text, "%" PRIu32 " %zu %" PRId32 "\n", terms.code, terms.n,
+              settings->threshold);
     return write_durably("dealer", "settings", text, (size_t)size);
+}
+
+void settings_words(const struct settings *settings, char words[SETTINGS_ROOM])
+{
+    char terms[TERMS_ROOM];
+    terms_words(settings->terms, terms);
+    if (settings->between)
+        snprintf(words, SETTINGS_ROOM, "%s, opens from %" PRId32 " to %" PRId32, terms,
+            settings->p, settings->q);
+    else if (settings->terms.code == DOOR_SCALAR)
+        snprintf(words, SETTINGS_ROOM, "%s, opens from %" PRId32 " on", terms,
+            settings->threshold);
+    else
+        snprintf(words, SETTINGS_ROOM, "%s, opens up to %" PRId32, terms, settings->threshold);
 }
 
 bool read_vector(const char *path, struct vector *vector)

@@ -32,9 +32,10 @@ bool write_durably(const char *folder, const char *file, const void *bytes, size
 /* A part's high-water mark: the last set number that is spent, and the version, the rule by which
    the sets above it are dealt and judged. In version 1 the lock's 1 meant measure >= T for
    distances too. In versions 1 and 2 each node of a comparison key was opened under a nonce of
-   zeros; now the level of its children is in the nonce. The calls cannot tell an older set from a
-   new one. A file that is missing, torn or damaged is never read as any number. */
-#define SETS_VERSION 3
+   zeros; since then the level of its children is in the nonce. Up to version 3 a half had no width
+   and no mark, and there were no sets between two marks. A file that is missing, torn or damaged is
+   never read as any number. */
+#define SETS_VERSION 4
 
 bool read_last(const char *folder, uint64_t *last, uint64_t *version);
 bool write_last(const char *folder, uint64_t last); /* of SETS_VERSION */
@@ -49,16 +50,23 @@ struct door_name {
 
 bool read_name(const char *folder, struct door_name *name);
 
-/* What the dealer deals for. Whether code, length and threshold fit each other is the deal's
-   matter. */
+/* What the dealer deals for: a threshold, or two marks from one of which to the other the lock
+   opens. Whether they fit code and length is the deal's matter. */
 struct settings {
     struct door_terms terms;
-    int32_t threshold;
+    bool between;      /* two marks, else a threshold */
+    int32_t threshold; /* 0 where there are marks */
+    int32_t p, q;      /* the marks; 0 where there is a threshold */
 };
 
+/* Three or four whole numbers: code, length, and the threshold or both marks. */
 bool parse_settings(const char *text, struct settings *settings);
 bool read_settings(struct settings *settings);
 bool write_settings(const struct settings *settings);
+
+/* For people: 'squared Euclid, 128 elements, opens from 5 to 900'. */
+#define SETTINGS_ROOM 128
+void settings_words(const struct settings *settings, char words[SETTINGS_ROOM]);
 
 /* A vector, one whole number a line, as words. */
 struct vector {

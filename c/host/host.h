@@ -44,6 +44,15 @@ void say_newer(const char *folder);
    well where it is of another version. */
 bool start_part(enum part self, struct door_name *name, uint64_t *last);
 
+/* Both halves of one set, by the box. */
+struct halves {
+    uint8_t half[2][DOOR_HALF_MOST];
+};
+
+/* Asks the proved call for a set with these settings. */
+struct door_dealer_answer deal_for(const struct door_dealer *dealer, uint64_t number,
+    const uint8_t seed[DOOR_KEY], const struct settings *s, struct halves *h);
+
 /* Tells the operator that this set came to nothing here. */
 void send_failed(const struct link *link, uint64_t number, uint32_t why);
 

@@ -13,6 +13,7 @@
 static int usage(void)
 {
     fputs("usage: door-host setup FOLDER NAME CODE LENGTH THRESHOLD\n"
+          "       door-host setup FOLDER NAME CODE LENGTH P Q\n"
           "       door-host dealer FOLDER [--no-ahead] [--via SOCKET]\n"
           "       door-host camera|office|lock FOLDER [--via SOCKET]\n"
           "       door-host check FOLDER VECTORFILE\n"
@@ -42,12 +43,23 @@ static bool go_to(const char *folder)
     return false;
 }
 
-static int run_setup(char **arguments)
+static bool is_blank(const char *text)
 {
-    char text[PATH_ROOM];
-    int size = snprintf(text, sizeof text, "%s %s %s", arguments[2], arguments[3], arguments[4]);
-    if (size < 0 || (size_t)size >= sizeof text)
-        return usage();
+    return text[strspn(text, " \t\r\n")] == '\0';
+}
+
+/* Folder, name, and the settings' numbers. A blank one is not passed over: where it was to be the
+   second mark, the first would be a threshold. */
+static int run_setup(int count, char **arguments)
+{
+    char text[PATH_ROOM] = "";
+    size_t size = 0;
+    for (int i = 2; i < count; i++) {
+        int more = snprintf(text + size, sizeof text - size, "%s ", arguments[i]);
+        if (is_blank(arguments[i]) || more < 0 || (size_t)more >= sizeof text - size)
+            return usage();
+        size += (size_t)more;
+    }
     return set_up(arguments[0], arguments[1], text);
 }
 
@@ -104,8 +116,8 @@ int main(int count, char **arguments)
 {
     if (!keep_secrets_in() || !stop_on_signals())
         return EXIT_TROUBLE;
-    if (count == 7 && strcmp(arguments[1], "setup") == 0)
-        return run_setup(arguments + 2);
+    if ((count == 7 || count == 8) && strcmp(arguments[1], "setup") == 0)
+        return run_setup(count - 2, arguments + 2);
     if (count == 4 && strcmp(arguments[1], "check") == 0)
         return run_check_of(arguments[2], arguments[3]);
     return run_part_with(count - 1, arguments + 1);

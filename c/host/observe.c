@@ -32,8 +32,8 @@ static struct settings ahead_for; /* what that one was dealt for */
 
 bool same_settings(const struct settings *a, const struct settings *b)
 {
-    return a->terms.code == b->terms.code && a->terms.n == b->terms.n
-        && a->threshold == b->threshold;
+    return a->terms.code == b->terms.code && a->terms.n == b->terms.n && a->between == b->between
+        && a->threshold == b->threshold && a->p == b->p && a->q == b->q;
 }
 
 int64_t measure(struct door_terms terms, const int32_t *x, const int32_t *y)
@@ -50,6 +50,8 @@ int64_t measure(struct door_terms terms, const int32_t *x, const int32_t *y)
 bool has_to_open(const struct settings *s, const int32_t *x, const int32_t *y)
 {
     const int64_t found = measure(s->terms, x, y);
+    if (s->between)
+        return s->p <= found && found <= s->q;
     return s->terms.code == DOOR_SCALAR ? found >= s->threshold : found <= s->threshold;
 }
 
@@ -174,6 +176,29 @@ static void use_stock(uint64_t number)
     lose_stock(DEALER);
 }
 
+/* What the dealer says that it has dealt for. */
+static struct settings settings_in(const struct message *m)
+{
+    struct settings s = {
+        .terms = {.code = m->words[0], .n = m->words[1]}, .between = m->count == 4};
+    if (s.between) {
+        s.p = (int32_t)m->words[2];
+        s.q = (int32_t)m->words[3];
+    } else {
+        s.threshold = (int32_t)m->words[2];
+    }
+    return s;
+}
+
+static void count_dealt(const struct settings *s)
+{
+    static bool was_between;
+    tally.dealt++;
+    tally.to_marks += s->between && !was_between;
+    tally.to_threshold += !s->between && was_between;
+    was_between = s->between;
+}
+
 static void observe_dealt(enum part from, const struct message *m)
 {
     struct seen *s = set_of(m->number);
@@ -184,13 +209,11 @@ static void observe_dealt(enum part from, const struct message *m)
     EXPECT(s->half[CAMERA] != 0 && s->half[OFFICE] != 0,
         "set %" PRIu64 " was announced without its halves", m->number);
     s->dealt = true;
-    s->settings.terms.code = m->words[0];
-    s->settings.terms.n = m->words[1];
-    s->settings.threshold = (int32_t)m->words[2];
+    s->settings = settings_in(m);
     EXPECT(same_settings(&s->settings, &settings),
         "set %" PRIu64 " was announced for other settings than those that the dealer has",
         m->number);
-    tally.dealt++;
+    count_dealt(&s->settings);
     if (has_one)
         use_stock(m->number);
 }
@@ -246,7 +269,14 @@ static void count_verdict(const struct settings *s, int64_t found, bool open)
     tally.answered++;
     tally.by_code[s->terms.code].open += open;
     tally.by_code[s->terms.code].shut += !open;
-    tally.by_code[s->terms.code].just += found == s->threshold;
+    if (!s->between) {
+        tally.by_code[s->terms.code].just += found == s->threshold;
+        return;
+    }
+    tally.by_code[s->terms.code].between++;
+    const int64_t places[PLACES] = {(int64_t)s->p - 1, s->p, s->q, (int64_t)s->q + 1};
+    for (enum place place = BELOW_P; place < PLACES; place++)
+        tally.by_code[s->terms.code].beside[place] += found == places[place];
 }
 
 static void observe_verdict(enum part from, const struct message *m)
@@ -257,10 +287,11 @@ static void observe_verdict(enum part from, const struct message *m)
     EXPECT(s->sent[CAMERA][DOOR_ANSWER] && s->sent[OFFICE][DOOR_ANSWER],
         "set %" PRIu64 " was reported before both boxes answered", m->number);
     int64_t found = measure(s->settings.terms, s->used[CAMERA], s->used[OFFICE]);
+    char words[SETTINGS_ROOM];
+    settings_words(&s->settings, words);
     EXPECT(m->words[0] == has_to_open(&s->settings, s->used[CAMERA], s->used[OFFICE]),
-        "set %" PRIu64 ": code %" PRIu32 ", measure %" PRId64 ", threshold %" PRId32
-        ", and the lock said %" PRIu32,
-        m->number, s->settings.terms.code, found, s->settings.threshold, m->words[0]);
+        "set %" PRIu64 ": %s, measure %" PRId64 ", and the lock said %" PRIu32, m->number, words,
+        found, m->words[0]);
     s->reported = true;
     count_verdict(&s->settings, found, m->words[0] == 1);
 }

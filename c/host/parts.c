@@ -1,10 +1,9 @@
 #include "parts.h"
 
-#include "../door.h"
-
 #include <errno.h>
 #include <inttypes.h>
 #include <stdarg.h>
+#include <stdbool.h>
 #include <stdio.h>
 #include <string.h>
 #include <unistd.h>
@@ -65,15 +64,30 @@ const char *refusal_words(uint32_t why)
         [DOOR_WRONG_MESSAGE] = "the message is of another kind, door or sender",
         [DOOR_WRONG_NUMBER] =
             "the set number is not the open one, not above the last one, or not the same twice",
-        [DOOR_OUT_OF_RANGE] = "an element or the threshold is outside its measure's range",
+        [DOOR_OUT_OF_RANGE] = "an element, the threshold or a mark is outside its measure's range",
         [DOOR_EQUAL_KEYS] = "the two box keys are equal",
         [DOOR_BAD_BLOCK] = "a block is out of place, of another set, or its tag does not fit",
-        [DOOR_BAD_CONTENT] =
-            "the half is for another door or box, or has content that no deal writes",
+        [DOOR_BAD_CONTENT] = "the half is for another door or box, is from another version, or has "
+                             "content that no deal writes",
         [DOOR_BAD_SUM] = "the two answers do not sum to 0 or 1; a box or the dealer may be of "
                          "another version",
+        [DOOR_BAD_MARKS] = "the second mark is below the first, or they are too far apart: at most "
+                           "2,147,483,647",
     };
     return why < sizeof words / sizeof *words ? words[why] : "a number that no call answers";
+}
+
+void terms_words(struct door_terms terms, char words[TERMS_ROOM])
+{
+    static const char *const measures[] = {
+        [DOOR_SCALAR] = "scalar product",
+        [DOOR_EUCLID] = "squared Euclid",
+        [DOOR_HAMMING] = "Hamming",
+    };
+    bool is_known = terms.code < sizeof measures / sizeof *measures;
+    snprintf(words, TERMS_ROOM, "%s, %zu element%s",
+        is_known ? measures[terms.code] : "a measure of no known code", terms.n,
+        terms.n == 1 ? "" : "s");
 }
 
 void say_refused(const char *call, uint64_t number, uint32_t why, const char *done)

@@ -4,6 +4,8 @@
 #ifndef HOST_PARTS_H
 #define HOST_PARTS_H
 
+#include "../door.h"
+
 #include <stdint.h>
 
 /* The two boxes have their party numbers, so that a part is also what a message has as sender. */
@@ -36,6 +38,10 @@ void say_trouble(const char *what, const char *path);
 
 /* A refusal's number in words; numbers that no call answers have words too. */
 const char *refusal_words(uint32_t why);
+
+/* A set's measure and length: 'squared Euclid, 128 elements'. */
+#define TERMS_ROOM 64
+void terms_words(struct door_terms terms, char words[TERMS_ROOM]);
 
 /* Says which call was refused for which set, why, and what this host did about it. */
 void say_refused(const char *call, uint64_t number, uint32_t why, const char *done);

@@ -16,17 +16,16 @@ void say_newer(const char *folder)
     say("the folder %s is from a newer version of this program: use that one", folder);
 }
 
-/* The calls cannot tell a set of another version from one of this: it would be loaded, and an older
-   one's answers would not join. */
+/* The proved load refuses what an older dealer has dealt. But no call can tell what older boxes
+   have answered: a lock of this version would join it. */
 static bool is_of_this_version(const char *folder, uint64_t version)
 {
     if (version > SETS_VERSION)
         say_newer(folder);
     if (version < SETS_VERSION)
-        say("the folder %s is from an older version; its sets must be scrapped, since the lock "
-            "would refuse what boxes of this version answer from them: nobody would be let in. "
-            "Stop all parts, bring their four folders and both sticks together, and run: door-host "
-            "upgrade FOLDER",
+        say("the folder %s is from an older version; its sets must be scrapped, since boxes of "
+            "this version refuse their halves: nobody would be let in. Stop all parts, bring their "
+            "four folders and both sticks together, and run: door-host upgrade FOLDER",
             folder);
     return version == SETS_VERSION;
 }

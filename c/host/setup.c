@@ -17,8 +17,7 @@ struct plan {
    deals with these settings. The set of the trial is wiped, and no one ever has its seed. */
 static bool would_deal(const struct plan *plan)
 {
-    static uint8_t halves[2][DOOR_HALF_MOST];
-    const struct settings *s = &plan->settings;
+    static struct halves halves;
     uint8_t seed[DOOR_KEY];
     if (!draw_random(seed, sizeof seed))
         return false;
@@ -27,8 +26,7 @@ static bool would_deal(const struct plan *plan)
     const char *call = "the dealer's start";
     if (a.why == DOOR_ACCEPTED) {
         call = "a trial deal with these settings";
-        a = door_deal(a.dealer, 1, seed, sizeof seed, s->terms, (uint32_t)s->threshold,
-            halves[CAMERA], DOOR_HALF_MOST, halves[OFFICE], DOOR_HALF_MOST);
+        a = deal_for(&a.dealer, 1, seed, &plan->settings, &halves);
     }
     if (a.why != DOOR_ACCEPTED)
         say("%s was refused (%" PRIu32 "): %s; nothing was set up", call, a.why,
@@ -36,7 +34,7 @@ static bool would_deal(const struct plan *plan)
     bool accepted = a.why == DOOR_ACCEPTED;
     explicit_bzero(&a, sizeof a);
     explicit_bzero(seed, sizeof seed);
-    explicit_bzero(halves, sizeof halves);
+    explicit_bzero(&halves, sizeof halves);
     return accepted;
 }
 
@@ -77,7 +75,8 @@ int set_up(const char *folder, const char *name, const char *settings_text)
 {
     struct plan plan = {.name = name};
     if (!parse_settings(settings_text, &plan.settings)) {
-        say("measure code, length and threshold are not three whole numbers; nothing was set up");
+        say("a set-up needs three or four whole numbers: measure code, length, and a threshold or "
+            "two marks; nothing was set up");
         return EXIT_TROUBLE;
     }
     bool done = draw_random(plan.keys[CAMERA], DOOR_KEY) && draw_random(plan.keys[OFFICE], DOOR_KEY)

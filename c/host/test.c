@@ -26,6 +26,9 @@
                                   one dealt ahead */
 #define KILLS_MOST 1500        /* if these do not bring it about, the test fails */
 #define TURNS 21               /* checks of which the median time is taken */
+#define CHANGES_OF_RULE 30     /* at the least, from a threshold to marks, and back */
+
+static const char *const PLACE[PLACES] = {"P - 1", "P", "Q", "Q + 1"};
 
 _Noreturn void fail_at(const char *file, int line, const char *format, ...)
 {
@@ -72,37 +75,94 @@ static void write_vector(const char *path, const int32_t *vector)
     EXPECT(fclose(file) == 0, "cannot write %s", path);
 }
 
-/* The threshold at, one below or one above the measure, or anywhere in its range. */
-static int32_t threshold_near(int64_t found)
+/* The range of a code's thresholds and marks. */
+struct range {
+    int64_t low, high;
+};
+
+static struct range range_of(uint32_t code)
 {
-    static const int64_t least[] = {-(1 << 30), 0, 0}, most[] = {1 << 30, INT32_MAX, 513};
-    int64_t low = least[settings.terms.code], high = most[settings.terms.code];
-    int64_t t = found + (int64_t)chance(3) - 1;
+    static const struct range ranges[] = {{-(1 << 30), 1 << 30}, {0, INT32_MAX}, {0, 513}};
+    return ranges[code];
+}
+
+/* That number, or the end of the range that is nearest to it. */
+static int32_t within(struct range r, int64_t number)
+{
+    return (int32_t)(number < r.low ? r.low : number > r.high ? r.high : number);
+}
+
+static int32_t anywhere(struct range r)
+{
+    return within(r, r.low + (int64_t)chance((uint64_t)(r.high - r.low) + 1));
+}
+
+static void set_threshold(int64_t threshold)
+{
+    settings = (struct settings){.terms = settings.terms, .threshold = (int32_t)threshold};
+}
+
+/* Marks so far apart, with the first one so far below the measure. */
+static void set_marks(int64_t found, int64_t below, int64_t width)
+{
+    const struct range r = range_of(settings.terms.code);
+    const int32_t p = within(r, found - below);
+    settings = (struct settings){
+        .terms = settings.terms, .between = true, .p = p, .q = within(r, p + width)};
+}
+
+/* The threshold at, one below or one above the measure, or anywhere in its range. */
+static void draw_threshold(int64_t found)
+{
+    const struct range r = range_of(settings.terms.code);
     if (chance(8) == 0)
-        t = low + (int64_t)chance((uint64_t)(high - low) + 1);
-    return (int32_t)(t < low ? low : t > high ? high : t);
+        set_threshold(anywhere(r));
+    else
+        set_threshold(within(r, found + (int64_t)chance(3) - 1));
+}
+
+/* Marks that the measure is at, beside or between, or anywhere in their range. */
+static void draw_marks(int64_t found)
+{
+    const struct range r = range_of(settings.terms.code);
+    const int64_t width = (int64_t)chance(2) * (int64_t)chance(1000);
+    const int64_t below[] = {-1, 0, width / 2, width, width + 1};
+    if (chance(8) == 0)
+        set_marks(anywhere(r), 0, (int64_t)chance(INT32_MAX));
+    else
+        set_marks(found, below[chance(sizeof below / sizeof *below)], width);
+}
+
+static void draw_rule(void)
+{
+    const int64_t found = measure(settings.terms, current[CAMERA], current[OFFICE]);
+    if (chance(2) == 0)
+        draw_threshold(found);
+    else
+        draw_marks(found);
 }
 
 static void write_settings_anew(void)
 {
-    FILE *file = fopen("dealer/settings", "w");
-    EXPECT(file != NULL
-            && fprintf(file, "%" PRIu32 " %zu %" PRId32 "\n", settings.terms.code,
-                   settings.terms.n, settings.threshold) > 0
-            && fclose(file) == 0,
-        "cannot write the settings");
+    char text[PATH_ROOM];
+    int size = snprintf(text, sizeof text, "%" PRIu32 " %zu %" PRId32, settings.terms.code,
+        settings.terms.n, settings.between ? settings.p : settings.threshold);
+    if (settings.between)
+        size += snprintf(text + size, sizeof text - (size_t)size, " %" PRId32, settings.q);
+    text[size] = '\n';
+    put_file("dealer/settings", text, (size_t)size + 1);
 }
 
 static enum change some_change(void)
 {
     static const enum change changes[] = {
-        VECTORS, VECTORS, VECTORS, VECTORS, THRESHOLD, CODE, ALL, ALL};
+        VECTORS, VECTORS, VECTORS, VECTORS, RULE, CODE, ALL, ALL};
     return changes[chance(sizeof changes / sizeof *changes)];
 }
 
 static void draw_settings(enum change change)
 {
-    static const size_t lengths[] = {1, 2, 17, 18, 128, 511, 512};
+    static const size_t lengths[] = {1, 2, 16, 17, 128, 511, 512};
     if (change == CODE || change == ALL) {
         settings.terms.code = (uint32_t)chance(3);
         if (change == ALL)
@@ -110,8 +170,7 @@ static void draw_settings(enum change change)
         draw_vector(CAMERA);
         draw_vector(OFFICE);
     }
-    settings.threshold =
-        threshold_near(measure(settings.terms, current[CAMERA], current[OFFICE]));
+    draw_rule();
     write_settings_anew();
 }
 
@@ -120,7 +179,7 @@ static void draw_check(enum change change)
     if (change > VECTORS)
         draw_settings(change);
     else if (change == VECTORS && chance(2) == 0)
-        draw_vector((enum part)chance(2)); /* else those before, which are near the threshold */
+        draw_vector((enum part)chance(2)); /* else those before, which are near the turn */
     write_vector("office/vector", current[OFFICE]);
 }
 
@@ -372,23 +431,117 @@ static void operators_check(enum change change)
     expect_ready();
 }
 
-/* The threshold is the measure, or beside it. */
-static void check_at_the_turn(uint32_t code, int32_t beside)
+/* Two vectors of this measure, and what it is. */
+static int64_t draw_pair(uint32_t code)
 {
     settings.terms = (struct door_terms){.code = code, .n = 128};
     draw_vector(CAMERA);
     draw_vector(OFFICE);
-    settings.threshold =
-        (int32_t)measure(settings.terms, current[CAMERA], current[OFFICE]) + beside;
+    return measure(settings.terms, current[CAMERA], current[OFFICE]);
+}
+
+static void check_as_set(void)
+{
     write_settings_anew();
     undisturbed_check(NOTHING);
 }
 
+/* The measure is P - 1, P, between the marks, Q and Q + 1. */
+static void checks_at_marks(uint32_t code, int64_t width)
+{
+    const int64_t below[] = {-1, 0, width / 2, width, width + 1};
+    for (size_t i = 0; i < sizeof below / sizeof *below; i++) {
+        set_marks(draw_pair(code), below[i], width);
+        check_as_set();
+    }
+}
+
+/* A threshold that is met, then marks of which the first is that threshold and which are not met,
+   and back: with the same vectors, and all other numbers as they were. */
+static void checks_to_marks_and_back(uint32_t code)
+{
+    const int64_t found = draw_pair(code);
+    const int64_t threshold = code == DOOR_SCALAR ? found - 5 : found + 5;
+    for (int turn = 0; turn < 4; turn++) {
+        if (turn % 2 == 0)
+            set_threshold(threshold);
+        else
+            set_marks(threshold, 0, 2);
+        check_as_set();
+        EXPECT(has_to_open(&settings, current[CAMERA], current[OFFICE]) == (turn % 2 == 0),
+            "the test's own rule is wrong");
+    }
+}
+
+/* One mark moves across the measure, the other one stays: shut, open, shut. */
+static void checks_with_one_mark_moved(uint32_t code)
+{
+    static const struct { int64_t below, width; } moves[] = {{-1, 2}, {3, 6}, {3, 2}};
+    const int64_t found = draw_pair(code);
+    for (size_t i = 0; i < sizeof moves / sizeof *moves; i++) {
+        set_marks(found, moves[i].below, moves[i].width);
+        check_as_set();
+    }
+}
+
+/* The threshold 0, and marks that are both 0: no number tells them apart. */
+static void checks_at_zero(void)
+{
+    while (draw_pair(DOOR_SCALAR) <= 0)
+        ;
+    for (int turn = 0; turn < 3; turn++) {
+        if (turn % 2 == 0)
+            set_threshold(0);
+        else
+            set_marks(0, 0, 0);
+        check_as_set();
+    }
+}
+
+/* The threshold is the measure, or beside it; the same with marks. */
 static void checks_at_the_turn(void)
 {
-    for (uint32_t code = DOOR_SCALAR; code <= DOOR_HAMMING; code++)
-        for (int32_t beside = -1; beside <= 1; beside++)
-            check_at_the_turn(code, beside);
+    for (uint32_t code = DOOR_SCALAR; code <= DOOR_HAMMING; code++) {
+        for (int64_t beside = -1; beside <= 1; beside++) {
+            set_threshold(draw_pair(code) + beside);
+            check_as_set();
+        }
+        checks_at_marks(code, 0);
+        checks_at_marks(code, 1 + (int64_t)chance(20));
+        checks_to_marks_and_back(code);
+        checks_with_one_mark_moved(code);
+    }
+    checks_at_zero();
+}
+
+/* Behind that place in the log a part says so of the set of this check. */
+static void expect_told(long since, enum part part, const char *words)
+{
+    char said[SAID_ROOM], line[2 * PATH_ROOM];
+    hear_log(since, said);
+    snprintf(line, sizeof line, "%s: set %" PRIu64 ": %s", PART[part].title, check.number, words);
+    EXPECT(strstr(said, line) != NULL, "nobody says: %s; but: %s", line, said);
+}
+
+/* The dealer tells in words what it deals for, and a box what it knows of that. The set is not one
+   that was dealt ahead: its half is loaded when the check begins. */
+static void told_in_words(enum part box)
+{
+    draw_pair(DOOR_EUCLID);
+    set_marks(5, 0, 895);
+    long since = end_of_log();
+    check_as_set();
+    expect_told(since, DEALER, "dealt: squared Euclid, 128 elements, opens from 5 to 900;");
+    expect_told(since, box, "loaded: squared Euclid, 128 elements, between two marks 895 apart\n");
+    set_threshold(900);
+    since = end_of_log();
+    check_as_set();
+    expect_told(since, DEALER, "dealt: squared Euclid, 128 elements, opens up to 900;");
+    expect_told(since, box, "loaded: squared Euclid, 128 elements, by a threshold\n");
+    draw_pair(DOOR_SCALAR);
+    since = end_of_log();
+    check_as_set();
+    expect_told(since, DEALER, "dealt: scalar product, 128 elements, opens from 900 on;");
 }
 
 static void switch_off_and_on(enum part part)
@@ -470,9 +623,12 @@ static void damaged_numbers(enum part part)
 }
 
 /* The settings are others than before: the set that was dealt ahead is of no use. */
-static void draw_other_threshold(void)
+static void draw_other_rule(void)
 {
-    settings.threshold += settings.threshold > 0 ? -1 : 1;
+    int32_t *first = settings.between ? &settings.p : &settings.threshold;
+    *first += *first > 0 ? -1 : 1;
+    if (settings.between && settings.q < settings.p)
+        settings.q = settings.p;
     write_settings_anew();
 }
 
@@ -480,7 +636,7 @@ void deal_and_leave(void)
 {
     const int64_t deadline = now_ns() + PATIENCE_NS;
     start_check(VECTORS);
-    draw_other_threshold();
+    draw_other_rule();
     send_deal();
     while (check.number == 0)
         pump_before(deadline);
@@ -506,12 +662,67 @@ static void refuses_half(enum part box, size_t cut_to, size_t changed, uint32_t 
     settle();
 }
 
+/* A half that no deal writes: its last block is missing. The box says what may be the cause. */
+static void refuses_shorter_half(enum part box)
+{
+    const size_t blocks_4 = 17; /* the least length with more than the fewest blocks */
+    const long since = end_of_log();
+    settings.terms.n = blocks_4;
+    draw_vector(CAMERA);
+    draw_vector(OFFICE);
+    const size_t size = DOOR_HALF(blocks_4);
+    refuses_half(box, size - DOOR_BLOCK, size - 1, DOOR_BAD_CONTENT);
+    expect_told(since, box, "the load was refused (11): the half is for another door or box, is "
+        "from another version");
+}
+
+/* Settings that no deal takes: nothing is dealt, and the dealer says why, and what to do. */
+static void refuses_settings(const char *text, uint32_t why, const char *words)
+{
+    char said[SAID_ROOM];
+    const int64_t deadline = now_ns() + PATIENCE_NS;
+    const uint64_t last = durable_last(DEALER);
+    const long since = end_of_log();
+    put_file("dealer/settings", text, strlen(text));
+    memset(&check, 0, sizeof check);
+    send_deal();
+    while (!check.failed)
+        pump_before(deadline);
+    settle();
+    hear_log(since, said);
+    EXPECT(check.why == why, "settings %s: refused by %" PRIu32, text, check.why);
+    EXPECT(strstr(said, words) != NULL, "settings %s: nobody says: %s; but: %s", text, words, said);
+    EXPECT(durable_last(DEALER) == last, "settings %s: a number is spent", text);
+}
+
+static void bad_settings(void)
+{
+    static const char three_or_four[] =
+        "dealer/settings has to have three or four whole numbers: measure code, length, and a "
+        "threshold or two marks";
+    static const char *const unread[] = {"", "1 128", "1 128 5 900 7", "1 128 5 x", "1 128 5 9.5",
+        "1 128 5 2147483648", "1 128 5, 900", "1 128 x 900"};
+    for (size_t i = 0; i < sizeof unread / sizeof *unread; i++)
+        refuses_settings(unread[i], DOOR_ACCEPTED, three_or_four);
+    static const char in_order[] =
+        "(13): the second mark is below the first, or they are too far apart: at most "
+        "2,147,483,647; no set was dealt: put dealer/settings right";
+    refuses_settings("1 128 900 899\n", DOOR_BAD_MARKS, in_order);
+    refuses_settings("0 128 -1073741824 1073741824\n", DOOR_BAD_MARKS, in_order);
+    refuses_settings("2 128 5 514\n", DOOR_OUT_OF_RANGE,
+        "(8): an element, the threshold or a mark is outside its measure's range");
+    lose_stock(DEALER); /* a set dealt ahead is given up where the settings are others */
+    write_settings_anew();
+    undisturbed_check(VECTORS);
+}
+
 static void damaged_halves(enum part box)
 {
     refuses_half(box, DOOR_HALF_MOST, 12 + chance(500), DOOR_BAD_BLOCK);
     refuses_half(box, DOOR_HALF_MOST, 8, DOOR_BAD_BLOCK); /* the block's place */
     refuses_half(box, 3 * DOOR_BLOCK - 1, 0, DOOR_WRONG_LENGTH);
     refuses_half(box, 0, 0, DOOR_WRONG_LENGTH);
+    refuses_shorter_half(box);
 }
 
 void refuses_spent_half(enum part box, uint64_t number)
@@ -665,8 +876,9 @@ static void refusals(void)
     check_behind_a_stuck_one(CAMERA);
     check_behind_a_stuck_one(OFFICE);
     refuses_sum();
+    bad_settings();
     operator_gives_up();
-    for (uint32_t why = DOOR_BAD_NAME; why <= DOOR_BAD_SUM; why++)
+    for (uint32_t why = DOOR_BAD_NAME; why <= DOOR_BAD_MARKS; why++)
         EXPECT(strcmp(refusal_words(why), refusal_words(why - 1)) != 0, "no words for %" PRIu32,
             why);
     settle();
@@ -698,6 +910,18 @@ static bool killed_enough(void)
     return enough;
 }
 
+/* Answers by one code: of both kinds, and just where they turn. */
+static void expect_enough_of(uint32_t code)
+{
+    EXPECT(tally.by_code[code].open >= 4 && tally.by_code[code].shut >= 2
+            && tally.by_code[code].just >= 2,
+        "code %" PRIu32 ": the answers are nearly all alike, or not just at the threshold", code);
+    for (enum place place = BELOW_P; place < PLACES; place++)
+        EXPECT(tally.by_code[code].beside[place] >= 4,
+            "code %" PRIu32 ": the measure was only %lu times at %s of two marks", code,
+            tally.by_code[code].beside[place], PLACE[place]);
+}
+
 static void expect_enough(void)
 {
     EXPECT(killed_enough(),
@@ -711,11 +935,22 @@ static void expect_enough(void)
         EXPECT(kills[part] >= 30, "the %s was killed only %lu times", PART[part].title,
             kills[part]);
     EXPECT(tally.answered >= 100, "only %lu checks were answered", tally.answered);
+    EXPECT(tally.to_marks >= CHANGES_OF_RULE && tally.to_threshold >= CHANGES_OF_RULE,
+        "from a threshold to marks only %lu times, and back %lu times", tally.to_marks,
+        tally.to_threshold);
     for (uint32_t code = DOOR_SCALAR; code <= DOOR_HAMMING; code++)
-        EXPECT(tally.by_code[code].open >= 4 && tally.by_code[code].shut >= 2
-                && tally.by_code[code].just >= 2,
-            "code %" PRIu32 ": the answers are nearly all alike, or not just at the threshold",
-            code);
+        expect_enough_of(code);
+}
+
+static void summary_of(uint32_t code)
+{
+    printf("%scode %" PRIu32 ": %lu open, %lu shut, %lu just at the threshold, %lu between two "
+           "marks",
+        code == DOOR_SCALAR ? " (" : "; ", code, tally.by_code[code].open,
+        tally.by_code[code].shut, tally.by_code[code].just, tally.by_code[code].between);
+    for (enum place place = BELOW_P; place < PLACES; place++)
+        printf("%s%lu at %s", place == BELOW_P ? ": " : ", ", tally.by_code[code].beside[place],
+            PLACE[place]);
 }
 
 static void summary(void)
@@ -723,9 +958,7 @@ static void summary(void)
     printf("c/host/test: passed: %lu checks begun, %lu answered, all right", begun,
         tally.answered);
     for (uint32_t code = DOOR_SCALAR; code <= DOOR_HAMMING; code++)
-        printf("%scode %" PRIu32 ": %lu open, %lu shut, %lu just at the threshold",
-            code == DOOR_SCALAR ? " (" : "; ", code, tally.by_code[code].open,
-            tally.by_code[code].shut, tally.by_code[code].just);
+        summary_of(code);
     printf("); %lu kills (dealer %lu, camera box %lu, office box %lu, lock %lu), %lu of them "
            "midway",
         killed(), kills[DEALER], kills[CAMERA], kills[OFFICE], kills[LOCK], killed_midway());
@@ -734,11 +967,12 @@ static void summary(void)
     printf("); asked again %lu times; %lu sets handed out, %lu messages seen, no number used "
            "twice\n",
         asked_again, tally.dealt, tally.messages);
-    printf("c/host/test: %lu sets dealt ahead: %lu handed out, %lu left unused by other settings; "
+    printf("c/host/test: from a threshold to two marks %lu times, and back %lu times; "
+           "%lu sets dealt ahead: %lu handed out, %lu left unused by other settings; "
            "killed with a set waiting: %lu boxes, loaded ahead and open: %lu boxes, dealt ahead: "
            "%lu dealers; %lu checks begun anew with another set\n",
-        tally.ahead, tally.taken, tally.unused, killed_waiting(),
-        kills_with[CAMERA][READY_AHEAD] + kills_with[OFFICE][READY_AHEAD],
+        tally.to_marks, tally.to_threshold, tally.ahead, tally.taken, tally.unused,
+        killed_waiting(), kills_with[CAMERA][READY_AHEAD] + kills_with[OFFICE][READY_AHEAD],
         kills_with[DEALER][READY_AHEAD], begun_anew);
     printf("c/host/test: upgrades cut short %lu times, %lu of them with a power cut; %lu between "
            "the first part's and the last one's; each was then finished\n",
@@ -800,12 +1034,54 @@ static void print_times(void)
         TURNS, at_once, at_once_without, quiet, quiet_without);
 }
 
+/* Each of these numbers as an argument of a set-up, which must say so, and make no folder. */
+static void refuses_setup(char *const numbers[], const char *words)
+{
+    char *arguments[10] = {"door-host", "setup", "refused", "Test door"}, said[SAID_ROOM];
+    for (size_t i = 0; numbers[i] != NULL; i++)
+        arguments[4 + i] = numbers[i];
+    EXPECT(run_and_hear(arguments, said) == EXIT_TROUBLE, "a set-up is taken: expected is: %s",
+        words);
+    EXPECT(strstr(said, words) != NULL, "a set-up does not say: %s; but: %s", words, said);
+    EXPECT(access("refused", F_OK) != 0, "a set-up that is refused leaves a folder");
+}
+
+static void setups_refused(void)
+{
+    static const char nothing[] = "two marks; nothing was set up";
+    refuses_setup((char *[]){"1", "128", NULL}, "usage: ");
+    refuses_setup((char *[]){"1", "128", "5", "900", "7", NULL}, "usage: ");
+    refuses_setup((char *[]){"1", "128", "5", "", NULL}, "usage: ");
+    refuses_setup((char *[]){"1", "128", "5", " ", NULL}, "usage: ");
+    refuses_setup((char *[]){"1", "128", "x", NULL}, nothing);
+    refuses_setup((char *[]){"1", "128", "5", "900x", NULL}, nothing);
+    refuses_setup((char *[]){"1", "128", "900", "5", NULL},
+        "was refused (13): the second mark is below the first");
+    refuses_setup((char *[]){"1", "128", "5", "-1", NULL}, "was refused (8): ");
+}
+
+/* A set-up with two marks writes them down; what the parts do with them, the checks tell. */
+static void sets_up_marks(void)
+{
+    char *const arguments[] = {
+        "door-host", "setup", "marks", "Test door", "1", "128", "5", "900", NULL};
+    static const char right[] = "1 128 5 900\n";
+    char found[PATH_ROOM];
+    size_t size;
+    EXPECT(run_to_end(arguments) == 0, "setup with two marks failed");
+    EXPECT(read_file("marks/dealer/settings", found, sizeof found, &size)
+            && size == strlen(right) && memcmp(found, right, size) == 0,
+        "setup writes other settings");
+}
+
 static void set_up_door(const char *folder)
 {
     char *const arguments[] = {"door-host", "setup", "door", "Test door", "0", "1", "0", NULL};
     EXPECT(chdir(folder) == 0, "cannot go to %s", folder);
     EXPECT(run_to_end(arguments) == 0, "setup failed");
     EXPECT(run_to_end(arguments) == EXIT_TROUBLE, "a second setup in one folder is taken");
+    setups_refused();
+    sets_up_marks();
     EXPECT(chdir("door") == 0, "cannot go to %s/door", folder);
     open_network();
     for (enum part part = CAMERA; part <= LOCK; part++)
@@ -839,6 +1115,8 @@ int main(int count, char **arguments)
     }
     refusals();
     versions();
+    told_in_words(CAMERA);
+    told_in_words(OFFICE);
     checks_at_the_turn();
     for (int i = 0; i < 10; i++)
         undisturbed_check(some_change());

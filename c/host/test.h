@@ -119,13 +119,19 @@ void settle(void);
 
 /* observe.c: what was seen, and whether it may be. */
 
+/* Where a measure may lie beside two marks. */
+enum place { BELOW_P, AT_P, AT_Q, ABOVE_Q, PLACES }; /* P - 1, P, Q, Q + 1 */
+
 struct tally {
     unsigned long messages, dealt, answered, failed;
     unsigned long ahead;  /* sets that were dealt ahead */
     unsigned long taken;  /* of these, handed out */
     unsigned long unused; /* and left unused since the settings had changed */
+    unsigned long to_marks, to_threshold; /* sets handed out behind one of the other rule */
     struct {
         unsigned long open, shut, just; /* just: the measure was the threshold itself */
+        unsigned long between;          /* two marks, and of these by place */
+        unsigned long beside[PLACES];
     } by_code[DOOR_HAMMING + 1];
 };
 
@@ -162,7 +168,7 @@ void put_half_back(enum part box, uint64_t number);
 int64_t measure(struct door_terms terms, const int32_t *x, const int32_t *y);
 
 /* Whether the lock has to open: a product has to reach the threshold, a distance must not be above
-   it. */
+   it; where there are two marks, the measure has to lie between them, or to be one of them. */
 bool has_to_open(const struct settings *s, const int32_t *x, const int32_t *y);
 
 uint64_t hash_of(const void *at, size_t size);
@@ -171,7 +177,7 @@ uint64_t hash_of(const void *at, size_t size);
 
 /* What changes from one check to the next. As long as the settings stay, a set that was dealt ahead
    is handed out. */
-enum change { NOTHING, VECTORS, THRESHOLD, CODE, ALL };
+enum change { NOTHING, VECTORS, RULE, CODE, ALL };
 
 void undisturbed_check(enum change change);
 

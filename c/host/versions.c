@@ -17,23 +17,20 @@
 #define HALVES (2 * DEALS) /* on each stick: each deal leaves the set that is asked for and the one
                               that is dealt ahead */
 #define MOMENTS_MOST 200   /* more than an upgrade has */
-#define CUTS 70            /* at the least */
-#define CUTS_BETWEEN 20    /* at the least, with this version at some parts and not at others */
+#define CUTS 100           /* at the least */
+#define CUTS_BETWEEN 30    /* at the least, with this version at some parts and not at others */
 
 /* What stands behind a part's last number. */
-#define VERSION_1 "" /* which left it out */
-#define VERSION_2 " 2"
-#define THIS_VERSION " 3"
-#define NEWER_VERSION " 4"
-#define NUMBERS 41   /* bytes before it */
-#define SIZE_OF_2 44 /* bytes of a file of version 2 */
+#define OLDER 3 /* versions */
+static const char *const OLDER_VERSION[OLDER] = {"", " 2", " 3"}; /* version 1 left it out */
+#define THIS_VERSION " 4"
+#define NEWER_VERSION " 5"
+#define NUMBERS 41 /* bytes before it */
 
-/* An older folder: which parts have version 2, a bit for each. The others have version 1, as where
-   an upgrade to version 2 was cut short. Every other one is meant in the order in which an upgrade
-   writes them: the dealer, the camera box, the office box, the lock. */
-#define ALL_1 0u
-#define ALL_2 15u
-#define EVERY_OTHER (1u << DEALER | 1u << OFFICE)
+/* An older folder, by its parts' versions: a digit to the base 3 for each part, from version 1 on.
+   Several versions are where an older upgrade was cut short. */
+#define ALL_OF(version) (40u * ((version) - 1)) /* 40 is 1111 */
+#define FOLDERS 81u
 
 struct upgrade_tally upgrade_tally;
 
@@ -148,7 +145,7 @@ static bool is_version_1_left(void)
 {
     uint64_t last;
     for (enum part part = CAMERA; part <= LOCK; part++)
-        if (has_version(part, VERSION_1, &last))
+        if (has_version(part, OLDER_VERSION[0], &last))
             return true;
     return false;
 }
@@ -171,7 +168,17 @@ static void put_halves_back(void)
 
 static const char *version_in(unsigned folder, enum part part)
 {
-    return (folder >> part & 1) != 0 ? VERSION_2 : VERSION_1;
+    for (enum part before = CAMERA; before < part; before++)
+        folder /= OLDER;
+    return OLDER_VERSION[folder % OLDER];
+}
+
+/* All three versions: parts that an upgrade writes one after the other have others. */
+static unsigned mixed_folder(unsigned turn)
+{
+    static const unsigned place[LOCK + 1] = {[CAMERA] = 1, [OFFICE] = 3, [DEALER] = 9, [LOCK] = 27};
+    return turn % OLDER * place[DEALER] + (turn + 1) % OLDER * place[CAMERA]
+        + (turn + 2) % OLDER * place[OFFICE] + turn % OLDER * place[LOCK];
 }
 
 /* All parts are down. Whatever an upgrade has left is as if it had not been, the marks of what was
@@ -187,7 +194,7 @@ static void make_older(unsigned folder)
 /* All parts have this version, and the numbers of the older folder. */
 static void make_this_version(void)
 {
-    make_older(ALL_2);
+    make_older(ALL_OF(3));
     for (enum part part = CAMERA; part <= LOCK; part++)
         put_version(part, THIS_VERSION);
 }
@@ -245,14 +252,14 @@ static void other_version(enum part part, const char *text, const char *words)
 
 static void other_versions(enum part part)
 {
-    static const char *const lower[] = {VERSION_1, VERSION_2, " 0"};
     static const char *const higher[] = {NEWER_VERSION, " 12", " 18446744073709551615"};
-    static const char *const damaged[] = {" ", " 1", " 02", "  2", " 2 ", " 2\n3", "3", " 03",
-        "  3", " 3 ", " +3", " -3", " 3\n", " 3\n3", " 3\r", " 3.0", " three",
-        " 18446744073709551619", " 3                                        "};
-    make_older(ALL_2);
-    for (size_t i = 0; i < sizeof lower / sizeof *lower; i++)
-        other_version(part, lower[i], ASKS_FOR_UPGRADE);
+    static const char *const damaged[] = {" ", " 1", " 02", "  2", " 3 ", " 3\n4", "4", " 04",
+        "  4", " 4 ", " +4", " -4", " 4\n", " 4\n4", " 4\r", " 4.0", " four",
+        " 18446744073709551620", " 4                                        "};
+    make_older(ALL_OF(3));
+    other_version(part, " 0", ASKS_FOR_UPGRADE);
+    for (size_t i = 0; i < OLDER; i++)
+        other_version(part, OLDER_VERSION[i], ASKS_FOR_UPGRADE);
     for (size_t i = 0; i < sizeof higher / sizeof *higher; i++)
         other_version(part, higher[i], USE_NEWER);
     for (size_t i = 0; i < sizeof damaged / sizeof *damaged; i++)
@@ -262,9 +269,8 @@ static void other_versions(enum part part)
 /* One part is newer among older ones. */
 static void not_with_newer_part(enum part part)
 {
-    static const unsigned folders[] = {ALL_1, ALL_2};
-    for (size_t i = 0; i < sizeof folders / sizeof *folders; i++) {
-        make_older(folders[i]);
+    for (unsigned version = 1; version <= OLDER; version++) {
+        make_older(ALL_OF(version));
         put_version(part, NEWER_VERSION);
         expect_trouble("upgrade", USE_NEWER);
     }
@@ -273,7 +279,7 @@ static void not_with_newer_part(enum part part)
 /* One part runs, which was started before its folder was an older one. */
 static void not_while_running(enum part part)
 {
-    const unsigned folder = part % 2 == 0 ? ALL_1 : ALL_2;
+    const unsigned folder = ALL_OF(1 + part % OLDER);
     make_older(folder);
     put_version(part, THIS_VERSION);
     start_child(part);
@@ -286,9 +292,9 @@ static void not_while_running(enum part part)
 static void not_with_damaged_last(enum part part)
 {
     char path[PATH_ROOM];
-    make_older(ALL_2);
+    make_older(ALL_OF(3));
     path_of(path, part, "last");
-    put_last(part, older.last[part], VERSION_2, chance(SIZE_OF_2));
+    put_last(part, older.last[part], OLDER_VERSION[2], chance(NUMBERS + strlen(OLDER_VERSION[2])));
     expect_trouble("upgrade", "/last is torn or damaged");
     EXPECT(unlink(path) == 0, "cannot remove %s", path);
     expect_trouble("upgrade", "/last: No such file");
@@ -298,10 +304,9 @@ static void not_with_damaged_last(enum part part)
    lower the other one, whatever version that part has: all four are written. */
 static void not_with_dealer_behind(enum part part)
 {
-    static const char *const versions[] = {VERSION_1, VERSION_2, THIS_VERSION};
-    for (size_t i = 0; i < sizeof versions / sizeof *versions; i++) {
-        make_older(ALL_2);
-        put_last(part, older.dealt + 1, versions[i], SIZE_MAX);
+    for (size_t i = 0; i <= OLDER; i++) {
+        make_older(ALL_OF(3));
+        put_last(part, older.dealt + 1, i < OLDER ? OLDER_VERSION[i] : THIS_VERSION, SIZE_MAX);
         expect_trouble("upgrade", "is above the dealer's");
     }
 }
@@ -351,7 +356,7 @@ static void not_of_two_doors(enum part part)
     other.bytes[chance(right.size)] ^= 1;
     shorter.size--;
     longer.bytes[longer.size++] = 's';
-    make_older(ALL_2);
+    make_older(ALL_OF(3));
     not_with_name(part, &other, &right);
     not_with_name(part, &shorter, &right);
     not_with_name(part, &longer, &right);
@@ -473,7 +478,7 @@ static void expect_already(void)
 /* Not even the halves on the sticks: in a folder of this version they are good ones. */
 static void changes_nothing_twice(void)
 {
-    make_older(ALL_1);
+    make_older(ALL_OF(1));
     upgrade_to_end(older.dealt);
     put_halves_back();
     const uint64_t before = hash_of_all(is_state);
@@ -481,10 +486,10 @@ static void changes_nothing_twice(void)
     EXPECT(hash_of_all(is_state) == before, "a second upgrade has changed something");
 }
 
-/* With version 1 and version 2 at the parts in every way. */
+/* With all older versions at the parts in every way. */
 static void from_each_folder(void)
 {
-    for (unsigned folder = ALL_1; folder <= ALL_2; folder++) {
+    for (unsigned folder = 0; folder < FOLDERS; folder++) {
         make_older(folder);
         upgrade_to_end(older.dealt);
     }
@@ -494,9 +499,9 @@ static void from_each_folder(void)
    that, but folders that were brought together by hand may. */
 static void dealt_on(enum part part)
 {
-    make_older(ALL_2);
+    make_older(ALL_OF(3));
     put_last(part, older.dealt, THIS_VERSION, SIZE_MAX);
-    put_last(DEALER, older.dealt + 1, VERSION_2, SIZE_MAX);
+    put_last(DEALER, older.dealt + 1, OLDER_VERSION[2], SIZE_MAX);
     upgrade_to_end(older.dealt + 1);
 }
 
@@ -520,15 +525,14 @@ static bool cut_upgrade(const char *moment, unsigned at, bool power_fails)
     return true;
 }
 
-/* At every step in turn, from version 1 and from version 2 by turns. Where the power fails it is
-   the other one, so that each step is cut from both. Then each part starts or does not, and a
-   second run finishes the job. */
-static void cut_at_steps(bool power_fails)
+/* At every step, in each turn from another of the older versions, and with the power failing in
+   every other turn. Then each part starts or does not, and a second run finishes the job. */
+static void cut_at_steps(unsigned turn)
 {
     bool was_cut = true;
     for (unsigned step = 1; was_cut; step++) {
-        make_older((step + power_fails) % 2 == 0 ? ALL_1 : ALL_2);
-        was_cut = cut_upgrade(BEFORE_STEP, step, power_fails);
+        make_older(ALL_OF(1 + (step + turn) % OLDER));
+        was_cut = cut_upgrade(BEFORE_STEP, step, (step + turn) % 2 == 0);
         for (enum part part = CAMERA; was_cut && part <= LOCK; part++)
             start_or_not(part);
         if (was_cut)
@@ -542,7 +546,7 @@ static void killed_after_renames(void)
 {
     bool was_cut = true;
     for (unsigned at = 1; was_cut; at++) {
-        make_older(at % 2 == 0 ? ALL_1 : ALL_2);
+        make_older(ALL_OF(1 + at % OLDER));
         was_cut = cut_upgrade(AFTER_RENAME, at, false);
         if (was_cut)
             upgrade_to_end(older.dealt);
@@ -553,7 +557,7 @@ static void killed_after_renames(void)
    cut. */
 static void already_outlasts_power(void)
 {
-    make_older(ALL_2);
+    make_older(ALL_OF(3));
     EXPECT(cut_upgrade(AFTER_RENAME, LOCK + 1, false) && inspect_versions() == LOCK + 1,
         "an upgrade puts its last file somewhere else");
     expect_already();
@@ -564,13 +568,13 @@ static void already_outlasts_power(void)
 
 /* After a first run that was killed when it had put a file in its place, so that the file is there
    and not forced to disk: a second run is cut short too, at every such moment, and with it goes the
-   power. Each second run finds all three versions, as long as two parts are older. Whether there
-   was a first one. */
+   power. Behind the dealer alone, each second run finds all four versions. Whether there was a
+   first one. */
 static bool cut_twice(unsigned first)
 {
     bool was_cut = false;
     for (unsigned second = 1; second == 1 || was_cut; second++) {
-        make_older(second % 2 == 0 ? EVERY_OTHER : ALL_2 - EVERY_OTHER);
+        make_older(mixed_folder(second));
         if (!cut_upgrade(AFTER_RENAME, first, false))
             return false;
         was_cut = cut_upgrade(AFTER_RENAME, second, true);
@@ -615,8 +619,8 @@ void versions(void)
     }
     changes_nothing_twice();
     from_each_folder();
-    cut_at_steps(false);
-    cut_at_steps(true);
+    for (unsigned turn = 0; turn < OLDER; turn++)
+        cut_at_steps(turn);
     killed_after_renames();
     already_outlasts_power();
     for (unsigned first = 1; cut_twice(first);)
@@ -627,7 +631,7 @@ void versions(void)
     EXPECT(upgrade_tally.cuts >= CUTS && upgrade_tally.between >= CUTS_BETWEEN,
         "upgrades were cut short only %lu times, %lu between the versions", upgrade_tally.cuts,
         upgrade_tally.between);
-    make_older(ALL_2);
+    make_older(ALL_OF(3));
     upgrade_to_end(older.dealt);
     start_again();
 }

@@ -23,7 +23,7 @@ static const struct content CONTENTS[] = {
     {DOOR_WORD, 1, 1, "word"},
     {DOOR_ANSWER, 1, 1, "answer"},
     {HOST_DEAL, 0, 0, "deal"},
-    {HOST_DEALT, 3, 3, "dealt"},
+    {HOST_DEALT, 3, 4, "dealt"},
     {HOST_BEGIN, 0, DOOR_LENGTH_MOST, "begin"},
     {HOST_VERDICT, 1, 1, "verdict"},
     {HOST_FAILED, 1, 1, "failed"},

@@ -23,7 +23,8 @@
 /* Kinds beside those of door.h: between the operator, the dealer and the other parts. */
 enum host_kind {
     HOST_DEAL = 16,    /* to the dealer: deal a set */
-    HOST_DEALT = 17,   /* its answer: the halves are on the sticks; code, length, threshold */
+    HOST_DEALT = 17,   /* its answer: the halves are on the sticks; code, length, and the
+                          threshold or both marks */
     HOST_BEGIN = 18,   /* to a box: begin with this set; to the camera box with its vector */
     HOST_VERDICT = 19, /* from the lock: 1 open, 0 stay shut */
     HOST_FAILED = 20,  /* to the operator: this set came to nothing; the refusal, or 0 */
