@@ -66,7 +66,7 @@ module _ (i : ℕ) (level : i < 32) (seed : List ℕ) (long : Words 8 seed) (sid
       let k : D.Child (List ℕ) = opened i seed side in
       (bytesOf (k .seed) ≡ take 32 b) × (wordAt b 32 ≡ k .word) × (odd (getD b 36 0) ≡ k .flag))
   unfolding node openedBlock
-  opened-bytes = rw (sym rfc-block) (in-bytes i seed side (long .0))
+  opened-bytes = rw (sym rfc-block) (in-bytes i seed side (long .long))
 
 -- ---- "Key making and key walking both follow"
 
