@@ -1,10 +1,12 @@
 //! The calls that are timed, accepted and refused: one list for all that looks at them.
 
 use crate::calls::{Calls, Said, Second, States, Step};
-use crate::door::{label, Door, Known, Parts, Sent, FLOOR, FULL, NUMBER, OTHER, PARTY, THRESHOLD};
+use crate::door::{label, Door, Known, Parts, Sent, FLOOR, FULL, MARKS, NUMBER, OTHER, PARTY};
+use crate::door::THRESHOLD;
 use crate::foreign::ours::Ours;
 use crate::measure::{row, way, Row, Way};
 use second::message::{Label, MASKED_VECTOR, WORD};
+use second::rule::Rule;
 
 pub struct Case {
     pub name: &'static str,
@@ -16,7 +18,7 @@ pub struct Case {
 #[derive(Clone, Copy)]
 enum Call {
     Deal {
-        threshold: u32,
+        rule: Rule,
     },
     /// A call on the timed box after so many of a check's four, or with a set waiting (`FULL`).
     Box {
@@ -33,8 +35,8 @@ enum Call {
 /// A masked vector would go to the words.
 type MakeStep = for<'a> fn(&'a Known, &'a mut [u32]) -> Step<'a>;
 
-const fn deal(name: &'static str, why: u32, threshold: u32) -> Case {
-    let call = Call::Deal { threshold };
+const fn deal(name: &'static str, why: u32, rule: Rule) -> Case {
+    let call = Call::Deal { rule };
     Case { name, why, call }
 }
 
@@ -69,8 +71,9 @@ pub const COPY_STATE: Case = Case {
 };
 
 /// The calls of a check, in their order.
-pub const ACCEPTED: [Case; 9] = [
+pub const ACCEPTED: [Case; 10] = [
     deal("deal", 0, THRESHOLD),
+    deal("deal between two marks", 0, MARKS),
     on_box("load", 0, 0, |known, out| known.step(0, out)),
     on_box("load ahead", 0, 1, |known, _| Step::Load(&known.ahead)),
     on_box("mask", 0, 1, |known, out| known.step(1, out)),
@@ -82,8 +85,9 @@ pub const ACCEPTED: [Case; 9] = [
 ];
 
 /// A refusal of each call, where it can be had one that comes late among its tests.
-pub const REFUSED: [Case; 9] = [
-    deal("deal, threshold out of range", 8, 1 << 31),
+pub const REFUSED: [Case; 10] = [
+    deal("deal, threshold out of range", 8, Rule::Threshold(i32::MIN)),
+    deal("deal, marks out of order", 13, Rule::Between(1, 0)),
     on_box("load, a set waits", 3, FULL, |known, _| {
         Step::Load(&known.ahead)
     }),
@@ -168,9 +172,9 @@ impl Call {
     fn run<C: Calls>(self, who: C, known: &Known, parts: &Parts<C>, left: &mut Left) -> Said {
         let (sent, states) = (&mut left.sent, &mut left.states);
         match self {
-            Call::Deal { threshold } => {
+            Call::Deal { rule } => {
                 let [half0, half1] = &mut sent.halves;
-                let order = known.input.order(threshold);
+                let order = known.input.order(rule);
                 let why = who.deal(&parts.dealer, &order, [half0, half1]);
                 Said { why, word: 0 }
             }

@@ -5,6 +5,7 @@ use crate::foreign::ours::{ComparisonKey, Ours, Word};
 use crate::measure::{row, way, Row, Who};
 use second::dcf::{self, Seed};
 use second::measure::Measure;
+use second::rule::Rule;
 use second::sample::Source;
 use second::share::{self, Half};
 
@@ -32,7 +33,7 @@ impl Check {
         let vectors = [(); 2].map(|()| source.vector(measure, length));
         let draws = source.draws(length);
         let (seeds, point) = (draws.seeds, draws.r);
-        let halves = share::deal(measure, 1000, &draws);
+        let halves = share::deal(measure, Rule::Threshold(1000), &draws);
         let run = share::run(&halves, &vectors[0], &vectors[1]);
         let [_, half] = halves;
         let [_, numbers] = vectors;

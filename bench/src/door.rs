@@ -8,6 +8,7 @@ use second::dealer::Order;
 use second::lock::Answer;
 use second::measure::Measure;
 use second::message::{Label, ANSWER, MASKED_VECTOR, WORD};
+use second::rule::Rule;
 use second::sample::Source;
 use second::sealed::BLOCK_BYTES;
 use std::hint::black_box;
@@ -51,11 +52,11 @@ impl Input {
         black_box(input)
     }
 
-    pub fn order(&self, threshold: u32) -> Order<'_> {
+    pub fn order(&self, rule: Rule) -> Order<'_> {
         Order {
             code: self.measure.code().into(),
             length: self.length as u64,
-            threshold,
+            rule,
             number: NUMBER,
             seed: &self.seed,
         }
@@ -175,7 +176,8 @@ fn check<C: Calls>(
 }
 
 /// In the range of every measure.
-pub const THRESHOLD: u32 = 500;
+pub const THRESHOLD: Rule = Rule::Threshold(500);
+pub const MARKS: Rule = Rule::Between(500, 510);
 
 /// All that a call may be handed: the messages of a good check, and some that are refused.
 pub struct Known {

@@ -158,6 +158,19 @@ pub mod ours {
             out1: *mut u8,
             out1_len: usize,
         ) -> DealerAnswer;
+        fn door_deal_between(
+            dealer: Dealer,
+            number: u64,
+            seed: *const u8,
+            seed_len: usize,
+            terms: Terms,
+            p: u32,
+            q: u32,
+            out0: *mut u8,
+            out0_len: usize,
+            out1: *mut u8,
+            out1_len: usize,
+        ) -> DealerAnswer;
         fn door_start_party(
             name: *const u8,
             name_len: usize,
@@ -339,6 +352,7 @@ pub mod door {
     use second::lock::Answer;
     use second::message::Label;
     use second::opened::OpenedSet;
+    use second::rule::Rule;
     use second::{dcf, party};
     use std::mem::MaybeUninit;
 
@@ -351,7 +365,7 @@ pub mod door {
         key: Key,
     }
 
-    /// What both boxes know of a set, as crates/measure_table has it.
+    /// What a set's measure is of, as crates/measure_table has it.
     #[repr(C)]
     #[derive(Clone, Copy, PartialEq)]
     pub struct Terms {
@@ -388,6 +402,8 @@ pub mod door {
         r: u32,
         seed: dcf::Seed,
         key: ComparisonKey,
+        width: u32,
+        mark: u32,
     }
 
     impl Set {
@@ -404,6 +420,8 @@ pub mod door {
                 r: self.r,
                 seed: self.seed,
                 key: self.key.plain(),
+                width: self.width,
+                mark: self.mark,
             }
         }
     }
@@ -491,21 +509,19 @@ pub mod door {
                 code: order.code as u32,
                 n: order.length as usize,
             };
-            let (seed, seed_len) = (order.seed.as_ptr(), order.seed.len());
-            let [(out0, out0_len), (out1, out1_len)] = out.map(|out| (out.as_mut_ptr(), out.len()));
-            let answer = unsafe {
-                (self.functions.door_deal)(
-                    *dealer,
-                    order.number,
-                    seed,
-                    seed_len,
-                    terms,
-                    order.threshold,
-                    out0,
-                    out0_len,
-                    out1,
-                    out1_len,
-                )
+            let (seed, len) = (order.seed.as_ptr(), order.seed.len());
+            let [(out0, len0), (out1, len1)] = out.map(|out| (out.as_mut_ptr(), out.len()));
+            let answer = match order.rule {
+                Rule::Threshold(t) => unsafe {
+                    let deal = self.functions.door_deal;
+                    let (number, t) = (order.number, t as u32);
+                    deal(*dealer, number, seed, len, terms, t, out0, len0, out1, len1)
+                },
+                Rule::Between(p, q) => unsafe {
+                    let deal = self.functions.door_deal_between;
+                    let (number, p, q) = (order.number, p as u32, q as u32);
+                    deal(*dealer, number, seed, len, terms, p, q, out0, len0, out1, len1)
+                },
             };
             answer.why
         }

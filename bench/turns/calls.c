@@ -46,6 +46,14 @@ static uint32_t deal(uint64_t number, uint8_t half[2][DOOR_HALF_MOST])
         .why;
 }
 
+/* It leaves the halves where those of a deal by a threshold stand: only how long it takes counts. */
+static uint32_t deal_between(uint64_t number, uint8_t half[2][DOOR_HALF_MOST])
+{
+    return door_deal_between(at->dealer, number, SEED, DOOR_KEY, at->terms, THRESHOLD, THRESHOLD,
+        half[0], DOOR_HALF_MOST, half[1], DOOR_HALF_MOST)
+        .why;
+}
+
 static struct door_party_answer load(const struct door_party *box, const uint8_t *half)
 {
     return door_load(*box, half, DOOR_HALF(at->terms.n));
@@ -109,6 +117,7 @@ static void check(void)
 
 /* Those of a box are the office box's. */
 static void make_deal(void) { heard = deal(NUMBER, at->half); }
+static void make_deal_between(void) { heard = deal_between(NUMBER, at->half); }
 static void make_load(void) { heard = load(&at->idle[1], at->half[1]).why; }
 static void make_load_ahead(void) { heard = load(&at->loaded[1], at->next_half[1]).why; }
 static void make_mask(void) { heard = mask(1).why; }
@@ -128,6 +137,7 @@ static void prepare(size_t n)
         for (size_t i = 0; i < n; i++)
             at->vector[party][i] = (uint32_t)(i % (5 + 2 * party));
     }
+    expect(deal_between(NUMBER, at->half), "deal between");
     expect(deal(NEXT, at->next_half), "deal");
     check();
     expect(load(&at->loaded[1], at->next_half[1]).why, "load ahead");
@@ -148,6 +158,7 @@ struct calls calls_for(size_t n, void *room, size_t room_size)
 {
     static const struct call list[] = {
         {"deal", make_deal},
+        {"deal between", make_deal_between},
         {"load", make_load},
         {"load ahead", make_load_ahead},
         {"mask", make_mask},
