@@ -27,8 +27,8 @@
  * with it. While a set waits, `last` is the waiting set's number: do not send under `last`.
  *
  * Older sets. Every set that an older version of this library dealt must be scrapped, of every
- * code. door_load refuses an older half by 11, always, and so does an older box with a new half:
- * where a box or the dealer alone is older, nobody is let in. But where the dealer and both boxes
+ * code. door_load takes no older half: it is refused by 11, if by no earlier test. So is a new half
+ * at an older box: where a box or the dealer alone is older, nobody is let in. But where the dealer and both boxes
  * are older and the lock alone is new, no call can tell. door_join then reports, by the older rule:
  * for distances that may be the other way about. So change all four parts together:
  *
@@ -113,17 +113,18 @@ enum door_refusal {
        above the last one (deal, load, join) or the open one (load), or differs between two joined
        answers. */
     DOOR_WRONG_NUMBER = 7,
-    /* An element, a threshold or a mark is outside its measure's range. */
+    /* An element, a threshold, P or Q is outside its measure's range. */
     DOOR_OUT_OF_RANGE = 8,
     /* The dealer starts with two equal keys. */
     DOOR_EQUAL_KEYS = 9,
     /* A block is not in its place, is of another set number, or its tag doesn't fit. */
     DOOR_BAD_BLOCK = 10,
     /* A half of another door or party, with a code, an L or a flag byte out of range, with a mark
-       above 1, a width above DOOR_WIDTH_MOST or another one under mark 0, with a block count that
-       doesn't fit L, or with a fill that is not zero. So every half of an older version. */
+       byte above 1, a width above DOOR_WIDTH_MOST or another one under mark byte 0, with a block
+       count that doesn't fit L, or with a fill that is not zero. So every half of an older version. */
     DOOR_BAD_CONTENT = 11,
-    /* The joined sum is not 0 or 1. Dealer and boxes may be of several older versions. */
+    /* The joined sum is not 0 or 1. A possible cause: dealer and boxes are of different older
+       versions. */
     DOOR_BAD_SUM = 12,
     /* The second mark is below the first, or more than DOOR_WIDTH_MOST above it: that is P = -2^30
        with Q = 2^30, and no other two marks of a measure's range. */
@@ -194,7 +195,7 @@ struct door_set {
     uint32_t seed[8];
     struct door_key key;
     uint32_t width; /* between two marks: Q - P; with a threshold: DOOR_WIDTH_MOST */
-    uint32_t mark;  /* between two marks: 1; with a threshold: 0 */
+    uint32_t mark;  /* the mark byte: 1 between two marks, 0 with a threshold */
 };
 
 struct door_dealer {

@@ -258,7 +258,7 @@ pub fn accepted(timings: &[Timing]) -> Vec<Table> {
     let notes = [
         "whole check: the deal, four calls of each box, the join; scalar product where nothing is \
          said",
-        "a box's state of 17,120 bytes goes in and comes out by value: these copies are in ours, \
+        "a box's state of 17,136 bytes goes in and comes out by value: these copies are in ours, \
          and in a whole check also the one by which a host puts the next state in the place of the \
          last",
         "the second implementation works in place, on a copy of the state, which is in the time of \

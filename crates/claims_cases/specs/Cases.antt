@@ -119,7 +119,7 @@ table =
     ∷ gated ordinaryWidth (2 ^ 31) (negℤ (pos (2 ^ 31))) 0 0
     -- 02, §4: the squared distance 82 from 82 to 82, from 83 to 84 and from 80 to 81; the product -14 from -14 to -13,
     -- from -15 to -14, from -15 to -13 and from -16 to -15; two equal vectors of bits from 1 to 513, and from 0 to 0
-    -- [SPEC 30.23]
+    -- [SPEC 30.23 to 30.25]
     ∷ between 1 (pos 3 ∷ negℤ (pos 4) ∷ []) (pos 2 ∷ pos 5 ∷ []) (pos 82) (pos 82) true
     ∷ between 1 (pos 3 ∷ negℤ (pos 4) ∷ []) (pos 2 ∷ pos 5 ∷ []) (pos 83) (pos 84) false
     ∷ between 1 (pos 3 ∷ negℤ (pos 4) ∷ []) (pos 2 ∷ pos 5 ∷ []) (pos 80) (pos 81) false
@@ -129,17 +129,18 @@ table =
     ∷ between 0 (pos 3 ∷ negℤ (pos 4) ∷ []) (pos 2 ∷ pos 5 ∷ []) (negℤ (pos 16)) (negℤ (pos 15)) false
     ∷ between 2 (pos 1 ∷ pos 0 ∷ pos 1 ∷ pos 1 ∷ []) (pos 1 ∷ pos 0 ∷ pos 1 ∷ pos 1 ∷ []) (pos 1) (pos 513) false
     ∷ between 2 (pos 1 ∷ pos 0 ∷ pos 1 ∷ pos 1 ∷ []) (pos 1 ∷ pos 0 ∷ pos 1 ∷ pos 1 ∷ []) (pos 0) (pos 0) true
-    -- the gate at widths 0 and 5: differences 0 and 5 are inside, 1, 6 and -1 outside, also where Z wraps [SPEC 30.24]
+    -- the gate at widths 0 and 5: differences 0 and 5 are inside, 1, 6 and -1 outside, also where Z wraps
+    -- [SPEC 30.26 to 30.28]
     ∷ gated 0 0 (pos 0) 0 1
     ∷ gated 0 0 (pos 1) 1 0
     ∷ gated 5 (2 ^ 32 - 1) (pos 5) 4 1
     ∷ gated 5 (2 ^ 32 - 1) (pos 6) 5 0
     ∷ gated 5 0 (negℤ (pos 1)) (2 ^ 32 - 1) 0
-    -- 8 of two marks under Hamming: 0 and 513; -1 and 513; 0 and 514 [SPEC 30.25]
+    -- 8 of two marks under Hamming: 0 and 513; -1 and 513; 0 and 514 [SPEC 30.29]
     ∷ ranged 2 (pos 0) (pos 513) true
     ∷ ranged 2 (negℤ (pos 1)) (pos 513) false
     ∷ ranged 2 (pos 0) (pos 514) false
-    -- 13: 5 and 5; 5 and 4; -2^30 and 2^30; -2^30 and 2^30 - 1 [SPEC 30.26]
+    -- 13: 5 and 5; 5 and 4; -2^30 and 2^30; -2^30 and 2^30 - 1 [SPEC 30.30]
     ∷ ordered (pos 5) (pos 5) true
     ∷ ordered (pos 5) (pos 4) false
     ∷ ordered (negℤ (pos (2 ^ 30))) (pos (2 ^ 30)) false

@@ -65,7 +65,7 @@ pub record Deal : Type 0 where
 abbrev pub dealFrom : ℕ → List ℕ → Terms → Rule → Deal
 dealFrom number seed terms rule = record { number = number; seed = seed; terms = terms; rule = rule }
 
--- r0 at party 0, r1 at party 1, from the words that were drawn: T is in no other word, and P in the width alone
+-- r0 at party 0, r1 at party 1, from the words that were drawn: T is in no other word; P is in the width too
 -- [SPEC 5.8, 5.9, 5.13]
 unfoldable pub rOf : Deal → List ℕ → ℕ → ℕ
 rOf d w party =

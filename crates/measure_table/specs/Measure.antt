@@ -106,7 +106,7 @@ measure terms x y = own terms x +ℤ own terms y +ℤ row (terms .code) .k *ℤ 
 unfoldable pub sign : Terms → ℕ → ℤ
 sign terms mark = cond (eqb mark ordinaryMark) (row (terms .code) .sign) (pos 1)
 
--- what the two boxes open, less r: measure - T, and T - measure where the sign is -1. Terms, mark, measure, T
+-- what the two boxes open, less r: measure - T, and T - measure where the sign is -1. Terms, mark, measure, T or P
 -- [SPEC 17.6]
 unfoldable pub difference : Terms → ℕ → ℤ → ℤ → ℤ
 difference terms mark m t = sign terms mark *ℤ (m -ℤ t)

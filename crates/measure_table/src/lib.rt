@@ -46,7 +46,7 @@ const MINUS_2_30: u32 = 3221225472;
 
 // A row of the table. `squares`: own is the sum of squares, else 0. An element lies from `low` to
 // `high`, a threshold from `least` to `most`. A vector has at most `longest` elements. `sign`: 1 where
-// an ordinary set opens measure - T, less r, and -1 where it opens T - measure.
+// what an ordinary set opens, less r, is measure - T, and -1 where that is T - measure.
 pub struct Row {
     pub squares: bool,
     pub k: u32,

@@ -28,7 +28,7 @@ inner n a b = sum (λ i. mul (getD a i 0) (getD b i 0)) n
 unfoldable pub otherC : ℕ → List ℕ → List ℕ → ℕ → ℕ
 otherC n maskX maskY c0 = sub (inner n maskX maskY) c0
 
--- "r1 = r - T - r0", and with sign -1 "r1 = r + T - r0". Terms, mark, r, T, r0 [SPEC 5.8]
+-- "r1 = r - T - r0", and with sign -1 "r1 = r + T - r0". Terms, mark, r, T or P, r0 [SPEC 5.8]
 unfoldable pub otherR : Terms → ℕ → ℕ → ℕ → ℕ → ℕ
 otherR terms mark r t r0 = sub (sub r (mul (signWord terms mark) t)) r0
 
