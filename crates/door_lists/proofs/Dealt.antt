@@ -84,7 +84,7 @@ module _ (d : Deal) (v : Box → List ℕ) where
       (ownWord (d .terms) (v b)) (s .r)
 
   -- a box's word with this share
-  with-share : Box → ℕ → ℕ
+  abbrev with-share : Box → ℕ → ℕ
   with-share b k = Share.boxWord (d .terms) (setOf d b .mark) k (ownWord (d .terms) (v b)) (setOf d b .r)
 
   word-is : (b : Box) → wordBy d v b ≡ plain b
