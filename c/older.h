@@ -1,8 +1,8 @@
 /*
- * Sets that older versions dealt, for test.c, which loads them, and for the second implementation,
- * which deals them again. The boxes' keys and the seed are 32 bytes each, which count up from the
- * first ones below. The first set is what door_deal of landing 13 wrote, for the door "Hut 4",
- * DOOR_SCALAR and L = 1. Each node of its comparison key was opened under a nonce of zeros.
+ * Two sets that older versions dealt, for test.c, which loads them, and for the second
+ * implementation, which deals them again. Both are for the door "Hut 4" and have the number
+ * OLDER_NUMBER and the threshold OLDER_T. The boxes' keys and the seed are 32 bytes each, which
+ * count up from the first ones below.
  */
 #define OLDER_NUMBER 41
 #define OLDER_T 6
@@ -10,7 +10,8 @@
 #define OLDER_KEY1 32
 #define OLDER_SEED 64
 
-/* In hex: the camera box's half and the office box's, 3 blocks each. */
+/* What door_deal of landing 13 wrote, for DOOR_SCALAR and L = 1. Each node of its comparison key was
+   opened under a nonce of zeros. In hex: the camera box's half and the office box's, 3 blocks each. */
 static const char *const OLDER_HALF[2] = {
     "290000000000000000000000eaf111b9410db0701f4d546928a94c257e2725c69cd9f74da283c50196517b0bc55b3596"
     "2ed6ccd0bc3d03af23f91529b320b1c28c2f54de24f993521e8afda398e24649490d6c67452fc8cab78fc0c92521f0db"
@@ -79,7 +80,7 @@ static const char *const OLDER_HALF[2] = {
     "8440f4508dbd7af98eca03dc5588d8c6e2abe74732b639403ef3d068eaa4e055f62e22b168bb619cf14bc9fa71d21601",
 };
 
-/* What door_deal of landing 14 wrote, for the same door, DOOR_EUCLID and L = 17. That was the last
+/* What door_deal of landing 14 wrote, for DOOR_EUCLID and L = 17, as many blocks. That was the last
    version without width and mark: a half of this one has one block more. */
 static const char *const LATER_HALF[2] = {
     "290000000000000000000000eaf111b9410db0701f4d546928a94c257e2635c6b086ec6f0b39ec2dfaa3a562aadb166e"

@@ -536,23 +536,42 @@ static void around_the_turn(struct door *d, uint64_t *number, struct check *k)
         }
 }
 
-/* At P - 1, P, Q and Q + 1, with marks that are equal, side by side, or far apart. */
-static void around_the_marks(struct door *d, uint64_t *number, struct check *k)
+/* Where a measure lies around its marks: P - 1, P, Q and Q + 1. */
+enum place { BELOW_P, AT_P, AT_Q, ABOVE_Q, PLACES };
+
+/* How many checks there were at each place, with equal marks and with marks apart. */
+struct around {
+    long checks[2][PLACES];
+};
+
+/* At each place, with marks that are equal, side by side, or far apart, as far as these may be
+   dealt. */
+static void around_the_marks(
+    struct door *d, uint64_t *number, struct check *k, struct around *counted)
 {
     const long found = measure(k), widths[] = {0, 1, 2 + draw() % 1000, PRODUCT_END - 1};
     k->between = true;
     for (size_t i = 0; i < sizeof widths / sizeof *widths; i++) {
-        const long above_p[] = {-1, 0, widths[i], widths[i] + 1};
-        for (size_t place = 0; place < sizeof above_p / sizeof *above_p; place++) {
+        const long above_p[PLACES] = {
+            [BELOW_P] = -1, [AT_P] = 0, [AT_Q] = widths[i], [ABOVE_Q] = widths[i] + 1};
+        for (int place = 0; place < PLACES; place++) {
             k->t = found - above_p[place];
             k->q = k->t + widths[i];
             if (may_be_dealt(k)) {
                 *number += 1 + draw() % 1000;
                 whole(d, *number, k);
+                counted->checks[widths[i] > 0][place]++;
             }
         }
     }
     k->between = false;
+}
+
+static void every_place(const struct around *counted)
+{
+    for (int apart = 0; apart < 2; apart++)
+        for (int place = 0; place < PLACES; place++)
+            EXPECT(counted->checks[apart][place] > 0);
 }
 
 static void whole_checks(void)
@@ -560,15 +579,18 @@ static void whole_checks(void)
     static const size_t lengths[] = {1, 2, 16, 17, 56, 57, 128, 500, 501, 512};
     struct door d = open_door(1000);
     uint64_t number = 1000;
-    for (uint32_t code = 0; code < 3; code++)
+    for (uint32_t code = 0; code < 3; code++) {
+        struct around counted = {0};
         for (size_t i = 0; i < sizeof lengths / sizeof *lengths; i++) {
             struct check k = drawn_check(code, lengths[i]);
             around_the_turn(&d, &number, &k);
-            around_the_marks(&d, &number, &k);
+            around_the_marks(&d, &number, &k, &counted);
             memcpy(k.v[1], k.v[0], sizeof k.v[1]); /* at distance 0 no T is below it */
             around_the_turn(&d, &number, &k);
-            around_the_marks(&d, &number, &k);
+            around_the_marks(&d, &number, &k, &counted);
         }
+        every_place(&counted);
+    }
 }
 
 /* A whole check under the next number, with this threshold, of which the answer is written out. */
@@ -769,7 +791,10 @@ static void starts(void)
     EXPECT(same_set(&box.check.set, &NO_SET) && same_set(&box.waiting, &NO_SET));
 }
 
-static void deal_refused(struct door_dealer dealer, struct order o, uint32_t why)
+/* A deal is answered by `why`. If that is a refusal, the dealer and both buffers are as before.
+   Else the dealer has moved on to the number, and nothing else of it has changed; what stands in
+   the halves is not looked at. In either case deal_order looks at what must stay around them. */
+static void deal_says(struct door_dealer dealer, struct order o, uint32_t why)
 {
     static struct halves h, before;
     draw_bytes(h.half[0], sizeof h.half[0]);
@@ -778,9 +803,10 @@ static void deal_refused(struct door_dealer dealer, struct order o, uint32_t why
     struct door_dealer_answer a = deal_order(dealer, &o, &h);
     EXPECT(a.why == why);
     if (why == DOOR_ACCEPTED)
-        return;
+        dealer.last = o.number;
+    else
+        EXPECT(memcmp(&h, &before, sizeof h) == 0);
     EXPECT(same_dealer(&a.dealer, &dealer));
-    EXPECT(memcmp(&h, &before, sizeof h) == 0);
 }
 
 /* Where there are two marks, the first is put right before the second, and then their order. */
@@ -789,23 +815,23 @@ static void deal_in_turn(struct door_dealer dealer, bool between)
     size_t enough = half_size(18);
     struct order o = {
         dealer.last, 31, {3, 18}, 514, {enough - 1, enough - 1}, between, word(-1)};
-    deal_refused(dealer, o, DOOR_BAD_PARTY_OR_CODE);
+    deal_says(dealer, o, DOOR_BAD_PARTY_OR_CODE);
     o.terms.code = DOOR_HAMMING;
-    deal_refused(dealer, o, DOOR_WRONG_LENGTH);
+    deal_says(dealer, o, DOOR_WRONG_LENGTH);
     o.seed_size = 32;
-    deal_refused(dealer, o, DOOR_SHORT_BUFFER);
+    deal_says(dealer, o, DOOR_SHORT_BUFFER);
     o.room[0] = enough;
-    deal_refused(dealer, o, DOOR_SHORT_BUFFER);
+    deal_says(dealer, o, DOOR_SHORT_BUFFER);
     o.room[1] = enough;
-    deal_refused(dealer, o, DOOR_WRONG_NUMBER);
+    deal_says(dealer, o, DOOR_WRONG_NUMBER);
     o.number++;
-    deal_refused(dealer, o, DOOR_OUT_OF_RANGE);
+    deal_says(dealer, o, DOOR_OUT_OF_RANGE);
     o.t = 513;
-    deal_refused(dealer, o, between ? DOOR_OUT_OF_RANGE : DOOR_ACCEPTED);
+    deal_says(dealer, o, between ? DOOR_OUT_OF_RANGE : DOOR_ACCEPTED);
     o.q = 512;
-    deal_refused(dealer, o, between ? DOOR_BAD_MARKS : DOOR_ACCEPTED);
+    deal_says(dealer, o, between ? DOOR_BAD_MARKS : DOOR_ACCEPTED);
     o.q = 513;
-    deal_refused(dealer, o, DOOR_ACCEPTED);
+    deal_says(dealer, o, DOOR_ACCEPTED);
 }
 
 /* What may be wrong with a deal, by the number that refuses it. */
@@ -848,26 +874,26 @@ static void deal_with_two_faults(struct door_dealer dealer, bool between)
     const struct order good = {dealer.last + 1, 32, {DOOR_SCALAR, 18}, 4,
         {half_size(18), half_size(18)}, between, 4};
     const int faults = between ? FAULTS : THRESHOLD_FAULTS;
-    deal_refused(dealer, good, DOOR_ACCEPTED);
+    deal_says(dealer, good, DOOR_ACCEPTED);
     for (int lower = 0; lower < faults; lower++)
         for (int higher = lower; higher < faults; higher++) {
             struct order o = good;
             spoil(&o, (enum fault)higher);
             spoil(&o, (enum fault)lower);
-            deal_refused(dealer, o, WHY_FAULTY[lower]);
+            deal_says(dealer, o, WHY_FAULTY[lower]);
         }
 }
 
 /* A half of every length has just the room that its content needs. */
-static void deal_lengths(struct door_dealer dealer)
+static void deal_lengths(struct door_dealer dealer, bool between)
 {
     for (size_t n = 1; n <= MOST; n++) {
         const size_t size = half_size(n);
-        struct order o = {dealer.last + 1, 32, {DOOR_HAMMING, n}, 0, {size, size}, n % 2 == 0, 3};
+        struct order o = {dealer.last + 1, 32, {DOOR_HAMMING, n}, 0, {size, size}, between, 3};
         EXPECT(size == DOOR_HALF(n));
-        deal_refused(dealer, o, DOOR_ACCEPTED);
+        deal_says(dealer, o, DOOR_ACCEPTED);
         o.room[n % 2]--;
-        deal_refused(dealer, o, DOOR_SHORT_BUFFER);
+        deal_says(dealer, o, DOOR_SHORT_BUFFER);
     }
 }
 
@@ -880,7 +906,7 @@ static void deal_thresholds(struct door_dealer dealer, struct order o)
     for (size_t i = 0; i < sizeof thresholds / sizeof *thresholds; i++) {
         o.terms.code = thresholds[i].code;
         o.t = word(thresholds[i].t);
-        deal_refused(dealer, o, DOOR_OUT_OF_RANGE);
+        deal_says(dealer, o, DOOR_OUT_OF_RANGE);
     }
 }
 
@@ -931,7 +957,7 @@ static void deal_marks(struct door_dealer dealer, struct order o)
         o.terms.code = MARKS[i].code;
         o.t = word(MARKS[i].p);
         o.q = word(MARKS[i].q);
-        deal_refused(dealer, o, MARKS[i].why);
+        deal_says(dealer, o, MARKS[i].why);
     }
 }
 
@@ -940,24 +966,24 @@ static void deal_alone(struct door_dealer dealer, bool between)
     static const size_t lengths[] = {0, 513, 65537, ((size_t)1 << 32) + 1, SIZE_MAX};
     const struct order good = {dealer.last + 1, 32, {DOOR_SCALAR, 18}, 0,
         {DOOR_HALF_MOST, DOOR_HALF_MOST}, between, 0};
-    deal_refused(dealer, good, DOOR_ACCEPTED);
+    deal_says(dealer, good, DOOR_ACCEPTED);
     for (size_t i = 0; i < sizeof lengths / sizeof *lengths; i++) {
         struct order o = good;
         o.terms.n = lengths[i];
-        deal_refused(dealer, o, DOOR_WRONG_LENGTH);
+        deal_says(dealer, o, DOOR_WRONG_LENGTH);
     }
     deal_thresholds(dealer, good);
     deal_marks(dealer, good);
     struct order o = good;
     o.seed_size = 33;
-    deal_refused(dealer, o, DOOR_WRONG_LENGTH);
+    deal_says(dealer, o, DOOR_WRONG_LENGTH);
     o = good;
     o.terms.code = 256;
-    deal_refused(dealer, o, DOOR_BAD_PARTY_OR_CODE);
+    deal_says(dealer, o, DOOR_BAD_PARTY_OR_CODE);
     dealer.last = UINT64_MAX;
     o = good;
     o.number = UINT64_MAX;
-    deal_refused(dealer, o, DOOR_WRONG_NUMBER);
+    deal_says(dealer, o, DOOR_WRONG_NUMBER);
 }
 
 static void deals_refused(struct door_dealer dealer)
@@ -966,8 +992,8 @@ static void deals_refused(struct door_dealer dealer)
         deal_in_turn(dealer, between);
         deal_with_two_faults(dealer, between);
         deal_alone(dealer, between);
+        deal_lengths(dealer, between);
     }
-    deal_lengths(dealer);
 }
 
 /* What is handed to calls 3 and 4. */

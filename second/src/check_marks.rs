@@ -8,7 +8,8 @@ use crate::checks::vector;
 use crate::measure::{Measure, MAX_LENGTH};
 use crate::rule::Rule::{self, Between, Threshold};
 
-/// How far P and Q are from the measure, and whether it lies between them.
+/// How far P and Q are from the measure, and whether it lies between them. With r = 0 and
+/// r = 2^32 - 1 the gates of 30.24 in docs/SPEC.md are among them.
 const NEAR: [(i32, i32, bool); 9] = [
     // The measure is P - 1, P, Q and Q + 1.
     (1, 6, false),
@@ -30,6 +31,21 @@ const ALL_VECTORS: [Vectors; 5] = [
     Vectors::BothLow,
     Vectors::BothHigh,
 ];
+
+/// 30.23 in docs/SPEC.md, of the vectors of 01 that both measures have: the marks, and whether
+/// the measure, 82 and -14, lies between them.
+const WORKED: [(Measure, i32, i32, bool); 7] = [
+    (Measure::Euclid, 82, 82, true),
+    (Measure::Euclid, 83, 84, false),
+    (Measure::Euclid, 80, 81, false),
+    (Measure::Scalar, -14, -13, true),
+    (Measure::Scalar, -15, -14, true),
+    (Measure::Scalar, -15, -13, true),
+    (Measure::Scalar, -16, -15, false),
+];
+
+/// The same for Hamming of equal vectors.
+const WORKED_OF_EQUALS: [(i32, i32, bool); 2] = [(1, 513, false), (0, 0, true)];
 
 /// The longest vectors of the sweep.
 const MAX_SWEPT: usize = 9;
@@ -134,6 +150,17 @@ impl Cases {
         }
     }
 
+    /// The worked cases, with the vectors of 01.
+    fn worked_cases(&mut self) {
+        let [(_, _, x, y), _, (_, _, bits, _), _] = checks_of_01();
+        for (measure, p, q, met) in WORKED {
+            self.check_at(None, measure, Between(p, q), [x, y], met);
+        }
+        for (p, q, met) in WORKED_OF_EQUALS {
+            self.check_at(None, Measure::Hamming, Between(p, q), [bits, bits], met);
+        }
+    }
+
     /// All of it.
     pub fn checks_between_marks(&mut self) {
         for measure in Measure::ALL {
@@ -152,6 +179,7 @@ impl Cases {
         }
         self.copied_templates();
         self.sweep();
+        self.worked_cases();
     }
 }
 

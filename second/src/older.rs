@@ -179,12 +179,18 @@ mod tests {
         }
     }
 
-    /// For the C test: a set that an older version of the C library dealt, and what from.
+    /// For the C test: two sets that older versions of the C library dealt, and what from.
     const HEADER: &str = include_str!("../../c/older.h");
+
+    /// What stands in the header behind this text.
+    fn after(text: &str) -> &'static str {
+        let (_, rest) = HEADER.split_once(text).expect(text);
+        rest
+    }
 
     /// The number that follows this text in the header.
     fn number_after(text: &str) -> u64 {
-        let (_, rest) = HEADER.split_once(text).expect(text);
+        let rest = after(text);
         let end = rest.find(|sign: char| !sign.is_ascii_digit()).unwrap();
         rest[..end].parse().expect(text)
     }
@@ -200,31 +206,39 @@ mod tests {
         text.split('"').skip(1).step_by(2).collect()
     }
 
-    /// The halves of the header's list, in hex.
-    fn listed() -> Vec<String> {
-        let (_, list) = HEADER.split_once("= {").unwrap();
-        let (list, _) = list.split_once("};").unwrap();
+    /// The halves of one of the header's lists, in hex.
+    fn listed(name: &str) -> Vec<String> {
+        let (list, _) = after(&format!("{name}[2] = {{")).split_once("};").unwrap();
         list.split_terminator(",\n").map(quoted).collect()
     }
 
-    /// The header's comment says name, code and L; the rest are its constants.
-    #[test]
-    fn halves_are_what_the_c_library_dealt() {
+    /// Both halves of a set of the header, dealt again, in hex. A box refuses them. Its first
+    /// comment has the door's name; number, T, keys and seed are the header's constants.
+    fn dealt_again(deal: Dealing, measure: Measure, length: u64) -> [String; 2] {
         let (comment, _) = HEADER.split_once("*/").unwrap();
         let name = padded(quoted(comment).as_bytes()).unwrap();
-        let length = number_after("DOOR_SCALAR and L = ") as usize;
         let threshold = number_after("#define OLDER_T ") as i32;
         let seed = bytes_after("#define OLDER_SEED ");
-        let halves = deal_before_nonces(Measure::Scalar, length, threshold, &seed);
         let keys = ["#define OLDER_KEY0 ", "#define OLDER_KEY1 "].map(bytes_after);
         let number = number_after("#define OLDER_NUMBER ");
-        let dealt = [0, 1].map(|party: usize| {
+        let halves = deal(measure, length as usize, threshold, &seed);
+        [0, 1].map(|party: usize| {
             let half = half(&name, &keys[party], number, &halves[party]);
             let refused = refusal(&name, &keys[party], party, &half);
             assert_eq!(refused, Some(Refusal::Content));
             field::format(&half)
-        });
-        assert!(listed() == dealt);
+        })
+    }
+
+    /// Code and L of each set stand in the header's comments.
+    #[test]
+    fn halves_are_what_the_c_library_dealt() {
+        let length = number_after("DOOR_SCALAR and L = ");
+        let dealt = dealt_again(deal_before_nonces, Measure::Scalar, length);
+        assert!(listed("OLDER_HALF") == dealt);
+        let length = number_after("DOOR_EUCLID and L = ");
+        let dealt = dealt_again(deal_before_marks, Measure::Euclid, length);
+        assert!(listed("LATER_HALF") == dealt);
     }
 
     /// The lengths at which today's half has a block more.

@@ -58,6 +58,17 @@ const DEALT: [&[(i32, i32)]; 3] = [
     &[(0, 513), (0, 0), (513, 513), (1, 512)],
 ];
 
+/// 30.25 and 30.26 in docs/SPEC.md: marks, and what a deal with them is answered by.
+const WORKED: [(Measure, i32, i32, u32); 7] = [
+    (Measure::Hamming, 0, 513, 0),
+    (Measure::Hamming, -1, 513, 8),
+    (Measure::Hamming, 0, 514, 8),
+    (Measure::Scalar, 5, 5, 0),
+    (Measure::Scalar, 5, 4, 13),
+    (Measure::Scalar, LOWEST, HIGHEST, 13),
+    (Measure::Scalar, LOWEST, HIGHEST - 1, 0),
+];
+
 /// How far P and Q are from the measure, and whether it lies between them: it is P - 1, P, Q
 /// and Q + 1, and the same where P = Q.
 const NEAR: [(i32, i32, bool); 7] = [
@@ -397,6 +408,19 @@ impl Script {
         }
     }
 
+    /// The worked cases of a deal. The dealer moves on where its answer is 0.
+    fn worked_deals(&mut self) {
+        self.start("Worked marks", [0; 4]);
+        let mut before = self.show("dealer");
+        for (measure, p, q, answer) in WORKED {
+            let deal = self.new_deal(self.next_number(), measure, 2, Between(p, q));
+            assert_eq!(self.deal(&deal), answer, "{deal}");
+            let after = self.show("dealer");
+            assert_eq!(after == before, answer != 0);
+            before = after;
+        }
+    }
+
     /// All of it.
     pub fn between_marks(&mut self) {
         self.wrong_deals_between();
@@ -410,5 +434,6 @@ impl Script {
             self.put_at_one_box(at);
             self.put_while_idle_and_waiting(at);
         }
+        self.worked_deals();
     }
 }
