@@ -50,6 +50,16 @@ badSum = 12
 abbrev pub badMarks : ℕ
 badMarks = 13
 
+-- 02, §5
+abbrev pub badTable : ℕ
+badTable = 14
+
+abbrev pub noRow : ℕ
+noRow = 15
+
+abbrev pub moreRows : ℕ
+moreRows = 16
+
 -- goes on if the test holds, else k is why not
 unfoldable pub unless : Bool → ℕ → ℕ → ℕ
 unless b k rest = cond b rest k

@@ -33,6 +33,12 @@ pub const BAD_SUM: u32 = 12;
 
 pub const BAD_MARKS: u32 = 13;
 
+pub const BAD_TABLE: u32 = 14;
+
+pub const NO_ROW: u32 = 15;
+
+pub const MORE_ROWS: u32 = 16;
+
 // A message's kind.
 pub const VECTOR: u32 = 0;
 

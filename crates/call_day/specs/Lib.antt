@@ -1,0 +1,5 @@
+pub mod Search
+pub mod Table
+pub mod Laws
+pub mod Claims
+pub mod Turns
