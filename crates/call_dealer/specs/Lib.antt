@@ -1,2 +1,4 @@
 pub mod Dealer
 pub mod Laws
+pub mod Clock
+pub mod ClockLaws

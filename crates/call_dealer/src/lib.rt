@@ -7,6 +7,9 @@ ghost use Rattle.base_words.specs.List.{over};
 ghost use Rattle.half_deal.specs.Dealing.{dealFrom};
 ghost use Rattle.call_dealer.specs.Dealer.{whyNotDealer, startDealer, whyNotDeal, halfFor, deal as dealOf};
 ghost use Rattle.call_dealer.specs.Dealer.{dealOut};
+ghost use Rattle.base_messages.specs.Messages.{ifTaken};
+ghost use Rattle.call_day.specs.Table.{tableOf};
+ghost use Rattle.call_dealer.specs.Clock.{clockFrom, dealByClock, clockOut};
 ghost use Rattle.call_dealer.specs.declared.Dealer.{Dealer};
 use base_messages::KEY;
 use base_messages::NAME;
@@ -27,6 +30,15 @@ pub struct Dealer {
 #[repr(C)]
 pub struct DealerAnswer {
     pub why: u32,
+    pub dealer: Dealer,
+}
+
+// The same of a deal by the clock, and a place: the row that was used, counted from 1, or where the
+// table is bad.
+#[repr(C)]
+pub struct ClockAnswer {
+    pub why: u32,
+    pub place: u32,
     pub dealer: Dealer,
 }
 
@@ -102,6 +114,57 @@ impl Dealer {
             },
         }
     }
+
+    // Deals by the threshold of the table's row in which the minute lies.
+    pub fn deal_by_clock(
+        self,
+        number: u64,
+        seed: &[u8],
+        terms: Terms,
+        firsts: &[u32],
+        lasts: &[u32],
+        thresholds: &[u32],
+        minute: u32,
+        out0: &mut [u8],
+        out1: &mut [u8],
+    ) -> ClockAnswer
+        ensures { λ r. ⌜ r ≡ dealByClock self (clockFrom number (now (seed .entry)) terms
+            (tableOf (now (firsts .entry)) (now (lasts .entry)) (now (thresholds .entry))) minute)
+            (length (now (out0 .entry))) (length (now (out1 .entry))) ⌝ }
+        ensures { λ _. ⌜ now (out0 .exit) ≡ clockOut self (clockFrom number (now (seed .entry)) terms
+            (tableOf (now (firsts .entry)) (now (lasts .entry)) (now (thresholds .entry))) minute)
+            (now (out0 .entry)) (now (out1 .entry)) 0 ⌝ }
+        ensures { λ _. ⌜ now (out1 .exit) ≡ clockOut self (clockFrom number (now (seed .entry)) terms
+            (tableOf (now (firsts .entry)) (now (lasts .entry)) (now (thresholds .entry))) minute)
+            (now (out0 .entry)) (now (out1 .entry)) 1 ⌝ }
+    {
+        let chosen = call_day::choose(firsts, lasts, thresholds, minute);
+        if chosen.why != 0 {
+            return ClockAnswer {
+                why: chosen.why,
+                place: chosen.place,
+                dealer: self,
+            };
+        }
+        let rule = Rule::Threshold(chosen.threshold);
+        let a = self.deal(number, seed, terms, rule, out0, out1);
+        let dealer = a.dealer;
+        ClockAnswer {
+            why: a.why,
+            place: place_told(a.why, chosen.place),
+            dealer,
+        }
+    }
+}
+
+// The row's place with an accepted deal.
+fn place_told(why: u32, place: u32) -> u32
+    ensures { λ r. ⌜ r ≡ ifTaken why place 0 ⌝ }
+{
+    if why != 0 {
+        return 0;
+    }
+    place
 }
 
 fn why_not_start(name: &[u8], key0: &[u8], key1: &[u8]) -> u32
