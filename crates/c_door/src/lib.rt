@@ -3,10 +3,13 @@
 ghost use mathlib.Core.Path.{_≡_};
 ghost use lib.ListN.{length};
 ghost use Rattle.half_deal.specs.Dealing.{dealFrom};
+ghost use Rattle.call_day.specs.Table.{tableOf};
 ghost use Rattle.call_dealer.specs.Dealer.{startDealer, deal, dealOut};
+ghost use Rattle.call_dealer.specs.Clock.{clockFrom, dealByClock, clockOut};
 ghost use Rattle.call_party.specs.Party.{startParty, load, mask, maskOut, takeVector, finish, dropSet};
 ghost use Rattle.call_lock.specs.Lock.{startLock, join};
 use base_messages::Label;
+use call_dealer::ClockAnswer;
 use call_dealer::Dealer;
 use call_dealer::DealerAnswer;
 use call_lock::Lock;
@@ -70,6 +73,43 @@ pub extern "C" fn door_deal_between(
         (now (out0 .entry)) (now (out1 .entry)) 1 ⌝ }
 {
     dealer.deal(number, seed, terms, Rule::Between(p, q), out0, out1)
+}
+
+// The same by the clock: the threshold is that of the table's row in which the minute lies.
+#[no_mangle]
+pub extern "C" fn door_deal_by_clock(
+    dealer: Dealer,
+    number: u64,
+    seed: &[u8],
+    terms: Terms,
+    firsts: &[u32],
+    lasts: &[u32],
+    thresholds: &[u32],
+    minute: u32,
+    out0: &mut [u8],
+    out1: &mut [u8],
+) -> ClockAnswer
+    ensures { λ r. ⌜ r ≡ dealByClock dealer (clockFrom number (now (seed .entry)) terms
+        (tableOf (now (firsts .entry)) (now (lasts .entry)) (now (thresholds .entry))) minute)
+        (length (now (out0 .entry))) (length (now (out1 .entry))) ⌝ }
+    ensures { λ _. ⌜ now (out0 .exit) ≡ clockOut dealer (clockFrom number (now (seed .entry)) terms
+        (tableOf (now (firsts .entry)) (now (lasts .entry)) (now (thresholds .entry))) minute)
+        (now (out0 .entry)) (now (out1 .entry)) 0 ⌝ }
+    ensures { λ _. ⌜ now (out1 .exit) ≡ clockOut dealer (clockFrom number (now (seed .entry)) terms
+        (tableOf (now (firsts .entry)) (now (lasts .entry)) (now (thresholds .entry))) minute)
+        (now (out0 .entry)) (now (out1 .entry)) 1 ⌝ }
+{
+    dealer.deal_by_clock(
+        number,
+        seed,
+        terms,
+        firsts,
+        lasts,
+        thresholds,
+        minute,
+        out0,
+        out1,
+    )
 }
 
 // Party 0 is the camera box, party 1 the office box.

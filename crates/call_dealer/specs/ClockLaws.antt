@@ -12,14 +12,14 @@ use Rattle.base_algebra.specs.Bit.{neither}
 use Rattle.base_algebra.specs.Word.{signed}
 use Rattle.measure_table.specs.declared.Terms.{Terms}
 use Rattle.measure_table.specs.declared.Rule.the-variants.{Threshold}
-use Rattle.measure_table.specs.Measure.{row as rowOf, scalarProduct, squaredEuclid, hamming, within, thresholdFits, ruleFits}
-use Rattle.measure_table.specs.Measure.{inOrder, isCode, lengthFits}
+use Rattle.measure_table.specs.Measure.{row as rowOf, scalarProduct, squaredEuclid, hamming, within, thresholdFits}
+use Rattle.measure_table.specs.Measure.{ruleFits, inOrder, isCode, lengthFits}
 use Rattle.base_messages.specs.Messages.{badPartyOrCode, wrongLength, shortBuffer, wrongNumber, outOfRange}
 use Rattle.base_messages.specs.Messages.{badTable, moreRows, isKey, unless, ifTaken}
 use Rattle.call_day.specs.declared.Choice.{Choice}
 use Rattle.call_day.specs.Table.{Table, day, noThreshold, whyNotTable, choose}
-use Rattle.call_day.specs.Claims.{Says, good, lists, row, none, more, told, Good, taken-good, good-taken, Chosen, chosen}
-use Rattle.call_day.specs.Claims.{past-day}
+use Rattle.call_day.specs.Claims.{Says, good, lists, row, none, more, told, Good, taken-good, good-taken, Chosen}
+use Rattle.call_day.specs.Claims.{chosen, past-day}
 use Rattle.half_deal.specs.Dealing.{Deal}
 use Rattle.call_dealer.specs.Dealer.{halfSize, untilRule, whyNotDeal, deal, dealOut}
 use Rattle.call_dealer.specs.Laws.{deal-tells}
