@@ -10,7 +10,7 @@ use Rattle.call_dealer.specs.Dealer.{halfSize}
 use Rattle.door_lists.specs.Lists.{Box, camera, office, other, World, Starts, Started, beginning, Message, Call}
 use Rattle.door_lists.specs.Lists.{deal, load, mask, take, finish, join, Event, step, after, events, In, here}
 use Rattle.door_lists.specs.Lists.{there, Fits, Sent, SentVector, SentWord, SentAnswer, Admits, history}
-use Rattle.door_lists.specs.Lists.{Admissible}
+use Rattle.door_lists.specs.Lists.{Admissible, dealByClock}
 use Rattle.door_lists.specs.Demand.{Progress, nothingMade, onward, Labelled, Ready, Run, start, own, InRange}
 use Rattle.door_lists.specs.Demand.{Free, Ended}
 use Rattle.door_lists.proofs.Boxes.{both}
@@ -42,6 +42,7 @@ module _ (name : List ℕ) (d : Deal) (v : Box → List ℕ) where
   pub admitted : (c : Call) (g : Progress) (h k : List Event) → ((e : Event) → In e h → In e k) → Ready name d v g h c
       → Admits name k c
   admitted (deal e out0 out1) g h k f r = tt
+  admitted (dealByClock e out0 out1) g h k f r = tt
   admitted (load b x) g h k f (m, y, i, q) =
       λ j l. (d, y, f _ i, j, subst (λ z. j < length z / 512) q l, ap (λ z. blockAt z j) q)
   admitted (mask b x out) g h k f r = tt
@@ -52,6 +53,7 @@ module _ (name : List ℕ) (d : Deal) (v : Box → List ℕ) where
 
   pub fitting : d .number < 2 ^ 64 → (c : Call) (g : Progress) (h : List Event) → Ready name d v g h c → Fits c
   fitting k (deal e out0 out1) g h (m, q, r0, r1) = subst (λ z. z .number < 2 ^ 64) (sym q) k
+  fitting k (dealByClock e out0 out1) g h r = subst (λ z. z .number < 2 ^ 64) (sym (r .1)) k
   fitting k (load b x) g h r = tt
   fitting k (mask b x out) g h r = tt
   fitting k (take b m) g h r = tt

@@ -14,16 +14,18 @@ use Rattle.call_dealer.specs.Dealer as DealerCalls
 use Rattle.half_deal.specs.Dealing.{Deal}
 use Rattle.call_dealer.specs.Dealer.{whyNotDeal}
 use Rattle.call_dealer.specs.Laws.{deal-tells}
+use Rattle.call_dealer.specs.Clock.{dealAt}
 use Rattle.call_party.specs.declared.Party.{Party}
 use Rattle.call_party.specs.declared.PartyAnswer.{PartyAnswer}
 use Rattle.call_party.specs.Party as BoxCalls
 use Rattle.call_lock.specs.declared.Lock.{Lock}
 use Rattle.call_lock.specs.Lock as LockCalls
 use Rattle.call_lock.specs.Lock.{whyNotJoin}
-use Rattle.door_lists.specs.Lists.{Box, camera, office, other, World, Starts, Message, Call, deal, load, mask}
-use Rattle.door_lists.specs.Lists.{take, finish, drop, join, Event, dealt, sent, joined, refused, vector, answer}
+use Rattle.door_lists.specs.Lists.{Box, camera, office, other, World, Starts, Message, Call, deal, load}
+use Rattle.door_lists.specs.Lists.{dealByClock, mask, take, finish, drop, join, Event, dealt, sent, joined, refused, vector, answer}
 use Rattle.door_lists.specs.Lists.{put, eventOf, onBox, written, step, Fits, SentAnswer, Admits}
 use Rattle.door_lists.specs.Demand.{deals, lastDealt}
+use Rattle.door_lists.proofs.Clock.{by-clock}
 use Rattle.door_lists.proofs.Accepted.{Heard, join-tells}
 use Rattle.door_lists.proofs.Dealt.{Sound, answerBy, answers-join}
 use Rattle.door_lists.proofs.Once.{once-cond}
@@ -180,6 +182,8 @@ module _ (S : Starts) (h : List Event) (w : World) (I : Inv S h w) where
       → Inv S (step w c .event ∷ h) (step w c .world)
   unfolding BoxCalls.load BoxCalls.mask BoxCalls.takeVector BoxCalls.finish BoxCalls.dropSet
   keeps long (deal d out0 out1) fits ad = on-deal long d out0 out1 fits
+  keeps long (dealByClock k out0 out1) fits ad =
+      by-clock w k out0 out1 (λ x. Inv S (x .event ∷ h) (x .world)) (on-deal long (dealAt k) out0 out1 fits) still
   keeps long (load b x) fits ad =
       on-box b (BoxCalls.load (w .box b) x) _ _ refl
       (at-box S h w I b (Loading S h w I b x) (loading S h w I long b x ad))

@@ -1,6 +1,7 @@
 pub mod Accepted
 pub mod Boxes
 pub mod Claims
+pub mod Clock
 pub mod Dealt
 pub mod Drops
 pub mod Ends

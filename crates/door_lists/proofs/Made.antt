@@ -24,7 +24,7 @@ use Rattle.call_lock.specs.declared.Lock.{Lock}
 use Rattle.call_lock.specs.Lock as LockCalls
 use Rattle.door_lists.specs.Lists.{Box, camera, office, partyOf, other, Starts, Message, Call, deal, load, mask}
 use Rattle.door_lists.specs.Lists.{take, finish, drop, join, Event, dealt, loaded, sent, dropped, joined, vector}
-use Rattle.door_lists.specs.Lists.{word, answer, written, maskedBy}
+use Rattle.door_lists.specs.Lists.{word, answer, written, maskedBy, dealByClock}
 use Rattle.door_lists.specs.Demand.{verdict, Labelled, InRange}
 use Rattle.door_lists.proofs.Accepted.{Heard}
 use Rattle.door_lists.proofs.Goes.{OpenAt, Behind, deal-goes, load-goes, mask-goes, take-goes, finish-goes}
@@ -47,6 +47,7 @@ module _ (S : Starts) (d : Deal) (v : Box → List ℕ) where
   -- what each of the run's own calls leaves in the list
   abbrev pub said : Call → Event
   said (deal e out0 out1) = dealt d (halfOf S d)
+  said (dealByClock k out0 out1) = dealt d (halfOf S d)
   said (load b x) = loaded b (d .number)
   said (mask b x out) = sent b (d .number) (vector (v b) (maskOf d b (v b)))
   said (take b m) = sent b (d .number) (word (wordBy d v b))

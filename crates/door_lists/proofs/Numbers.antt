@@ -20,6 +20,9 @@ use Rattle.half_seal.specs.Half.{wholeBlocks, whyNot, setNumber, openedSet}
 use Rattle.call_dealer.specs.declared.Dealer.{Dealer}
 use Rattle.call_dealer.specs.Dealer as DealerCalls
 use Rattle.call_dealer.specs.Laws.{deal-tells}
+use Rattle.call_dealer.specs.Clock.{dealAt}
+use Rattle.door_lists.proofs.Clock.{by-clock}
+use Rattle.half_deal.specs.Dealing.{Deal}
 use Rattle.call_party.specs.declared.Party.{Party}
 use Rattle.call_party.specs.Party as BoxCalls
 use Rattle.call_party.specs.Party.{idle, inTurn, takeVector, dropSet}
@@ -27,7 +30,7 @@ use Rattle.call_party.specs.Party.{whyNotLoad, whyNotMask, whyNotTake, whyNotFi
 use Rattle.call_party.specs.Laws.{waterOf, water-last, opened-fits, load-tells}
 use Rattle.call_lock.specs.declared.Lock.{Lock}
 use Rattle.call_lock.specs.Lock as LockCalls
-use Rattle.door_lists.specs.Lists.{Box, partyOf, other, put, World, Starts, Started, beginning}
+use Rattle.door_lists.specs.Lists.{Box, partyOf, other, put, World, Starts, Started, beginning, dealByClock}
 use Rattle.door_lists.specs.Lists.{Call, deal, load, mask, take, finish, drop, join, step, after, history}
 use Rattle.door_lists.specs.Lists.{Event, loaded, sent, dropped, refused, vector, word, answer, eventOf}
 use Rattle.door_lists.specs.Demand.{dealsIn, loadsBy, joinsIn, collect}
@@ -367,9 +370,15 @@ module _ (S : Starts) where
     each-away : (e : Event) → ((b : Box) → Away b e) → (b : Box) → BoxAt b (e ∷ h) (w .box b)
     each-away e f b = box-away b h (w .box b) (I .box-at b) e (f b)
 
-    after-call : (c : Call) → AllAt (step w c .event ∷ h) (step w c .world)
-    unfolding DealerCalls.deal LockCalls.join BoxCalls.load BoxCalls.mask takeVector BoxCalls.finish dropSet
-    after-call (deal d out0 out1) =
+    -- a refusal
+    all-still : (why : ℕ) → AllAt (refused why ∷ h) w
+    all-still why =
+        record { dealer-at = I .dealer-at; box-at = each-away _ (refused-away why); lock-at = I .lock-at }
+
+    after-deal : (d : Deal) (out0 out1 : List ℕ)
+        → AllAt (step w (deal d out0 out1) .event ∷ h) (step w (deal d out0 out1) .world)
+    unfolding DealerCalls.deal
+    after-deal d out0 out1 =
         either (λ x s. AllAt (x ∷ h) (record { dealer = s; box = w .box; lock = w .lock })) _ _ _ (w .dealer)
         (λ z. let above = deal-tells (w .dealer) d (length out0) (length out1) z .above in
         record {
@@ -377,7 +386,13 @@ module _ (S : Starts) where
           box-at = each-away _ (dealt-away d _);
           lock-at = I .lock-at;
         })
-        (record { dealer-at = I .dealer-at; box-at = each-away _ (refused-away _); lock-at = I .lock-at })
+        (all-still _)
+
+    after-call : (c : Call) → AllAt (step w c .event ∷ h) (step w c .world)
+    unfolding LockCalls.join BoxCalls.load BoxCalls.mask takeVector BoxCalls.finish dropSet
+    after-call (deal d out0 out1) = after-deal d out0 out1
+    after-call (dealByClock k out0 out1) =
+        by-clock w k out0 out1 (λ x. AllAt (x .event ∷ h) (x .world)) (after-deal (dealAt k) out0 out1) all-still
     after-call (load b x) = on-box b _ _ _ (own-load _) (box-loaded b h (w .box b) (I .box-at b) x)
     after-call (mask b v out) =
         on-box b _ _ _ (own-sent _ _) (box-masked b h (w .box b) (I .box-at b) v _ (length out))
@@ -394,7 +409,7 @@ module _ (S : Starts) where
           box-at = each-away _ (joined-away _ _);
           lock-at = (refl, (I .lock-at .1, subst (λ i. i < m .label .number) (I .lock-at .0) (tells .above)));
         })
-        (record { dealer-at = I .dealer-at; box-at = each-away _ (refused-away _); lock-at = I .lock-at })
+        (all-still _)
 
   all-kept : Started S → (cs : List Call) → AllAt (history S cs) (after (beginning S) cs)
   all-kept f [] = all-start f

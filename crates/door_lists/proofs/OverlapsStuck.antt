@@ -12,7 +12,7 @@ use Rattle.half_deal.specs.Dealing.{Deal}
 use Rattle.call_dealer.specs.Dealer.{halfSize}
 use Rattle.door_lists.specs.Lists.{Box, camera, office, other, World, Starts, Call, deal, load, mask, take}
 use Rattle.door_lists.specs.Lists.{finish, drop, join, Event, dealt, loaded, sent, dropped, joined, refused}
-use Rattle.door_lists.specs.Lists.{events, In, here, there, after}
+use Rattle.door_lists.specs.Lists.{events, In, here, there, after, dealByClock}
 use Rattle.door_lists.specs.Demand.{Progress, nothingMade, madeOne, onward, Ready, Whole, InRange}
 use Rattle.door_lists.specs.Overlap.{Both, nothingYet, endedAt, UnderWay, FirstInOrder, SecondInOrder, FirstReady}
 use Rattle.door_lists.specs.Overlap.{SecondReady, Overlap, begin, of-first, of-second, first-dropped, still}
@@ -112,6 +112,7 @@ none-has S d v =
 said-no-drop : (S : Starts) (d : Deal) (v : Box → List ℕ) (g : Progress) (h : List Event) (c : Call)
     → Ready (door S) d v g h c → NoDrop (said S d v c)
 said-no-drop S d v g h (deal x out0 out1) r e = omega (arith, e)
+said-no-drop S d v g h (dealByClock x out0 out1) r e = omega (arith, e)
 said-no-drop S d v g h (load b x) r e = omega (arith, e)
 said-no-drop S d v g h (mask b x out) r e = omega (arith, e)
 said-no-drop S d v g h (take b m) r e = omega (arith, e)
@@ -180,19 +181,29 @@ module _ (S : Starts) (d e : Deal) (v u : Box → List ℕ) (above : d .number <
               (λ i. T .dropped-ends (other b) (before-drop (other b) x h n i));
         }
 
-    track-first : (c : Call) → FirstReady (door S) d e v u g h c → (x : Event) → x ≡ said S d v c
+    -- its deal, of either kind
+    track-deal : (c : Call) (r : Ready (door S) d v (g .first) h c) (x : Event) → x ≡ said S d v c
+        → said S d v c ≡ dealt d (halfOf S d)
+        → onward (g .first) c ≡ record { begun = true; made = g .first .made; ended = g .first .ended }
         → Track (record { first = onward (g .first) c; second = g .second }) (x ∷ h)
-    track-first (deal y out0 out1) (r, o) x q =
-        let n : NoDrop x = subst NoDrop (sym q) (said-no-drop S d v (g .first) h (deal y out0 out1) r) in
-        record {
-          first-has = λ f. has-next S d v (g .first) h (T .first-has (no-earlier x f)) (deal y out0 out1) r x q;
+    track-deal c r x q is to =
+        let n : NoDrop x = subst NoDrop (sym q) (said-no-drop S d v (g .first) h c r) in
+        let H = has-next S d v (g .first) h in
+        subst (λ p. Track (record { first = p; second = g .second }) (x ∷ h)) (sym to)
+        (record {
+          first-has = λ f. subst (λ p. Has S d v p (x ∷ h)) to (H (T .first-has (no-earlier x f)) c r x q);
           second-has = has-later S e u (g .second) h x (T .second-has);
           loaded-deal = λ b l. let k = T .loaded-deal b l in (k .0, there (k .1));
           deal-begun = λ f i. refl;
-          begun-deal = λ z. here (sym q);
+          begun-deal = λ z. here (sym (q ∙ is));
           begun-order = λ z. refl;
           dropped-ends = λ b i. T .dropped-ends b (before-drop b x h n i);
-        }
+        })
+
+    track-first : (c : Call) → FirstReady (door S) d e v u g h c → (x : Event) → x ≡ said S d v c
+        → Track (record { first = onward (g .first) c; second = g .second }) (x ∷ h)
+    track-first (deal y out0 out1) (r, o) x q = track-deal (deal y out0 out1) r x q refl refl
+    track-first (dealByClock y out0 out1) (r, o) x q = track-deal (dealByClock y out0 out1) r x q refl refl
     track-first (load b y) (r, o) x q =
         track-box (load b y) b 0 x (r .0) r q refl (λ z. omega (arith, z ∙ ap dealtNumber q)) (r .1, r .2)
     track-first (mask b y out) (r, o) x q =
@@ -219,6 +230,7 @@ module _ (S : Starts) (d e : Deal) (v u : Box → List ℕ) (above : d .number <
     -- what the second deals is not the first's
     other-number : (c : Call) → suc (d .number) ≡ dealtNumber (said S e u c) → ⊥
     other-number (deal y out0 out1) z = omega (arith, z, above)
+    other-number (dealByClock y out0 out1) z = omega (arith, z, above)
     other-number (load b y) z = omega (arith, z)
     other-number (mask b y out) z = omega (arith, z)
     other-number (take b m) z = omega (arith, z)
@@ -244,6 +256,7 @@ module _ (S : Starts) (d e : Deal) (v u : Box → List ℕ) (above : d .number <
         begun-then : (c : Call) → Ready (door S) e u (g .second) h c → SecondInOrder g c
             → onward (g .second) c .begun ≡ true → g .first .begun ≡ true
         begun-then (deal y out0 out1) r o z = o
+        begun-then (dealByClock y out0 out1) r o z = o
         begun-then (load b y) r o z = T .begun-order z
         begun-then (mask b y out) r o z = T .begun-order z
         begun-then (take b m) r o z = T .begun-order z
@@ -280,6 +293,7 @@ module _ (S : Starts) (d e : Deal) (v u : Box → List ℕ) (above : d .number <
       where
         order : (c : Call) → Ready (door S) e u (g .second) h c → SecondInOrder g c
         order (deal y out0 out1) r = begun
+        order (dealByClock y out0 out1) r = begun
         order (load b y) r = omega (arith, over b)
         order (mask b y out) r = over b
         order (take b m) r = over b
@@ -303,6 +317,7 @@ module _ (S : Starts) (d e : Deal) (v u : Box → List ℕ) (above : d .number <
         where
           order : (c : Call) → Ready (door S) d v (g .first) h c → FirstInOrder g c
           order (deal y out0 out1) r = not-begun (g .second .begun) refl (r .0)
+          order (dealByClock y out0 out1) r = not-begun (g .second .begun) refl (r .0)
           order (load b y) r = A b (r .0)
           order (mask b y out) r = tt
           order (take b m) r = tt

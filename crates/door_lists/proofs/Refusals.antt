@@ -11,12 +11,13 @@ use Rattle.base_messages.specs.Messages.{unless, ifTaken}
 use Rattle.base_messages.specs.Laws as Laws
 use Rattle.call_dealer.specs.declared.Dealer.{Dealer}
 use Rattle.call_dealer.specs.Dealer as DealerCalls
+use Rattle.call_dealer.specs.Clock as ClockCalls
 use Rattle.call_party.specs.declared.Party.{Party}
 use Rattle.call_party.specs.Party as BoxCalls
 use Rattle.call_lock.specs.declared.Lock.{Lock}
 use Rattle.call_lock.specs.Lock as LockCalls
 use Rattle.door_lists.specs.Lists.{Box, put, World, Call, deal, load, mask, take, finish, drop, join, Event}
-use Rattle.door_lists.specs.Lists.{dealt, loaded, sent, dropped, joined, refused, eventOf, step}
+use Rattle.door_lists.specs.Lists.{dealt, loaded, sent, dropped, joined, refused, eventOf, step, dealByClock}
 use Rattle.door_lists.specs.Refusals.{lent, lentAfter, said, NothingChanges, RefusalsChangeNothing}
 use Rattle.door_lists.specs.Refusals.{UnsoundRefused}
 use Rattle.door_lists.proofs.Boxes.{put-same}
@@ -79,9 +80,12 @@ alone w c k why e n q f p =
     }
 
 pub refusals-change-nothing : RefusalsChangeNothing
-unfolding RefusalsChangeNothing DealerCalls.deal DealerCalls.dealOut BoxCalls.load BoxCalls.mask
-    BoxCalls.maskOut BoxCalls.takeVector BoxCalls.finish BoxCalls.dropSet LockCalls.join
+unfolding RefusalsChangeNothing DealerCalls.deal DealerCalls.dealOut ClockCalls.dealByClock ClockCalls.clockOut
+    BoxCalls.load BoxCalls.mask BoxCalls.maskOut BoxCalls.takeVector BoxCalls.finish BoxCalls.dropSet LockCalls.join
 refusals-change-nothing w (deal d out0 out1) k =
+    alone w _ k _ _ refl refl
+    (λ z. (same-dealer w _ (old _ _ _ z), buffers (old _ _ out0 z) (buffers (old _ _ out1 z) refl), refl))
+refusals-change-nothing w (dealByClock d out0 out1) k =
     alone w _ k _ _ refl refl
     (λ z. (same-dealer w _ (old _ _ _ z), buffers (old _ _ out0 z) (buffers (old _ _ out1 z) refl), refl))
 refusals-change-nothing w (load b h) k =

@@ -8,7 +8,10 @@ use native.Mathlib.Omega.{arith}
 use lib.ListN.{length}
 use Rattle.half_seal.specs.Half.{setNumber}
 use Rattle.half_deal.specs.Dealing.{Deal}
+use Rattle.call_day.specs.Table.{whyNotTable}
 use Rattle.call_dealer.specs.Dealer.{halfSize}
+use Rattle.call_dealer.specs.Clock.{ClockDeal, dealAt}
+use Rattle.door_lists.proofs.Clock.{as-plain}
 use Rattle.call_party.specs.declared.Party.{Party}
 use Rattle.call_party.specs.declared.PartyAnswer.{PartyAnswer}
 use Rattle.call_party.specs.Party as BoxCalls
@@ -17,6 +20,7 @@ use Rattle.call_party.specs.Laws.{waterOf}
 use Rattle.door_lists.specs.Lists.{Box, camera, office, World, Starts, Call, deal, load, mask, take, finish, join}
 use Rattle.door_lists.specs.Lists.{Event, dealt, loaded, sent, dropped, joined, refused, vector, word, answer}
 use Rattle.door_lists.specs.Lists.{put, eventOf, onBox, maskedBy, step, after, events, In, here, there}
+use Rattle.door_lists.specs.Lists.{dealByClock}
 use Rattle.door_lists.specs.Demand.{Progress, nothingMade, madeOne, onward, Ready, Run, start, own, aside, turned}
 use Rattle.door_lists.specs.Demand.{Answered, InRange, Free}
 use Rattle.door_lists.proofs.Boxes.{party-fits}
@@ -131,9 +135,17 @@ module _ (S : Starts) (d : Deal) (v : Box → List ℕ) where
             },
           )
 
+      by-clock-goes : (k : ClockDeal) (out0 out1 : List ℕ) → whyNotTable (k .table) .why ≡ 0
+          → Goes (deal (dealAt k) out0 out1) → Goes (dealByClock k out0 out1)
+      by-clock-goes k out0 out1 t goes =
+          subst (λ x. (x .event ≡ said S d v (deal (dealAt k) out0 out1))
+          × At (x .world) (onward g (deal (dealAt k) out0 out1)) (x .event ∷ h)) (sym (as-plain w k out0 out1 t)) goes
+
       goes : (c : Call) → Ready (door S) d v g h c → Goes c
       goes (deal e out0 out1) (m, q, r0, r1) =
           subst (λ y. Goes (deal y out0 out1)) (sym q) (deal-goes-on out0 out1 m r0 r1)
+      goes (dealByClock k out0 out1) (m, q, t, l, r0, r1) =
+          by-clock-goes k out0 out1 t (subst (λ y. Goes (deal y out0 out1)) (sym q) (deal-goes-on out0 out1 m r0 r1))
       goes (load b x) (m, f, i, q) =
           let (last, st, l) = holding b 0 m in
           let made = load-made S d v long R b last [] (omega arith) (none-sound b last)
@@ -216,6 +228,7 @@ module _ (S : Starts) (d : Deal) (v : Box → List ℕ) where
   -- what each of its own calls leaves is an answer
   pub answered : (c : Call) (g : Progress) (h : List Event) → Ready (door S) d v g h c → Answered d v c (said S d v c)
   answered (deal e out0 out1) g h r = (halfOf S d, refl)
+  answered (dealByClock k out0 out1) g h r = (halfOf S d, refl)
   answered (load b x) g h r = refl
   answered (mask b x out) g h r = (maskOf d b (v b), refl)
   answered (take b m) g h r = (wordBy d v b, refl)

@@ -17,7 +17,7 @@ use Rattle.call_party.specs.Party as BoxCalls
 use Rattle.call_party.specs.Party.{masked, worded}
 use Rattle.call_party.specs.Laws.{load-tells}
 use Rattle.door_lists.specs.Lists.{Box, other, put, World, Call, deal, load, mask, take, finish, drop, join}
-use Rattle.door_lists.specs.Lists.{Event, refused, eventOf, step, after, here, there}
+use Rattle.door_lists.specs.Lists.{Event, refused, eventOf, step, after, here, there, dealByClock}
 use Rattle.door_lists.specs.States.{Ends, by-call-4, by-drop, Stays, StaysUntilEnded}
 use Rattle.door_lists.proofs.Accepted.{mask-tells, take-tells}
 use Rattle.door_lists.proofs.Boxes.{put-all}
@@ -91,6 +91,7 @@ loaded-stays s x z o =
 pub step-stays : (w : World) (c : Call) (b : Box) → Spares b (w .box b) (step w c .event) (step w c .world .box b)
 unfolding BoxCalls.load BoxCalls.mask BoxCalls.takeVector BoxCalls.finish BoxCalls.dropSet masked worded
 step-stays w (deal d out0 out1) = λ b o h. still (w .box b)
+step-stays w (dealByClock k out0 out1) = λ b o h. still (w .box b)
 step-stays w (load b x) = on-box w b _ _ _ (λ z o h. loaded-stays (w .box b) x z o)
 step-stays w (mask b v out) =
     on-box w b _ _ _

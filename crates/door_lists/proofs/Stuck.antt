@@ -12,7 +12,7 @@ use Rattle.half_deal.specs.Dealing.{Deal}
 use Rattle.call_dealer.specs.Dealer.{halfSize}
 use Rattle.door_lists.specs.Lists.{Box, camera, office, partyOf, other, World, Starts, Message, Call, deal, load}
 use Rattle.door_lists.specs.Lists.{mask, take, finish, join, Event, dealt, loaded, sent, vector, word, answer}
-use Rattle.door_lists.specs.Lists.{events, In, here, there}
+use Rattle.door_lists.specs.Lists.{events, In, here, there, dealByClock}
 use Rattle.door_lists.specs.Demand.{Progress, nothingMade, madeOne, onward, Ready, Run, start, own, aside, turned}
 use Rattle.door_lists.specs.Demand.{InRange, Whole}
 use Rattle.door_lists.proofs.Boxes.{each, put-all}
@@ -79,6 +79,8 @@ module _ (S : Starts) (d : Deal) (v : Box → List ℕ) where
   pub has-next : (g : Progress) (h : List Event) → Has g h → (c : Call) → Ready (door S) d v g h c → (e : Event)
       → e ≡ said S d v c → Has (onward g c) (e ∷ h)
   has-next g h H (deal x out0 out1) r e q =
+      record { few = H .few; has-deal = λ t. here (sym q); has-left = λ b k l. there (H .has-left b k l) }
+  has-next g h H (dealByClock x out0 out1) r e q =
       record { few = H .few; has-deal = λ t. here (sym q); has-left = λ b k l. there (H .has-left b k l) }
   has-next g h H (load b x) r e q = has-box g h b 0 e H (r .0) (omega arith) q
   has-next g h H (mask b x out) r e q = has-box g h b 1 e H (r .0) (omega arith) q

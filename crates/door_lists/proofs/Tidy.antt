@@ -23,7 +23,7 @@ use Rattle.call_party.specs.Party.{noCheck, idle, noParty, startParty, opened, 
 use Rattle.call_party.specs.Party.{closed, nextCheck, whyNotLoad}
 use Rattle.call_party.specs.Laws.{opened-long}
 use Rattle.door_lists.specs.Lists.{Box, camera, office, put, World, beginning, Call, deal, load, mask}
-use Rattle.door_lists.specs.Lists.{take, finish, drop, join, step, after}
+use Rattle.door_lists.specs.Lists.{take, finish, drop, join, step, after, dealByClock}
 use Rattle.door_lists.specs.States.{PastLength, Tidy, AlwaysTidy}
 
 -- ---- arrays
@@ -170,6 +170,7 @@ put-tidy f office p t q office = q
 step-tidy : (w : World) (c : Call) → ((b : Box) → Tidy (w .box b)) → (b : Box) → Tidy (step w c .world .box b)
 unfolding BoxCalls.load BoxCalls.mask BoxCalls.takeVector BoxCalls.finish BoxCalls.dropSet
 step-tidy w (deal d out0 out1) t = t
+step-tidy w (dealByClock k out0 out1) t = t
 step-tidy w (load b h) t = put-tidy _ b _ t (either _ _ _ (λ z. tidy-loaded (w .box b) h z (t b)) (t b))
 step-tidy w (mask b v out) t = put-tidy _ b _ t (either _ _ _ (λ z. tidy-masked (w .box b) v (t b)) (t b))
 step-tidy w (take b m) t = put-tidy _ b _ t (either _ _ _ (λ z. tidy-worded (w .box b) _ (t b)) (t b))

@@ -11,6 +11,9 @@ use Rattle.half_seal.specs.Half.{openedSet}
 use Rattle.call_dealer.specs.declared.Dealer.{Dealer}
 use Rattle.call_dealer.specs.Dealer as DealerCalls
 use Rattle.call_dealer.specs.Laws.{deal-tells}
+use Rattle.call_dealer.specs.Clock as ClockCalls
+use Rattle.call_dealer.specs.Clock.{dealAt}
+use Rattle.call_dealer.specs.ClockLaws.{clock-tells}
 use Rattle.call_party.specs.declared.Party.{Party}
 use Rattle.call_party.specs.declared.PartyAnswer.{PartyAnswer}
 use Rattle.call_party.specs.Party as BoxCalls
@@ -18,7 +21,7 @@ use Rattle.call_party.specs.Laws.{load-tells}
 use Rattle.call_lock.specs.declared.Lock.{Lock}
 use Rattle.call_lock.specs.Lock as LockCalls
 use Rattle.door_lists.specs.Lists.{Box, World, Call, deal, load, mask, take, finish, drop, join, Event, refused}
-use Rattle.door_lists.specs.Lists.{eventOf, onBox, step}
+use Rattle.door_lists.specs.Lists.{eventOf, onBox, step, dealByClock}
 use Rattle.door_lists.proofs.Accepted.{mask-tells, take-tells, finish-tells, drop-tells, join-tells}
 use Rattle.door_lists.proofs.Boxes.{put-own}
 use Rattle.door_lists.proofs.Written.{new}
@@ -53,12 +56,19 @@ not-closed s some e =
     some (sym (phases e) ∙ ap (λ (t : Set). BoxCalls.nextCheck t .phase) (sym none) ∙ none-next)
 
 pub unmoved : (w : World) (c : Call) → step w c .world ≡ w → Refused (step w c .event)
-unfolding DealerCalls.deal BoxCalls.load BoxCalls.mask BoxCalls.takeVector BoxCalls.finish BoxCalls.dropSet
+unfolding DealerCalls.deal ClockCalls.dealByClock BoxCalls.load BoxCalls.mask BoxCalls.takeVector BoxCalls.finish BoxCalls.dropSet
     LockCalls.join BoxCalls.loaded openedSet setIn BoxCalls.masked BoxCalls.worded
 unmoved w (deal d out0 out1) q =
     no-event _ _ (λ z. omega (
       arith,
       deal-tells (w .dealer) d (length out0) (length out1) z .above,
+      ap (λ (s : Dealer). s .last) (sym (new _ _ (w .dealer) z) ∙ ap (λ y. y .dealer) q),
+    ))
+unmoved w (dealByClock k out0 out1) q =
+    no-event _ _ (λ z. omega (
+      arith,
+      deal-tells (w .dealer) (dealAt k) (length out0) (length out1)
+          (clock-tells (w .dealer) k (length out0) (length out1) z .deal-taken) .above,
       ap (λ (s : Dealer). s .last) (sym (new _ _ (w .dealer) z) ∙ ap (λ y. y .dealer) q),
     ))
 unmoved w (load b x) q =

@@ -17,11 +17,13 @@ use Rattle.measure_table.specs.declared.Rule.the-variants.{Threshold, Between}
 use Rattle.measure_table.specs.Measure.{measure, isCode, lengthFits, allInRange, meets, ruleFits, inOrder, markOf}
 use Rattle.base_messages.specs.Messages.{vectorKind, wordKind, answerKind, padded}
 use Rattle.half_deal.specs.Dealing.{Deal}
+use Rattle.call_day.specs.Table.{day, whyNotTable}
 use Rattle.call_dealer.specs.Dealer.{halfSize}
+use Rattle.call_dealer.specs.Clock.{dealAt}
 use Rattle.call_party.specs.Party.{closed}
 use Rattle.door_lists.specs.Lists.{Box, camera, office, partyOf, other, sameBox, put, World, Starts, Started}
-use Rattle.door_lists.specs.Lists.{beginning, Message, Call, deal, load, mask, take, finish, drop, join, Body}
-use Rattle.door_lists.specs.Lists.{vector, word, answer, Event, dealt, loaded, sent, dropped, joined, refused}
+use Rattle.door_lists.specs.Lists.{beginning, Message, Call, deal, dealByClock, load, mask, take, finish, drop}
+use Rattle.door_lists.specs.Lists.{join, Body, vector, word, answer, Event, dealt, loaded, sent, dropped, joined, refused}
 use Rattle.door_lists.specs.Lists.{step, after, events, In, SentVector, SentWord, SentAnswer, history, Admissible}
 
 -- ---- what a list's accepted calls were
@@ -188,6 +190,7 @@ madeOne g b = record { begun = g .begun; made = put (g .made) b (suc (g .made b)
 
 abbrev pub onward : Progress → Call → Progress
 onward g (deal d out0 out1) = record { begun = true; made = g .made; ended = g .ended }
+onward g (dealByClock k out0 out1) = record { begun = true; made = g .made; ended = g .ended }
 onward g (load b h) = madeOne g b
 onward g (mask b v out) = madeOne g b
 onward g (take b m) = madeOne g b
@@ -207,6 +210,11 @@ module _ (door : List ℕ) (d : Deal) (v : Box → List ℕ) where
   abbrev pub Ready : Progress → List Event → Call → Type 0
   Ready g h (deal e out0 out1) =
       (g .begun ≡ false) × (e ≡ d) × (halfSize (d .terms .n) ≤ length out0) × (halfSize (d .terms .n) ≤ length out1)
+  -- "The run that is always answered, where it is dealt by the clock, needs a table that 14 to 16 let through and a
+  -- minute from 0 to 1,439" (02, §5)
+  Ready g h (dealByClock k out0 out1) =
+      (g .begun ≡ false) × (dealAt k ≡ d) × (whyNotTable (k .table) .why ≡ 0) × (k .minute < day)
+      × (halfSize (d .terms .n) ≤ length out0) × (halfSize (d .terms .n) ≤ length out1)
   Ready g h (load b half) = (g .made b ≡ 0) × (f : Box → List ℕ) × In (dealt d f) h × (half ≡ f b)
   Ready g h (mask b x out) = (g .made b ≡ 1) × (x ≡ v b) × (d .terms .n ≤ length out)
   Ready g h (take b m) =
@@ -237,6 +245,7 @@ module _ (door : List ℕ) (d : Deal) (v : Box → List ℕ) where
 -- call's box and "all under one number", and a join reports what it should [SPEC 28.1, 28.7, 28.9]
 abbrev pub Answered : Deal → (Box → List ℕ) → Call → Event → Type 0
 Answered d v (deal e out0 out1) x = (f : Box → List ℕ) × (x ≡ dealt d f)
+Answered d v (dealByClock k out0 out1) x = (f : Box → List ℕ) × (x ≡ dealt d f)
 Answered d v (load b half) x = x ≡ loaded b (d .number)
 Answered d v (mask b y out) x = (m : List ℕ) × (x ≡ sent b (d .number) (vector (v b) m))
 Answered d v (take b m) x = (w : ℕ) × (x ≡ sent b (d .number) (word w))

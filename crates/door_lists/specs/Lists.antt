@@ -12,7 +12,10 @@ use Rattle.half_content.specs.Content.{blockBytes, part}
 use Rattle.half_seal.specs.Half.{blockAt, setNumber}
 use Rattle.call_dealer.specs.declared.Dealer.{Dealer}
 use Rattle.call_dealer.specs.declared.DealerAnswer.{DealerAnswer}
+use Rattle.call_dealer.specs.declared.ClockAnswer.{ClockAnswer}
 use Rattle.call_dealer.specs.Dealer as DealerCalls
+use Rattle.call_dealer.specs.Clock as ClockCalls
+use Rattle.call_dealer.specs.Clock.{ClockDeal, dealAt}
 use Rattle.half_deal.specs.Dealing.{Deal}
 use Rattle.call_dealer.specs.Dealer.{halfSize}
 use Rattle.call_party.specs.declared.Party.{Party}
@@ -89,6 +92,8 @@ pub data Call : Type 0 where
   -- what is to be dealt, by a threshold or between two marks, and the two buffers lent. 02, §4's deal is a call of the
   -- list too: "A later request's calls on these parts may stand in it too" [SPEC 25.5]
   deal : Deal → List ℕ → List ℕ → Call
+  -- the same by the clock (02, §5)
+  dealByClock : ClockDeal → List ℕ → List ℕ → Call
   -- a half
   load : Box → List ℕ → Call
   -- call 2: the box's own vector, and the buffer lent
@@ -137,9 +142,9 @@ put f office a office = a
 abbrev pub eventOf : ℕ → Event → Event
 eventOf why e = ifTaken why e (refused why)
 
-abbrev pub onDealer : World → DealerAnswer → Event → Step
-onDealer w a e =
-    record { world = record { dealer = a .dealer; box = w .box; lock = w .lock }; event = eventOf (a .why) e }
+abbrev pub onDealer : World → ℕ → Dealer → Event → Step
+onDealer w why next e =
+    record { world = record { dealer = next; box = w .box; lock = w .lock }; event = eventOf why e }
 
 abbrev pub onBox : World → Box → PartyAnswer → Event → Step
 onBox w b a e = record {
@@ -156,13 +161,21 @@ onLock w a e =
 abbrev pub written : Dealer → Deal → List ℕ → List ℕ → Box → List ℕ
 written s d out0 out1 b = part 0 (halfSize (d .terms .n)) (DealerCalls.dealOut s d out0 out1 (partyOf b))
 
+abbrev pub writtenByClock : Dealer → ClockDeal → List ℕ → List ℕ → Box → List ℕ
+writtenByClock s k out0 out1 b = part 0 (halfSize (k .terms .n)) (ClockCalls.clockOut s k out0 out1 (partyOf b))
+
 abbrev pub maskedBy : Party → List ℕ → List ℕ → List ℕ
 maskedBy s v out = part 0 (s .check .set .terms .n) (BoxCalls.maskOut s v out)
 
 abbrev pub step : World → Call → Step
 step w (deal d out0 out1) =
     let s : Dealer = w .dealer in
-    onDealer w (DealerCalls.deal s d (length out0) (length out1)) (dealt d (written s d out0 out1))
+    let a : DealerAnswer = DealerCalls.deal s d (length out0) (length out1) in
+    onDealer w (a .why) (a .dealer) (dealt d (written s d out0 out1))
+step w (dealByClock k out0 out1) =
+    let s : Dealer = w .dealer in
+    let a : ClockAnswer = ClockCalls.dealByClock s k (length out0) (length out1) in
+    onDealer w (a .why) (a .dealer) (dealt (dealAt k) (writtenByClock s k out0 out1))
 step w (load b h) = onBox w b (BoxCalls.load (w .box b) h) (loaded b (setNumber h))
 step w (mask b v out) =
     let s : Party = w .box b in
@@ -199,6 +212,7 @@ pub data In {A : Type 0} (a : A) : List A → Type 0 where
 -- that needed, which has 64 bits ("A set has a 64-bit number") [SPEC 2.6, 26.4]
 abbrev pub Fits : Call → Type 0
 Fits (deal d out0 out1) = d .number < 2 ^ 64
+Fits (dealByClock k out0 out1) = k .number < 2 ^ 64
 Fits (load b h) = Unit {0}
 Fits (mask b v out) = Unit {0}
 Fits (take b m) = Unit {0}
@@ -230,6 +244,7 @@ SentAnswer e b n content = In (sent b n (answer content)) e
 
 abbrev pub Admits : List ℕ → List Event → Call → Type 0
 Admits door e (deal d out0 out1) = Unit {0}
+Admits door e (dealByClock k out0 out1) = Unit {0}
 Admits door e (load b h) = (i : ℕ) → i < length h / blockBytes → Written e b (blockAt h i)
 Admits door e (mask b v out) = Unit {0}
 Admits door e (take b m) = Sent door vectorKind (SentVector e) m

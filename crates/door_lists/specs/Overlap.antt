@@ -11,8 +11,8 @@ use Rattle.measure_table.specs.declared.Terms.{Terms}
 use Rattle.measure_table.specs.Measure.{markOf}
 use Rattle.base_messages.specs.Messages.{padded}
 use Rattle.half_deal.specs.Dealing.{Deal}
-use Rattle.door_lists.specs.Lists.{Box, camera, office, other, put, World, Starts, Started, beginning, Call, deal}
-use Rattle.door_lists.specs.Lists.{load, mask, take, finish, drop, join, Event, dropped, joined, refused, step}
+use Rattle.door_lists.specs.Lists.{Box, camera, office, other, put, World, Starts, Started, beginning, Call}
+use Rattle.door_lists.specs.Lists.{deal, dealByClock, load, mask, take, finish, drop, join, Event, dropped, joined, refused, step}
 use Rattle.door_lists.specs.Lists.{after, events, In, history, Admissible}
 use Rattle.door_lists.specs.Demand.{verdict, Progress, nothingMade, onward, Ready, Answered, InRange, Free, Whole}
 
@@ -38,6 +38,7 @@ UnderWay g b = (1 ≤ g .made b) × (g .made b ≤ 3)
 -- what they do of the second
 abbrev pub FirstInOrder : Both → Call → Type 0
 FirstInOrder g (deal x out0 out1) = g .second .begun ≡ false
+FirstInOrder g (dealByClock k out0 out1) = g .second .begun ≡ false
 FirstInOrder g (load b h) = g .second .made b ≡ 0
 FirstInOrder g (mask b x out) = Unit {0}
 FirstInOrder g (take b m) = Unit {0}
@@ -49,6 +50,7 @@ FirstInOrder g (join m n) = g .second .ended ≡ false
 -- is answered or dropped."
 abbrev pub SecondInOrder : Both → Call → Type 0
 SecondInOrder g (deal x out0 out1) = g .first .begun ≡ true
+SecondInOrder g (dealByClock k out0 out1) = g .first .begun ≡ true
 SecondInOrder g (load b x) = 1 ≤ g .first .made b
 SecondInOrder g (mask b x out) = 4 ≤ g .first .made b
 SecondInOrder g (take b m) = 4 ≤ g .first .made b

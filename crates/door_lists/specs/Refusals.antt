@@ -7,14 +7,16 @@ use Prim.Native.Nat.{ℕ}
 use lib.ListN.{length}
 use Rattle.base_messages.specs.Messages.{cameraParty, officeParty, outOfTurn}
 use Rattle.call_dealer.specs.Dealer as DealerCalls
+use Rattle.call_dealer.specs.Clock as ClockCalls
 use Rattle.call_party.specs.Party as BoxCalls
 use Rattle.call_lock.specs.Lock as LockCalls
-use Rattle.door_lists.specs.Lists.{Box, World, Message, Call, deal, load, mask, take, finish, drop, join, refused}
-use Rattle.door_lists.specs.Lists.{step}
+use Rattle.door_lists.specs.Lists.{Box, World, Message, Call, deal, dealByClock, load, mask, take, finish, drop}
+use Rattle.door_lists.specs.Lists.{join, refused, step}
 
 -- the buffers lent to a call
 abbrev pub lent : Call → List (List ℕ)
 lent (deal d out0 out1) = out0 ∷ out1 ∷ []
+lent (dealByClock k out0 out1) = out0 ∷ out1 ∷ []
 lent (load b h) = []
 lent (mask b v out) = out ∷ []
 lent (take b m) = []
@@ -28,6 +30,9 @@ abbrev pub lentAfter : World → Call → List (List ℕ)
 lentAfter w (deal d out0 out1) =
     DealerCalls.dealOut (w .dealer) d out0 out1 cameraParty
     ∷ DealerCalls.dealOut (w .dealer) d out0 out1 officeParty ∷ []
+lentAfter w (dealByClock k out0 out1) =
+    ClockCalls.clockOut (w .dealer) k out0 out1 cameraParty
+    ∷ ClockCalls.clockOut (w .dealer) k out0 out1 officeParty ∷ []
 lentAfter w (load b h) = []
 lentAfter w (mask b v out) = BoxCalls.maskOut (w .box b) v out ∷ []
 lentAfter w (take b m) = []
@@ -35,9 +40,11 @@ lentAfter w (finish b m) = []
 lentAfter w (drop b) = []
 lentAfter w (join m n) = []
 
--- the word or the bit that the answer has beside its number
+-- the word or the bit that the answer has beside its number. Of the place, which a deal by the clock has there,
+-- `call_dealer` ClockLaws speaks.
 abbrev pub said : World → Call → ℕ
 said w (deal d out0 out1) = 0
+said w (dealByClock k out0 out1) = 0
 said w (load b h) = BoxCalls.load (w .box b) h .word
 said w (mask b v out) = BoxCalls.mask (w .box b) v (length out) .word
 said w (take b m) = BoxCalls.takeVector (w .box b) (m .label) (m .name) (m .content) .word
