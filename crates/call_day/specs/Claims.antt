@@ -400,10 +400,19 @@ module _ (t : Table) (minute : ℕ) where
 
 -- ---- tables worked out
 
--- one row of the whole day
-whole-day : whyNotTable (tableOf (0 ∷ []) (1439 ∷ []) (7 ∷ [])) ≡ verdict 0 0
+-- one row of the whole day, whatever its threshold: so there is a good table
+abbrev pub wholeDay : ℕ → Table
+wholeDay threshold = tableOf (0 ∷ []) (1439 ∷ []) (threshold ∷ [])
+
+pub whole-day : (threshold : ℕ) → whyNotTable (wholeDay threshold) ≡ verdict 0 0
 unfolding whyNotTable shaped firstBadRow firstBadMinute rowsWith badRow badMinute holds least count
-whole-day = refl
+whole-day threshold = refl
+
+pub whole-day-row : (threshold minute : ℕ) → minute < day
+    → choose (wholeDay threshold) minute ≡ record { why = 0; place = 1; threshold = threshold }
+unfolding choose rowAt holds least
+whole-day-row threshold minute h =
+    rw (whole-day threshold, lt-ltb minute day h, le-leb 0 minute (omega arith), le-leb minute 1439 (omega arith)) refl
 
 -- minute 300 in two rows and minute 900 in none: the lower one decides
 lower-first :

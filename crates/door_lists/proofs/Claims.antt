@@ -3,31 +3,34 @@
 use mathlib.Core.Path.{_≡_, refl, sym, ap, subst, _∙_}
 use mathlib.Core.Bool.{Bool, true, cond}
 use mathlib.Core.List.{List, [], _∷_}
-use Prim.Native.Nat.{ℕ, zero, suc, _<_, _≤_}
+use Prim.Native.Nat.{ℕ, _<_, _≤_}
 use native.Mathlib.Omega.{arith}
 use borrow.Author.Tests.{lt-ltb}
+use lib.ListN.{replicate}
 use Rattle.measure_table.specs.declared.Terms.{Terms}
 use lib.IntN.{ℤ}
 use Rattle.base_algebra.specs.Word.{signed}
 use Rattle.measure_table.specs.declared.Rule.{Rule}
 use Rattle.measure_table.specs.declared.Rule.the-variants.{Threshold, Between}
-use Rattle.measure_table.specs.Measure.{ordinaryMark, isCode, measure, meets, within}
+use Rattle.measure_table.specs.Measure.{ordinaryMark, isCode, measure, meets, inOrder, within}
 use Rattle.measure_table.specs.Laws.{any-length, scalar-sign, distance-sign, reached-plain, reached-close}
 use Rattle.half_deal.specs.Dealing.{Deal}
+use Rattle.call_day.specs.Table.{day}
+use Rattle.call_dealer.specs.Dealer.{halfSize}
 use Rattle.door_lists.specs.Lists.{Box, Starts, Started, beginning, Call, camera, office, joined, after, events}
-use Rattle.door_lists.specs.Lists.{history, Admissible}
+use Rattle.door_lists.specs.Lists.{history, Admissible, deal}
 use Rattle.door_lists.specs.Demand.{nothingMade, Answered, Free, NoWrongReport, NoReuse, AlwaysAnswered}
 use Rattle.door_lists.specs.Demand.{verdict, NeverStuck, CanEnd, CanDrop, Example, OfMark, NotEmpty, VerdictIs}
-use Rattle.door_lists.specs.Demand.{Demand3}
+use Rattle.door_lists.specs.Demand.{ByClock, Demand3}
 use Rattle.door_lists.proofs.Once.{single}
 use Rattle.door_lists.proofs.History.{look, in-deals, in-vectors}
 use Rattle.door_lists.proofs.Invariant.{Inv, starts, door-long}
 use Rattle.door_lists.proofs.Keeps.{keeps}
 use Rattle.door_lists.proofs.Runs.{At, ready, run-goes, answered}
-use Rattle.door_lists.proofs.Stuck.{never}
+use Rattle.door_lists.proofs.Stuck.{never, room}
 use Rattle.door_lists.proofs.Ends.{ended}
 use Rattle.door_lists.proofs.Drops.{dropped-then}
-use Rattle.door_lists.proofs.NotEmpty.{Sample, sample-any, sample-of, example, some-starts}
+use Rattle.door_lists.proofs.NotEmpty.{Sample, sample-any, sample-of, example, by-clock, some-starts}
 
 pub always : (s : Starts) → Started s → (cs : List Call) → Admissible s cs
     → Inv s (history s cs) (after (beginning s) cs)
@@ -75,7 +78,10 @@ never-stuck s f cs a d v R F = never s d v (door-long s f) R (after (beginning s
 
 can-end : CanEnd
 unfolding CanEnd
-can-end s f cs a d v R F = ended s f cs a d v R F (begins s f cs a d v F)
+can-end s f cs a d v R F =
+    let out : List ℕ = replicate (halfSize (d .terms .n)) 0 in
+    let enough = room (halfSize (d .terms .n)) in
+    (ended s f cs a d v R F (begins s f cs a d v F), (deal d out out, (refl, refl, enough, enough)))
 
 can-drop : CanDrop
 unfolding CanDrop
@@ -88,16 +94,20 @@ unfolding isCode
 coded terms h = lt-ltb _ _ h
 
 not-empty : NotEmpty
-unfolding NotEmpty
+unfolding NotEmpty inOrder
 not-empty = (
   λ s f cs a n terms small c some most F.
       let run : (rule : Rule) (bit : ℕ) → Sample terms rule bit → Example s cs n terms rule bit =
       λ rule bit p.
       example n terms small (coded terms c) (any-length terms some most) rule bit p can-end s f cs a F in
+      let at : (minute t bit : ℕ) → minute < day → Sample terms (Threshold t) bit → ByClock s cs n terms minute t bit =
+      λ minute t bit h p.
+      by-clock n terms small (coded terms c) (any-length terms some most) t bit p minute h can-end s f cs a F in
       let of-mark : (mark bit : ℕ) → mark ≤ 1 → bit ≤ 1 → OfMark s cs n terms mark bit =
       λ mark bit h k. let (rule, is, p) = sample-of terms some mark bit h k in (rule, is, run rule bit p) in (
         λ mark h. (of-mark mark 1 h (omega arith), of-mark mark 0 h (omega arith)),
         λ rule fits ordered. (_, run rule _ (sample-any terms rule fits ordered)),
+        λ minute t h fits. (_, at minute t _ h (sample-any terms (Threshold t) fits refl)),
       ),
   some-starts,
 )

@@ -1,5 +1,5 @@
--- A deal by the clock (02, §5) is a step of the plain deal with the chosen row's threshold, or it is refused and changes
--- nothing. Assumes nothing.
+-- A deal by the clock (02, §5) is a step of the plain deal with the chosen row's threshold, or it is refused and
+-- changes nothing. Assumes nothing.
 use mathlib.Core.Path.{_≡_, refl, sym, ap, subst}
 use mathlib.Core.Bool.{Bool, true, false}
 use mathlib.Core.List.{List}

@@ -1,16 +1,18 @@
 -- After an admissible list that leaves no set open a run in the right order can be made to its end, and list and run
 -- are one admissible list. Assumes nothing.
 use mathlib.Core.Path.{_≡_, refl, sym, ap, ap₂, subst, _∙_}
+use mathlib.Core.Bool.{true, false}
 use mathlib.Core.List.{List, [], _∷_, _++_}
 use Prim.Native.Nat.{ℕ, _/_, _^_, _<_}
+use native.Mathlib.Omega.{arith}
 use lib.ListN.{length, replicate}
 use Rattle.half_seal.specs.Half.{blockAt}
 use Rattle.half_deal.specs.Dealing.{Deal}
 use Rattle.call_dealer.specs.Dealer.{halfSize}
 use Rattle.door_lists.specs.Lists.{Box, camera, office, other, World, Starts, Started, beginning, Message, Call}
-use Rattle.door_lists.specs.Lists.{deal, load, mask, take, finish, join, Event, step, after, events, In, here}
+use Rattle.door_lists.specs.Lists.{deal, load, mask, take, finish, join, Event, dealt, step, after, events, In}
 use Rattle.door_lists.specs.Lists.{there, Fits, Sent, SentVector, SentWord, SentAnswer, Admits, history}
-use Rattle.door_lists.specs.Lists.{Admissible, dealByClock}
+use Rattle.door_lists.specs.Lists.{Admissible, dealByClock, here}
 use Rattle.door_lists.specs.Demand.{Progress, nothingMade, onward, Labelled, Ready, Run, start, own, InRange}
 use Rattle.door_lists.specs.Demand.{Free, Ended}
 use Rattle.door_lists.proofs.Boxes.{both}
@@ -71,9 +73,8 @@ module _ (s : Starts) (start-ok : Started s) (cs : List Call) (list-ok : Admissi
   world = after (beginning s) cs
 
   module _ (A : At s d v world nothingMade []) where
-    -- a run that is so far, with these events
-    record Reached (g : Progress) (es : List Event) : Type 0 where
-      rs : List Call
+    -- a run of these calls that is so far, with these events
+    record Reached (rs : List Call) (g : Progress) (es : List Event) : Type 0 where
       run : Run (door s) d v world rs g
       admissible : Admissible s (rs ++ cs)
       events-are : events world rs ≡ es
@@ -81,15 +82,14 @@ module _ (s : Starts) (start-ok : Started s) (cs : List Call) (list-ok : Admissi
     in-both : (rs : List Call) (e : Event) → In e (events world rs) → In e (history s (rs ++ cs))
     in-both rs e i = subst (In e) (sym (events-both (beginning s) rs cs)) (in-left (events world rs) (history s cs) i)
 
-    next : {g : Progress} {es : List Event} → Reached g es → (c : Call) → Ready (door s) d v g es c
-        → Reached (onward g c) (said s d v c ∷ es)
-    next {g} {es} t c q =
-        let rs = t .rs in
+    next : {rs : List Call} {g : Progress} {es : List Event} → Reached rs g es
+        → (c : Call) → Ready (door s) d v g es c
+        → Reached (c ∷ rs) (onward g c) (said s d v c ∷ es)
+    next {rs} {g} {es} t c q =
         let h : List Event = events world rs in
         let r : Ready (door s) d v g h c = subst (λ z. Ready (door s) d v g z c) (sym (t .events-are)) q in
         let e = run-goes s d v (door-long s start-ok) R world A rs g (t .run) c r in
         record {
-          rs = c ∷ rs;
           run = own (t .run) c r;
           admissible = (
             t .admissible,
@@ -99,20 +99,32 @@ module _ (s : Starts) (start-ok : Started s) (cs : List Call) (list-ok : Admissi
           events-are = ap₂ _∷_ e (t .events-are);
         }
 
-    history-is : {g : Progress} {es : List Event} (t : Reached g es) → history s (t .rs ++ cs) ≡ es ++ history s cs
-    history-is t = events-both (beginning s) (t .rs) cs ∙ ap (λ h. h ++ history s cs) (t .events-are)
+    history-is : {rs : List Call} {g : Progress} {es : List Event} → Reached rs g es
+        → history s (rs ++ cs) ≡ es ++ history s cs
+    history-is {rs} t = events-both (beginning s) rs cs ∙ ap (λ h. h ++ history s cs) (t .events-are)
 
-    free-then : {g : Progress} {es : List Event} (t : Reached g es) (n : ℕ) → Free s (es ++ history s cs) n
-        → Free s (history s (t .rs ++ cs)) n
+    free-then : {rs : List Call} {g : Progress} {es : List Event} → Reached rs g es
+        → (n : ℕ) → Free s (es ++ history s cs) n → Free s (history s (rs ++ cs)) n
     free-then t n f = subst (λ h. Free s h n) (sym (history-is t)) f
 
-    pub ended : Ended s cs d v
-    ended =
-        let half : List ℕ = replicate (halfSize (d .terms .n)) 0 in
+    none : Reached [] nothingMade []
+    none = record { run = start; admissible = list-ok; events-are = refl }
+
+    -- its first call is its deal, of either kind
+    begun : (first : Call) → Ready (door s) d v nothingMade [] first
+        → Reached (first ∷ []) (record { begun = true; made = λ b. 0; ended = false }) (dealt d (halfOf s d) ∷ [])
+    begun (deal e out0 out1) r = next none (deal e out0 out1) r
+    begun (dealByClock k out0 out1) r = next none (dealByClock k out0 out1) r
+    begun (load b h) (m, f, i, q) = elim i [ ]
+    begun (mask b x out) r = absurd (omega (arith, r .0))
+    begun (take b m) r = absurd (omega (arith, r .0))
+    begun (finish b m) r = absurd (omega (arith, r .0))
+    begun (join m n) r = elim (r .2) [ ]
+
+    pub ended : (first : Call) → Ready (door s) d v nothingMade [] first → Ended s cs d v first
+    ended first r =
         let out : List ℕ = replicate (d .terms .n) 0 in
-        let t0 : Reached nothingMade [] = record { rs = []; run = start; admissible = list-ok; events-are = refl } in
-        let t1 =
-        next t0 (deal d half half) (refl, refl, room (halfSize (d .terms .n)), room (halfSize (d .terms .n))) in
+        let t1 = begun first r in
         let t2 = next t1 (load camera (halfOf s d camera)) (refl, halfOf s d, here refl, refl) in
         let t3 = next t2 (load office (halfOf s d office)) (refl, halfOf s d, there (here refl), refl) in
         let t4 = next t3 (mask camera (v camera) out) (refl, refl, room (d .terms .n)) in
@@ -124,7 +136,9 @@ module _ (s : Starts) (start-ok : Started s) (cs : List Call) (list-ok : Admissi
         let both-answers = join (answerFrom s d v camera) (answerFrom s d v office) in
         let t = next t9 both-answers (refl, (refl, refl), there (here refl), (refl, refl), here refl) in
         record {
-          rs = t .rs;
+          rs = _;
+          later = _ ∷ _ ∷ _ ∷ _ ∷ _ ∷ _ ∷ _ ∷ _ ∷ _ ∷ [];
+          begins = refl;
           g = _;
           run = t .run;
           whole = (refl, both _ refl refl, refl);

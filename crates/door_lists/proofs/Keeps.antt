@@ -22,8 +22,9 @@ use Rattle.call_lock.specs.declared.Lock.{Lock}
 use Rattle.call_lock.specs.Lock as LockCalls
 use Rattle.call_lock.specs.Lock.{whyNotJoin}
 use Rattle.door_lists.specs.Lists.{Box, camera, office, other, World, Starts, Message, Call, deal, load}
-use Rattle.door_lists.specs.Lists.{dealByClock, mask, take, finish, drop, join, Event, dealt, sent, joined, refused, vector, answer}
-use Rattle.door_lists.specs.Lists.{put, eventOf, onBox, written, step, Fits, SentAnswer, Admits}
+use Rattle.door_lists.specs.Lists.{dealByClock, mask, take, finish, drop, join, Event, dealt, sent, joined}
+use Rattle.door_lists.specs.Lists.{refused, vector, answer, put, eventOf, onBox, written, step, Fits, SentAnswer}
+use Rattle.door_lists.specs.Lists.{Admits}
 use Rattle.door_lists.specs.Demand.{deals, lastDealt}
 use Rattle.door_lists.proofs.Clock.{by-clock}
 use Rattle.door_lists.proofs.Accepted.{Heard, join-tells}

@@ -20,14 +20,21 @@ use Rattle.measure_table.specs.declared.Rule.the-variants.{Threshold, Between}
 use Rattle.measure_table.specs.Laws.{scalar-sign, distance-sign, reached-plain, reached-close, reached-equal}
 use Rattle.measure_table.specs.Measure as Measure
 use Rattle.base_words.specs.List.{same}
-use Rattle.base_messages.specs.Messages.{unless, nameFits, printable, isKey}
+use Rattle.base_messages.specs.Messages.{unless, nameFits, padded, printable, isKey}
 use Rattle.call_party.specs.Party.{startParty, whyNotParty}
 use Rattle.call_lock.specs.Lock.{startLock, whyNotLock}
 use Rattle.half_deal.specs.Dealing.{Deal, dealFrom}
-use Rattle.call_dealer.specs.Dealer.{startDealer, whyNotDealer}
-use Rattle.door_lists.specs.Lists.{Box, camera, office, partyOf, Starts, Started, Call, history, Admissible}
-use Rattle.door_lists.specs.Demand.{InRange, Free, CanEnd, Example}
+use Rattle.call_day.specs.declared.Verdict.{Verdict}
+use Rattle.call_day.specs.declared.Choice.{Choice}
+use Rattle.call_day.specs.Table.{day}
+use Rattle.call_day.specs.Claims.{wholeDay, whole-day, whole-day-row}
+use Rattle.call_dealer.specs.Dealer.{startDealer, whyNotDealer, halfSize}
+use Rattle.call_dealer.specs.Clock.{ClockDeal, clockFrom, dealAt}
+use Rattle.door_lists.specs.Lists.{Box, camera, office, partyOf, Starts, Started, Call, dealByClock, history}
+use Rattle.door_lists.specs.Lists.{Admissible}
+use Rattle.door_lists.specs.Demand.{nothingMade, Ready, InRange, Free, CanEnd, Example, ByClock}
 use Rattle.door_lists.proofs.Boxes.{both}
+use Rattle.door_lists.proofs.Stuck.{room}
 
 -- ---- two vectors of zeros: their measure is 0 under every code, and T = 0 is reached
 
@@ -236,20 +243,51 @@ module _ (n : ℕ) (terms : Terms) (small : n < 2 ^ 64) (coded : isCode (terms .
         elements-fit = p .elements-fit;
       }
 
+  -- .. which begins with a call that it may begin with
+  begins-with : CanEnd → (s : Starts) → Started s → (cs : List Call) → Admissible s cs → Free s (history s cs) n
+      → (first : Call) → Ready (padded (s .name)) sampleDeal (p .v) nothingMade [] first
+      → (e : Example s cs n terms rule bit) × (e .first ≡ first)
+  unfolding CanEnd
+  begins-with ends s f cs a F first r = (
+    record {
+      d = sampleDeal;
+      v = p .v;
+      number-is = refl;
+      terms-are = refl;
+      rule-is = refl;
+      in-range = sample-range;
+      first = first;
+      ended = ends s f cs a sampleDeal (p .v) sample-range F .0 first r;
+      says = p .says;
+    },
+    refl,
+  )
+
   pub example : CanEnd → (s : Starts) → Started s → (cs : List Call) → Admissible s cs → Free s (history s cs) n
       → Example s cs n terms rule bit
   unfolding CanEnd
   example ends s f cs a F =
-      record {
-        d = sampleDeal;
-        v = p .v;
-        number-is = refl;
-        terms-are = refl;
-        rule-is = refl;
-        in-range = sample-range;
-        ended = ends s f cs a sampleDeal (p .v) sample-range F;
-        says = p .says;
-      }
+      let (first, r) = ends s f cs a sampleDeal (p .v) sample-range F .1 in begins-with ends s f cs a F first r .0
+
+-- .. by the clock: a table of one row
+module _ (n : ℕ) (terms : Terms) (small : n < 2 ^ 64) (coded : isCode (terms .code) ≡ true)
+    (long : lengthFits terms ≡ true) (t bit : ℕ) (p : Sample terms (Threshold t) bit)
+    (minute : ℕ) (h : minute < day) where
+  abbrev sampleClock : ClockDeal
+  sampleClock = clockFrom n (replicate 32 0) terms (wholeDay t) minute
+
+  pub by-clock : CanEnd → (s : Starts) → Started s → (cs : List Call) → Admissible s cs → Free s (history s cs) n
+      → ByClock s cs n terms minute t bit
+  by-clock ends s f cs a F =
+      let out : List ℕ = replicate (halfSize (terms .n)) 0 in
+      let enough = room (halfSize (terms .n)) in
+      let is : dealAt sampleClock ≡ dealFrom n (replicate 32 0) terms (Threshold t) =
+      ap (λ (c : Choice). dealFrom n (replicate 32 0) terms (Threshold (c .threshold))) (whole-day-row t minute h) in
+      let taken = ap (λ (v : Verdict). v .why) (whole-day t) in
+      let (e, first-is) =
+      begins-with n terms small coded long (Threshold t) bit p ends s f cs a F (dealByClock sampleClock out out)
+      (refl, is, taken, h, enough, enough) in
+      (sampleClock, refl, e, out, out, first-is)
 
 -- ---- a door named "A", with floors of zero
 

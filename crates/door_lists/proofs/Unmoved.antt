@@ -56,8 +56,8 @@ not-closed s some e =
     some (sym (phases e) ∙ ap (λ (t : Set). BoxCalls.nextCheck t .phase) (sym none) ∙ none-next)
 
 pub unmoved : (w : World) (c : Call) → step w c .world ≡ w → Refused (step w c .event)
-unfolding DealerCalls.deal ClockCalls.dealByClock BoxCalls.load BoxCalls.mask BoxCalls.takeVector BoxCalls.finish BoxCalls.dropSet
-    LockCalls.join BoxCalls.loaded openedSet setIn BoxCalls.masked BoxCalls.worded
+unfolding DealerCalls.deal ClockCalls.dealByClock BoxCalls.load BoxCalls.mask BoxCalls.takeVector BoxCalls.finish
+    BoxCalls.dropSet LockCalls.join BoxCalls.loaded openedSet setIn BoxCalls.masked BoxCalls.worded
 unmoved w (deal d out0 out1) q =
     no-event _ _ (λ z. omega (
       arith,

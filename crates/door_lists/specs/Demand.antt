@@ -19,12 +19,13 @@ use Rattle.base_messages.specs.Messages.{vectorKind, wordKind, answerKind, padd
 use Rattle.half_deal.specs.Dealing.{Deal}
 use Rattle.call_day.specs.Table.{day, whyNotTable}
 use Rattle.call_dealer.specs.Dealer.{halfSize}
-use Rattle.call_dealer.specs.Clock.{dealAt}
+use Rattle.call_dealer.specs.Clock.{ClockDeal, dealAt}
 use Rattle.call_party.specs.Party.{closed}
 use Rattle.door_lists.specs.Lists.{Box, camera, office, partyOf, other, sameBox, put, World, Starts, Started}
 use Rattle.door_lists.specs.Lists.{beginning, Message, Call, deal, dealByClock, load, mask, take, finish, drop}
-use Rattle.door_lists.specs.Lists.{join, Body, vector, word, answer, Event, dealt, loaded, sent, dropped, joined, refused}
-use Rattle.door_lists.specs.Lists.{step, after, events, In, SentVector, SentWord, SentAnswer, history, Admissible}
+use Rattle.door_lists.specs.Lists.{join, Body, vector, word, answer, Event, dealt, loaded, sent, dropped, joined}
+use Rattle.door_lists.specs.Lists.{refused, step, after, events, In, SentVector, SentWord, SentAnswer, history}
+use Rattle.door_lists.specs.Lists.{Admissible}
 
 -- ---- what a list's accepted calls were
 
@@ -300,9 +301,12 @@ NeverStuck = (s : Starts) → Started s → (cs : List Call) → Admissible s cs
     → Whole g ⊎ ((c : Call) × Ready (padded (s .name)) d v g (events w rs) c))
 
 -- "The run in the right order follows the list": a whole run rs after the list cs. Both are one admissible list; its
--- last call is the join, which is accepted and right; and then every higher number is free. [SPEC 28.1, 28.11]
-pub record Ended (s : Starts) (cs : List Call) (d : Deal) (v : Box → List ℕ) : Type 0 where
+-- first call is this one, its last the join, which is accepted and right; and then every higher number is free.
+-- [SPEC 28.1, 28.11]
+pub record Ended (s : Starts) (cs : List Call) (d : Deal) (v : Box → List ℕ) (first : Call) : Type 0 where
   pub rs : List Call
+  pub later : List Call
+  pub begins : rs ≡ later ++ first ∷ []
   pub g : Progress
   pub run : Run (padded (s .name)) d v (after (beginning s) cs) rs g
   pub whole : Whole g
@@ -311,10 +315,13 @@ pub record Ended (s : Starts) (cs : List Call) (d : Deal) (v : Box → List ℕ)
   pub says : history s (rs ++ cs) ≡ joined (d .number) (verdict d (v camera) (v office)) ∷ before
   pub free : (n : ℕ) → d .number < n → Free s (history s (rs ++ cs)) n
 
--- after every admissible list that leaves no set open, for every deal and vectors in range there is such a run
+-- after every admissible list that leaves no set open, for every deal and vectors in range there is such a run, with
+-- every call that it may begin with, and there is such a call
 unfoldable pub CanEnd : Type 0
 CanEnd = (s : Starts) → Started s → (cs : List Call) → Admissible s cs → (d : Deal) (v : Box → List ℕ) → InRange d v
-    → Free s (history s cs) (d .number) → Ended s cs d v
+    → Free s (history s cs) (d .number)
+    → ((first : Call) → Ready (padded (s .name)) d v nothingMade [] first → Ended s cs d v first)
+    × ((first : Call) × Ready (padded (s .name)) d v nothingMade [] first)
 
 -- "Drop ends the open set", 02, §1: "Drop acts on the open set only": after every admissible list, a box with a set
 -- open is not refused its drop, and is then as with that set closed [SPEC 19.1, 19.2, 28.12]
@@ -334,21 +341,32 @@ pub record Example (s : Starts) (cs : List Call) (n : ℕ) (terms : Terms) (rule
   pub terms-are : d .terms ≡ terms
   pub rule-is : d .rule ≡ rule
   pub in-range : InRange d v
-  pub ended : Ended s cs d v
+  pub first : Call
+  pub ended : Ended s cs d v first
   pub says : verdict d (v camera) (v office) ≡ bit
 
 -- a run with some rule of this mark: 0 for a threshold, 1 for two marks
 abbrev pub OfMark : Starts → List Call → ℕ → Terms → ℕ → ℕ → Type 0
 OfMark s cs n terms mark bit = (rule : Rule) × (markOf rule ≡ mark) × Example s cs n terms rule bit
 
+-- a run that is dealt by the clock at this minute, by a row of this threshold
+abbrev pub ByClock : Starts → List Call → ℕ → Terms → ℕ → ℕ → ℕ → Type 0
+ByClock s cs n terms minute t bit =
+    (k : ClockDeal) × (k .minute ≡ minute)
+    × (e : Example s cs n terms (Threshold t) bit)
+    × (out0 : List ℕ) × (out1 : List ℕ) × (e .first ≡ dealByClock k out0 out1)
+
 -- after every admissible list that leaves no set open, under every number that is free, for every measure and length:
 -- by a threshold one run says 1 and one says 0, and so between two marks; and by each rule that 8 and 13 let through
--- there is a run; and there are accepted starts, with number 1 free
+-- there is a run, and by each such threshold one that is dealt by the clock, at every minute of the day; and there are
+-- accepted starts, with number 1 free [SPEC 28.13]
 unfoldable pub NotEmpty : Type 0
 NotEmpty = ((s : Starts) → Started s → (cs : List Call) → Admissible s cs → (n : ℕ) (terms : Terms) → n < 2 ^ 64
     → terms .code < 3 → 1 ≤ terms .n → terms .n ≤ 512 → Free s (history s cs) n
     → ((mark : ℕ) → mark ≤ 1 → OfMark s cs n terms mark 1 × OfMark s cs n terms mark 0)
-    × ((rule : Rule) → ruleFits terms rule ≡ true → inOrder rule ≡ true → (bit : ℕ) × Example s cs n terms rule bit))
+    × ((rule : Rule) → ruleFits terms rule ≡ true → inOrder rule ≡ true → (bit : ℕ) × Example s cs n terms rule bit)
+    × ((minute t : ℕ) → minute < day → ruleFits terms (Threshold t) ≡ true
+    → (bit : ℕ) × ByClock s cs n terms minute t bit))
     × ((s : Starts) × Started s × Free s [] 1)
 
 -- ---- what the verdict is
