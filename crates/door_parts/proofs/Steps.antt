@@ -10,20 +10,25 @@ use Rattle.base_messages.specs.Messages.{ifTaken}
 use Rattle.half_seal.specs.Half.{setNumber}
 use Rattle.half_deal.specs.Dealing.{Deal}
 use Rattle.call_dealer.specs.declared.DealerAnswer.{DealerAnswer}
+use Rattle.call_dealer.specs.declared.ClockAnswer.{ClockAnswer}
 use Rattle.call_dealer.specs.Dealer as DealerCalls
+use Rattle.call_dealer.specs.Clock as ClockCalls
+use Rattle.call_dealer.specs.Clock.{ClockDeal, dealAt}
 use Rattle.call_party.specs.declared.Party.{Party}
 use Rattle.call_party.specs.declared.PartyAnswer.{PartyAnswer}
 use Rattle.call_party.specs.Party as BoxCalls
 use Rattle.call_lock.specs.declared.LockAnswer.{LockAnswer}
 use Rattle.call_lock.specs.Lock as LockCalls
-use Rattle.door_lists.specs.Lists.{Message, deal, load, mask, take, finish, drop, join, onBox, written, maskedBy}
-use Rattle.door_lists.specs.Lists.{vector, word, answer, Event, dealt, loaded, sent, dropped, joined}
+use Rattle.door_lists.specs.Lists.{Message, deal, load, mask, take, finish, drop, join, onBox, written}
+use Rattle.door_lists.specs.Lists.{writtenByClock, maskedBy, vector, word, answer, Event, dealt, loaded, sent}
+use Rattle.door_lists.specs.Lists.{dropped, joined}
 use Rattle.door_parts.specs.declared.Side.{Side}
 use Rattle.door_parts.specs.declared.Side.the-variants.{Camera, Office}
 use Rattle.door_parts.specs.declared.Door.{Door}
 use Rattle.door_parts.specs.declared.DoorAnswer.{DoorAnswer}
+use Rattle.door_parts.specs.declared.PlacedAnswer.{PlacedAnswer}
 use Rattle.door_parts.specs.Door.{boxOf, boxes, world, back, withBox, boxAnswer, eventWhy, eventWord, stepAnswer}
-use Rattle.door_parts.specs.Door.{call}
+use Rattle.door_parts.specs.Door.{call, clockCall}
 use Rattle.door_parts.specs.Laws.{why-said, word-said}
 
 -- ---- answers
@@ -123,6 +128,23 @@ module _ (d : Door) where
   deal-step x out0 out1 answers =
       let e : Event = dealt x (written (d .dealer) x out0 out1) in
       ap dealerAnswer answers ∙ alike (why-said _ e refl) (nothing _ ∙ word-said _ e) refl
+
+  pub clock-step : (k : ClockDeal) (out0 out1 : List ℕ) {a : ClockAnswer}
+      → a ≡ ClockCalls.dealByClock (d .dealer) k (length out0) (length out1)
+      → _≡_ {A = PlacedAnswer} (record {
+        why = a .why;
+        place = a .place;
+        door = record { dealer = a .dealer; camera = d .camera; office = d .office; lock = d .lock };
+      }) (clockCall d k out0 out1)
+  unfolding clockCall call
+  clock-step k out0 out1 {a} answers =
+      let e : Event = dealt (dealAt k) (writtenByClock (d .dealer) k out0 out1) in
+      let why = ap (λ (a : ClockAnswer). a .why) answers ∙ why-said _ e refl in
+      λ i. record {
+        why = why i;
+        place = answers i .place;
+        door = record { dealer = answers i .dealer; camera = d .camera; office = d .office; lock = d .lock };
+      }
 
   abbrev pub lockAnswer : LockAnswer → DoorAnswer
   lockAnswer a =

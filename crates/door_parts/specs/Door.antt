@@ -1,14 +1,19 @@
 -- A door's four parts as one value, and its calls (01, "A door's list of calls"): what a call answers is what a list's
 -- step does, so that a run of calls on this value is a list of calls. Assumes nothing.
+use mathlib.Core.List.{List}
 use Prim.Native.Nat.{ℕ}
+use lib.ListN.{length}
+use Rattle.call_dealer.specs.Clock as ClockCalls
+use Rattle.call_dealer.specs.Clock.{ClockDeal}
 use Rattle.call_party.specs.declared.Party.{Party}
 use Rattle.call_party.specs.declared.PartyAnswer.{PartyAnswer}
-use Rattle.door_lists.specs.Lists.{Box, camera, office, World, Call, Step, step}
+use Rattle.door_lists.specs.Lists.{Box, camera, office, World, Call, dealByClock, Step, step}
 use Rattle.door_lists.specs.Lists.{Body, vector, word, answer, Event, dealt, loaded, sent, dropped, joined, refused}
 use Rattle.door_parts.specs.declared.Side.{Side}
 use Rattle.door_parts.specs.declared.Side.the-variants.{Camera, Office}
 use Rattle.door_parts.specs.declared.Door.{Door}
 use Rattle.door_parts.specs.declared.DoorAnswer.{DoorAnswer}
+use Rattle.door_parts.specs.declared.PlacedAnswer.{PlacedAnswer}
 
 abbrev pub boxOf : Side → Box
 boxOf Camera = camera
@@ -64,3 +69,13 @@ stepAnswer s = record { why = eventWhy (s .event); word = eventWord (s .event); 
 -- what a call answers: what the list's step does to the four parts
 unfoldable pub call : Door → Call → DoorAnswer
 call d c = stepAnswer (step (world d) c)
+
+-- what a deal by the clock answers: the list's step, and the place
+unfoldable pub clockCall : Door → ClockDeal → List ℕ → List ℕ → PlacedAnswer
+clockCall d k out0 out1 =
+    let a : DoorAnswer = call d (dealByClock k out0 out1) in
+    record {
+      why = a .why;
+      place = ClockCalls.dealByClock (d .dealer) k (length out0) (length out1) .place;
+      door = a .door;
+    }

@@ -3,10 +3,12 @@
 // three parts stay.
 ghost use mathlib.Core.Path.{_≡_};
 ghost use Rattle.half_deal.specs.Dealing.{dealFrom};
+ghost use Rattle.call_day.specs.Table.{tableOf};
 ghost use Rattle.call_dealer.specs.Dealer.{dealOut};
+ghost use Rattle.call_dealer.specs.Clock.{clockFrom, clockOut};
 ghost use Rattle.call_party.specs.Party.{maskOut};
 ghost use Rattle.door_lists.specs.Lists.{deal, load, mask, take, finish, drop, join};
-ghost use Rattle.door_parts.specs.Door.{boxOf, boxes, withBox, boxAnswer, call};
+ghost use Rattle.door_parts.specs.Door.{boxOf, boxes, withBox, boxAnswer, call, clockCall};
 use base_messages::Label;
 use call_dealer::Dealer;
 use call_lock::Lock;
@@ -34,6 +36,13 @@ pub struct Door {
 pub struct DoorAnswer {
     pub why: u32,
     pub word: u32,
+    pub door: Door,
+}
+
+// The same of a deal by the clock, which answers a place in place of the number.
+pub struct PlacedAnswer {
+    pub why: u32,
+    pub place: u32,
     pub door: Door,
 }
 
@@ -97,6 +106,51 @@ impl Door {
         DoorAnswer {
             why: a.why,
             word: 0,
+            door,
+        }
+    }
+
+    // By the threshold of the table's row in which the minute lies.
+    pub fn deal_by_clock(
+        self,
+        number: u64,
+        seed: &[u8],
+        terms: Terms,
+        firsts: &[u32],
+        lasts: &[u32],
+        thresholds: &[u32],
+        minute: u32,
+        out0: &mut [u8],
+        out1: &mut [u8],
+    ) -> PlacedAnswer
+        ensures { λ r. ⌜ r ≡ clockCall self (clockFrom number (now (seed .entry)) terms
+            (tableOf (now (firsts .entry)) (now (lasts .entry)) (now (thresholds .entry))) minute)
+            (now (out0 .entry)) (now (out1 .entry)) ⌝ }
+        ensures { λ _. ⌜ now (out0 .exit) ≡ clockOut (self .dealer) (clockFrom number (now (seed .entry)) terms
+            (tableOf (now (firsts .entry)) (now (lasts .entry)) (now (thresholds .entry))) minute)
+            (now (out0 .entry)) (now (out1 .entry)) 0 ⌝ }
+        ensures { λ _. ⌜ now (out1 .exit) ≡ clockOut (self .dealer) (clockFrom number (now (seed .entry)) terms
+            (tableOf (now (firsts .entry)) (now (lasts .entry)) (now (thresholds .entry))) minute)
+            (now (out0 .entry)) (now (out1 .entry)) 1 ⌝ }
+    {
+        let dealer = self.dealer;
+        let a = dealer.deal_by_clock(
+            number,
+            seed,
+            terms,
+            firsts,
+            lasts,
+            thresholds,
+            minute,
+            out0,
+            out1,
+        );
+        let next = a.dealer;
+        let mut door = self;
+        door.dealer = next;
+        PlacedAnswer {
+            why: a.why,
+            place: a.place,
             door,
         }
     }

@@ -29,7 +29,7 @@ fn finish(
     at: usize,
 ) -> usize {
     if why != 0 {
-        return put::number(why, out, at);
+        return put::refused(l, why, word, out, at);
     }
     kept::keep(l, word, b, n);
     put::answer(l, word, place, b, out, at)

@@ -42,7 +42,7 @@ pub fn keep(l: Line, word: u32, b: &mut [u8; BYTES], n: &mut [u64; NUMBERS]) {
     let place = memory::size(l.f1) % 2;
     let command = l.command;
     match command {
-        lines::DEAL | lines::BETWEEN => keep_halves(l.f4, b, n),
+        lines::DEAL | lines::BETWEEN | lines::CLOCK => keep_halves(l.f4, b, n),
         lines::MASK => {
             memory::copy_slot(b, 0, MASKED + place);
             n[MASKED + place] = l.f2;

@@ -44,13 +44,15 @@ pub const WAITING: usize = 15;
 
 pub const WIDTH: usize = 16;
 
-// A line that is no command, and one that asks for nothing.
-pub const BAD_LINE: usize = 17;
+pub const CLOCK: usize = 17;
 
-pub const COMMENT: usize = 18;
+// A line that is no command, and one that asks for nothing.
+pub const BAD_LINE: usize = 18;
+
+pub const COMMENT: usize = 19;
 
 // A deal whose rule is two marks.
-pub const BETWEEN: usize = 19;
+pub const BETWEEN: usize = 20;
 
 // The parts, as `show` counts them; the boxes' numbers are 0 and 1.
 pub const CAMERA: u64 = 0;
@@ -198,7 +200,7 @@ fn read_field(
 
 fn part_of(command: usize, f1: u64) -> u64 {
     match command {
-        DEALER | DEAL => THE_DEALER,
+        DEALER | DEAL | CLOCK => THE_DEALER,
         LOCK | JOIN => THE_LOCK,
         HOST | BAD_LINE | COMMENT => NO_PART,
         _ => f1,
@@ -254,10 +256,10 @@ pub fn read(line: &[u8], b: &mut [u8; BYTES], n: [u64; NUMBERS]) -> Line {
     }
     let command = place_of(
         test_script::field(line, 0),
-        b"dealer deal lock join host show party load mixed bytes mask take finish drop put waiting width",
+        b"dealer deal lock join host show party load mixed bytes mask take finish drop put waiting width clock",
     );
     let kinds =
-        b"BBBN NBWWTRR BN WBWNaWBWNa BNWBWNaWBWNa P XBWBN XXKWW XJKJ XB XVM XWBWNv XWBWNw X XWWWW XNWW XWW ";
+        b"BBBN NBWWTRR BN WBWNaWBWNa BNWBWNaWBWNa P XBWBN XXKWW XJKJ XB XVM XWBWNv XWBWNw X XWWWW XNWW XWW NBWWVVVWRR ";
     let mut l = read_fields(command, test_script::part(kinds, b' ', command), line, b, n);
     let rule = test_script::read_one_or_two(test_script::field(line, 5));
     if (l.command == DEAL) & rule.two {

@@ -33,11 +33,34 @@ fn accepted(out: &mut [u8; ROOM], at: usize) -> usize {
     test_script::put_text(out, at, b"0 ")
 }
 
-fn two_tags(b: &[u8; BYTES], l: Line, out: &mut [u8; ROOM], at: usize) -> usize {
-    let next = accepted(out, at);
-    let next = tag(b, 0, l.f6, out, next);
+// The tags of a deal's two buffers, which have so many bytes.
+fn two_tags(b: &[u8; BYTES], room0: u64, room1: u64, out: &mut [u8; ROOM], at: usize) -> usize {
+    let next = tag(b, 0, room0, out, at);
     let next = test_script::put_byte(out, next, b' ');
-    tag(b, OTHER, l.f7, out, next)
+    tag(b, OTHER, room1, out, next)
+}
+
+fn dealt(b: &[u8; BYTES], l: Line, out: &mut [u8; ROOM], at: usize) -> usize {
+    let next = accepted(out, at);
+    two_tags(b, l.f6, l.f7, out, next)
+}
+
+// A deal by the clock, with its row.
+fn clocked(b: &[u8; BYTES], l: Line, row: u32, out: &mut [u8; ROOM], at: usize) -> usize {
+    let next = accepted(out, at);
+    let next = number(row, out, next);
+    let next = test_script::put_byte(out, next, b' ');
+    two_tags(b, l.f9, l.f10, out, next)
+}
+
+// What answers a line whose call was refused: for a deal by the clock the place too.
+pub fn refused(l: Line, why: u32, place: u32, out: &mut [u8; ROOM], at: usize) -> usize {
+    if l.command != lines::CLOCK {
+        return number(why, out, at);
+    }
+    let next = number(why, out, at);
+    let next = test_script::put_byte(out, next, b' ');
+    number(place, out, next)
 }
 
 // host NAME LAST and the ten fields of join: the first C function.
@@ -112,7 +135,8 @@ pub fn answer(
         lines::BAD_LINE => bad_line(place, out, at),
         lines::PUT | lines::WAITING | lines::WIDTH => test_script::put_text(out, at, b"put"),
         lines::HOST => hosted(b, l, out, at),
-        lines::DEAL | lines::BETWEEN => two_tags(b, l, out, at),
+        lines::DEAL | lines::BETWEEN => dealt(b, l, out, at),
+        lines::CLOCK => clocked(b, l, word, out, at),
         lines::SHOW => tag(b, 0, memory::wide(state_size(l.part)), out, at),
         lines::MASK => {
             let next = accepted(out, at);

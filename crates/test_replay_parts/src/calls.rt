@@ -2,6 +2,7 @@
 use base_messages::Label;
 use door_parts::Door;
 use door_parts::DoorAnswer;
+use door_parts::PlacedAnswer;
 use door_parts::Side;
 use measure_table::Rule;
 use measure_table::Terms;
@@ -80,6 +81,58 @@ pub fn deal(door: Door, b: &mut [u8; BYTES], l: Line) -> DoorAnswer {
     memory::lay(b, 0, &out0);
     memory::lay(b, OTHER, &out1);
     a
+}
+
+// The words of a table's list, which has so many bytes.
+fn list(words: &[u32; LONGEST], bytes: u64) -> &[u32] {
+    test_script::first_words(words, memory::size(bytes / 4))
+}
+
+fn by_clock(
+    door: Door,
+    b: &[u8; BYTES],
+    l: Line,
+    out0: &mut [u8],
+    out1: &mut [u8],
+) -> PlacedAnswer {
+    let firsts = vector(b, 5);
+    let lasts = vector(b, 6);
+    let thresholds = vector(b, 7);
+    door.deal_by_clock(
+        l.f1,
+        memory::first(b, 2, l.f2),
+        Terms {
+            code: memory::low(l.f3),
+            n: memory::size(l.f4),
+        },
+        list(&firsts, l.f5),
+        list(&lasts, l.f6),
+        list(&thresholds, l.f7),
+        memory::low(l.f8),
+        out0,
+        out1,
+    )
+}
+
+// clock NUMBER SEED CODE L FIRSTS LASTS THRESHOLDS MINUTE ROOM0 ROOM1. It answers the place as its word.
+pub fn clock(door: Door, b: &mut [u8; BYTES], l: Line) -> DoorAnswer {
+    let mut out0 = no_half();
+    let mut out1 = no_half();
+    let a = by_clock(
+        door,
+        b,
+        l,
+        test_script::first_mut(&mut out0, memory::size(l.f9)),
+        test_script::first_mut(&mut out1, memory::size(l.f10)),
+    );
+    memory::lay(b, 0, &out0);
+    memory::lay(b, OTHER, &out1);
+    let next = a.door;
+    DoorAnswer {
+        why: a.why,
+        word: a.place,
+        door: next,
+    }
 }
 
 // The bytes of a load stand in slot 0, and f4 counts them.

@@ -47,6 +47,7 @@ pub fn call(door: Door, b: &mut [u8; BYTES], l: Line) -> DoorAnswer {
     let command = l.command;
     match command {
         lines::DEAL | lines::BETWEEN => calls::deal(door, b, l),
+        lines::CLOCK => calls::clock(door, b, l),
         lines::LOAD | lines::MIXED | lines::LOAD_BYTES => calls::load(door, b, l),
         lines::MASK => calls::mask(door, b, l),
         lines::TAKE => calls::take(door, b, l),
