@@ -16,6 +16,8 @@ pub mod content;
 pub mod day;
 pub mod dcf;
 pub mod dealer;
+#[cfg(test)]
+mod dealer_clock;
 pub mod dealing;
 pub mod field;
 pub mod generated;
