@@ -233,7 +233,7 @@ fn rows_of(lengths: &[u32]) -> Vec<Ends> {
 }
 
 /// That many rows which are the day: all of one minute but for the last.
-fn rows_to(count: usize) -> Vec<Ends> {
+pub fn rows_to(count: usize) -> Vec<Ends> {
     let mut lengths = vec![1; count - 1];
     lengths.push(MINUTES - count as u32 + 1);
     rows_of(&lengths)
@@ -383,16 +383,16 @@ impl Cases {
 #[cfg(test)]
 mod tests {
     use super::*;
-    use crate::check_cases::cases;
+    use crate::checks::run;
     use crate::day::tests::answer_by_order;
     use crate::day::Table;
     use std::collections::HashSet;
 
     /// Every table of the script with its minute and the three numbers that answer it.
     fn tables() -> Vec<(Table, u32, [u32; 3])> {
-        let cases = cases();
-        let lines = cases.iter().filter(|case| case.line.starts_with("table "));
-        let tables = lines.map(|case| {
+        let mut cases = Cases::new(run);
+        cases.tables_of_the_day();
+        let tables = cases.list.iter().map(|case| {
             let fields: Vec<&str> = case.line.split(' ').collect();
             let [firsts, lasts, thresholds] = [1, 2, 3].map(|at: usize| words(fields[at]).unwrap());
             let table = Table {
@@ -461,6 +461,24 @@ mod tests {
                 assert!(bad.contains(&(why, place)), "{why} {place}");
             }
             assert!(asked.contains(&(why, true)) && asked.contains(&(why, false)));
+        }
+    }
+
+    /// Lists of more words than the script may have, or of parts of words, are none.
+    #[test]
+    fn fields() {
+        let full = repeated(MAX_LIST, 0);
+        let good = format!("table {full} - 00000000 1");
+        assert_eq!(run(&good), Ok("14 0 0".to_string()));
+        for bad in [
+            format!("table {} - - 1", repeated(MAX_LIST + 1, 0)),
+            format!("table - {} - 1", repeated(MAX_LIST + 1, 0)),
+            "table - - 000000 1".to_string(),
+            "table - - - -".to_string(),
+            "table - - - 4294967296".to_string(),
+            "table - - -".to_string(),
+        ] {
+            assert!(run(&bad).is_err(), "{bad}");
         }
     }
 

@@ -42,6 +42,9 @@ pub mod replay_boxes;
 pub mod replay_cases;
 pub mod replay_checks;
 pub mod replay_claim;
+pub mod replay_clock;
+#[cfg(test)]
+mod replay_lines;
 pub mod replay_lists;
 pub mod replay_marks;
 pub mod replay_older;
