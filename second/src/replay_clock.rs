@@ -167,9 +167,10 @@ impl Script {
                 for refusal in wrong {
                     self.spoil_clock(&mut deal, *refusal, variant);
                 }
-                let thresholds = vec![5; if kind == 0 { 4 } else { rows.len() }];
+                let threshold = if wrong.contains(&8) { NONSENSE } else { 5 };
+                let count = if kind == 0 { 4 } else { rows.len() };
                 let (bad, _) = deal.clock.as_mut().expect("a deal by the clock");
-                *bad = table(rows, &thresholds);
+                *bad = table(rows, &vec![threshold; count]);
                 deals.push((deal, why));
             }
         }
