@@ -91,6 +91,12 @@ fn table(rows: &[Ends], thresholds: &[i32]) -> Table {
     }
 }
 
+/// The day whose rows have these thresholds but for one of them.
+fn day_with(mut thresholds: [i32; 3], row: usize, threshold: i32) -> Table {
+    thresholds[row] = threshold;
+    table(&DAY, &thresholds)
+}
+
 /// The same deal by the clock. Its rule is to be what the table has for the minute.
 fn by_clock(deal: Deal, table: Table, minute: u32) -> Deal {
     Deal {
@@ -209,13 +215,6 @@ impl Script {
         }
     }
 
-    /// A table whose rows have these thresholds but for one of them.
-    fn day_with(&self, others: [i32; 3], row: usize, threshold: i32) -> Table {
-        let mut thresholds = others;
-        thresholds[row] = threshold;
-        table(&DAY, &thresholds)
-    }
-
     /// Every measure's thresholds on both sides of both ends of their range, in each row: one
     /// that is out of range counts in the chosen row alone.
     fn ranges_by_row(&mut self) {
@@ -226,11 +225,11 @@ impl Script {
             for (row, (first, last)) in DAY.into_iter().enumerate() {
                 let deal = self.new_deal(self.next_number(), measure, 1, 5);
                 for (out, minute) in [(below, first), (above, last), (NONSENSE, first)] {
-                    let day = self.day_with([5; 3], row, out);
+                    let day = day_with([5; 3], row, out);
                     refused.push((by_clock(deal.clone(), day, minute), (8, 0)));
                 }
                 let (fine, minute) = [(lowest, last), (highest, first)][(row + turn) % 2];
-                let day = self.day_with([below, above, NONSENSE], row, fine);
+                let day = day_with([below, above, NONSENSE], row, fine);
                 let deal = self.new_deal(0, measure, 1, fine);
                 taken.push((by_clock(deal, day, minute), row + 1));
             }
@@ -250,7 +249,7 @@ impl Script {
             for measure in Measure::ALL {
                 let (row, last) = ((turn + measure.code() as usize) % 3, self.next_number() - 1);
                 let (minute, threshold) = ([DAY[row].0, DAY[row].1][turn % 2], 3 + turn as i32);
-                let day = self.day_with([NONSENSE; 3], row, threshold);
+                let day = day_with([NONSENSE; 3], row, threshold);
                 let mut plain = self.new_deal(last + 1, measure, length, threshold);
                 plain.rooms[turn % 2] = MAX_BYTES;
                 let deal = by_clock(plain.clone(), day, minute);
