@@ -172,7 +172,8 @@ fn wrong_orders(table: &Table, minute: u32) -> [Answered<'_>; 8] {
 #[test]
 fn refusals_come_in_order() {
     let day = working_day([-1, 5, 514]);
-    for minute in [MINUTES, MINUTES + 1, u32::MAX, 0, 1439] {
+    let cut_to_noon = [MINUTES + 700, 65_536 + 700, (1 << 31) + 700];
+    for minute in [MINUTES, u32::MAX, 0, 1439].into_iter().chain(cut_to_noon) {
         for (order, bytes, expected) in wrong_orders(&day, minute) {
             assert_eq!(answer(&order, bytes), expected, "{order:?}");
             for (table, refused) in bad_tables() {

@@ -43,6 +43,7 @@ pub mod replay_cases;
 pub mod replay_checks;
 pub mod replay_claim;
 pub mod replay_clock;
+pub mod replay_days;
 #[cfg(test)]
 mod replay_lines;
 pub mod replay_lists;

@@ -1,10 +1,10 @@
 //! The script of the program `test_replay`: whole checks (`replay_checks`), every refusal of
 //! every call with every other one that may apply beside it (here, and `replay_boxes`),
 //! states that no call leaves, sets loaded ahead (`replay_ahead`, `replay_pairs`), sets
-//! between two marks (`replay_marks`) and by the clock (`replay_clock`), lists of calls as a
-//! bad network and a careless host make them (`replay_lists`), and halves from before
-//! (`replay_older`). What is refused, and by which number, stands here and is not asked of
-//! this implementation; so does every joined bit.
+//! between two marks (`replay_marks`) and by the clock (`replay_clock`, `replay_days`), lists
+//! of calls as a bad network and a careless host make them (`replay_lists`), and halves from
+//! before (`replay_older`). What is refused, and by which number, stands here and is not asked
+//! of this implementation; so does every joined bit.
 
 use crate::field;
 use crate::measure::{Measure, MAX_LENGTH};
