@@ -1,6 +1,6 @@
 //! The cases of the program `test_checks`: keys, values and whole checks at the edges
 //! of every range and at inputs without a pattern. Checks between two marks are in
-//! `check_marks`.
+//! `check_marks`, tables of the day in `check_tables`.
 
 use crate::cases::Cases;
 use crate::checks::{edges, run, vector};
@@ -305,6 +305,7 @@ pub fn cases() -> Vec<Case> {
         cases.every_level(point);
     }
     cases.checks_between_marks();
+    cases.tables_of_the_day();
     cases.list
 }
 

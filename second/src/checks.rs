@@ -4,7 +4,7 @@
 //! One space stands between two fields, and none at an end. A number is decimal
 //! and below 2^32; a negative one stands there plus 2^32. A bytes field has a
 //! format of `field`: a seed is hex or `@N:S`, a vector hex or `~N:S:LOW:MASK`,
-//! masks any of the three. Words in it are little-endian.
+//! masks and lists any of the three. Words in it are little-endian.
 //!
 //! - `key SEED0 SEED1 POINT`: the key for a point under the parties' seeds of 32
 //!   bytes. The answer is its 1,188 bytes as hex, as a sealed half stores them.
@@ -16,13 +16,22 @@
 //!   dealer draws. The answer is ten numbers: the first and the last word of X masked,
 //!   the same of Y, word 0 and 1, Z, answer 0 and 1, and their sum. A wrong masked word
 //!   in between shows in words 0 and 1.
+//! - `table FIRSTS LASTS THRESHOLDS MINUTE`: the table of the day of these three lists and
+//!   the row of a minute. A list has any of the formats, `-` for none, and at most 512
+//!   words; the three may differ in length. The answer is three numbers: for a bad table
+//!   its refusal, the place beside it and 0; for a good one 0, the row's place, counted
+//!   from 1, and its threshold, both 0 for a minute above 1,439.
 
+use crate::day::{Refused, Row, Table};
 use crate::dcf::{self, Key, Seed};
 use crate::measure::{Measure, MAX_LENGTH};
 use crate::rule::Rule;
 use crate::script::number;
 use crate::share::{self, Draws, Run};
 use crate::{chacha20, field};
+
+/// The most words of a list of a table.
+pub const MAX_LIST: usize = 512;
 
 /// The answer to one line of the script, and none if it is not what the meaning
 /// of the command allows.
@@ -50,6 +59,14 @@ pub fn run(line: &str) -> Result<String, String> {
             check_ranges(measure, &x, &y)?;
             let draws = parse_draws(draws, x.len())?;
             run_check(measure, rule, &x, &y, &draws).map(|run| format_run(&run))
+        }
+        ["table", firsts, lasts, thresholds, minute] => {
+            let table = Table {
+                firsts: list(firsts)?,
+                lasts: list(lasts)?,
+                thresholds: list(thresholds)?,
+            };
+            Ok(format_table(&table, number(minute)?))
         }
         _ => Err(format!("unknown command: {line}")),
     }
@@ -111,6 +128,16 @@ fn format_run(run: &Run) -> String {
     numbers.join(" ")
 }
 
+fn format_table(table: &Table, minute: u32) -> String {
+    if let Err(Refused { why, place }) = table.check() {
+        return format!("{} {place} 0", why as u32);
+    }
+    match table.row_of(minute) {
+        Some(Row { place, threshold }) => format!("0 {place} {threshold}"),
+        None => "0 0 0".to_string(),
+    }
+}
+
 /// A rule field that may be dealt for the measure.
 pub fn parse_rule(measure: Measure, field: &str) -> Result<Rule, String> {
     let rule = Rule::parse(field).ok_or_else(|| format!("bad rule: {field}"))?;
@@ -163,6 +190,15 @@ pub fn words(text: &str) -> Result<Vec<u32>, String> {
     let mut words = vec![0; bytes.len() / 4];
     chacha20::load_words(&mut words, &bytes);
     Ok(words)
+}
+
+/// The words of a list of a table.
+fn list(text: &str) -> Result<Vec<u32>, String> {
+    let words = words(text)?;
+    match words.len() <= MAX_LIST {
+        true => Ok(words),
+        false => Err(format!("at most {MAX_LIST} words wanted: {text}")),
+    }
 }
 
 /// The elements of a vector field.

@@ -1,7 +1,8 @@
 //! The dealer and its calls: 01, "Dealing a set" and "When a call is turned down", and 02,
-//! "Between two marks".
+//! "Between two marks" and "Strictness by the clock".
 
 use crate::content::{self, Name};
+use crate::day::{Refused, Table};
 use crate::dealing;
 use crate::measure::{Measure, MAX_LENGTH};
 use crate::message::{padded, secret};
@@ -20,12 +21,32 @@ pub struct Dealer {
 
 /// What a deal is asked for: any numbers, any bytes.
 #[derive(Clone, Copy, Debug)]
-pub struct Order<'a> {
+pub struct Order<'a, R = Rule> {
     pub code: u64,
     pub length: u64,
-    pub rule: Rule,
+    pub rule: R,
     pub number: u64,
     pub seed: &'a [u8],
+}
+
+/// What a deal by the clock is handed in place of a rule.
+#[derive(Clone, Copy, Debug)]
+pub struct Clock<'a> {
+    pub table: &'a Table,
+    pub minute: u32,
+}
+
+impl<'a, R> Order<'a, R> {
+    /// The same by this rule.
+    fn by<S>(&self, rule: S) -> Order<'a, S> {
+        Order {
+            code: self.code,
+            length: self.length,
+            rule,
+            number: self.number,
+            seed: self.seed,
+        }
+    }
 }
 
 impl Dealer {
@@ -42,6 +63,32 @@ impl Dealer {
 
     /// Writes the half of each party at the start of its buffer.
     pub fn deal(&mut self, order: &Order, buffers: [&mut [u8]; 2]) -> Result<(), Refusal> {
+        self.deal_if_there(&order.by(Some(order.rule)), buffers)
+    }
+
+    /// The deal by the threshold of the minute's row: the row's place, counted from 1. The
+    /// table comes before all else that is tested.
+    pub fn deal_by_clock(
+        &mut self,
+        order: &Order<Clock>,
+        buffers: [&mut [u8]; 2],
+    ) -> Result<u32, Refused> {
+        let Clock { table, minute } = order.rule;
+        table.check()?;
+        let row = table.row_of(minute);
+        let rule = row.map(|row| Rule::Threshold(row.threshold as i32));
+        self.deal_if_there(&order.by(rule), buffers)
+            .map_err(|why| Refused { why, place: 0 })?;
+        Ok(row.expect("a deal by no row is refused").place)
+    }
+
+    /// The deal by a rule. Where there is none, for a minute above the day, it is refused in
+    /// the turn of a rule that is out of range.
+    fn deal_if_there(
+        &mut self,
+        order: &Order<Option<Rule>>,
+        buffers: [&mut [u8]; 2],
+    ) -> Result<(), Refusal> {
         let code = u32::try_from(order.code).ok();
         let measure = code.and_then(Measure::from_code);
         let measure = measure.ok_or(Refusal::PartyOrCode)?;
@@ -51,10 +98,11 @@ impl Dealer {
         let bytes = BLOCK_BYTES * content::blocks(length);
         Refusal::Room.unless(buffers.iter().all(|buffer| buffer.len() >= bytes))?;
         Refusal::Number.unless(order.number > self.last)?;
-        Refusal::Range.unless(order.rule.is_in_range(measure))?;
-        Refusal::Marks.unless(order.rule.width().is_some())?;
+        let rule = order.rule.ok_or(Refusal::Range)?;
+        Refusal::Range.unless(rule.is_in_range(measure))?;
+        Refusal::Marks.unless(rule.width().is_some())?;
 
-        let parts = dealing::deal(measure, length, order.rule, &seed);
+        let parts = dealing::deal(measure, length, rule, &seed);
         for (party, buffer) in buffers.into_iter().enumerate() {
             let half = sealed::half(&self.name, &self.keys[party], order.number, &parts[party]);
             buffer[..bytes].copy_from_slice(&half);

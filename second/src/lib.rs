@@ -9,10 +9,15 @@ pub mod cases;
 pub mod chacha20;
 pub mod check_cases;
 pub mod check_marks;
+pub mod check_tables;
+pub mod check_tilings;
 pub mod checks;
 pub mod content;
+pub mod day;
 pub mod dcf;
 pub mod dealer;
+#[cfg(test)]
+mod dealer_clock;
 pub mod dealing;
 pub mod field;
 pub mod generated;
@@ -37,6 +42,10 @@ pub mod replay_boxes;
 pub mod replay_cases;
 pub mod replay_checks;
 pub mod replay_claim;
+pub mod replay_clock;
+pub mod replay_days;
+#[cfg(test)]
+mod replay_lines;
 pub mod replay_lists;
 pub mod replay_marks;
 pub mod replay_older;

@@ -16,6 +16,9 @@ pub enum Refusal {
     Content = 11,
     Sum = 12,
     Marks = 13,
+    Table = 14,
+    Gap = 15,
+    Overlap = 16,
 }
 
 impl Refusal {

@@ -13,6 +13,8 @@
 //! - `deal NUMBER SEED CODE L RULE ROOM0 ROOM1`: a deal into buffers of ROOM0 and ROOM1
 //!   bytes (at most 8,704), filled with 170 before. RULE is a threshold `T` or two marks
 //!   `P:Q`.
+//! - `clock NUMBER SEED CODE L FIRSTS LASTS THRESHOLDS MINUTE ROOM0 ROOM1`: a deal by the
+//!   clock, into buffers as those of `deal`. The table's lists are vector fields.
 //! - `load BOX FROM K BYTES AT`: a load of the first BYTES bytes of the half that the
 //!   K-th accepted deal before the newest (K from 0 to 3) wrote for FROM, followed by
 //!   its first block again; the byte AT is xored with 1 where AT is below BYTES.
@@ -37,14 +39,16 @@
 //! - `show PART`: the tag of the state of `dealer`, `camera`, `office` or `lock`.
 //!
 //! Before the first start every state is zero. A refused call is answered by its
-//! number alone, an accepted one by `0` and then, each after a space: a deal, the tags
-//! of its two buffers; call 2, that of its buffer; call 3, the word; call 4, the
+//! number alone, a refused `clock` by its number and its place. An accepted one by `0` and
+//! then, each after a space: a deal, the tags of its two buffers; a deal by the clock, the
+//! row's place and these tags; call 2, that of its buffer; call 3, the word; call 4, the
 //! answer; the join, 0 or 1. `put`, `waiting` and `width` are answered by `put`. A tag is
 //! Poly1305's under the key of bytes 0 to 31, of a state's bytes as in `replay_states`.
 //! A line that is none of these is answered by `bad line N`, counted from 1, and changes
 //! nothing.
 
-use crate::dealer::{Dealer, Order};
+use crate::day::{Refused, Table};
+use crate::dealer::{Clock, Dealer, Order};
 use crate::field::{self, decimal};
 use crate::halves::tag;
 use crate::lock::{self, Answer, Lock};
@@ -82,7 +86,8 @@ pub struct Replay {
     pub dealt: VecDeque<[Vec<u8>; 2]>,
     /// What each box sent last.
     pub sent: [Sent; 2],
-    lines: usize,
+    /// How many lines have been answered.
+    pub lines: usize,
 }
 
 /// What a box sent last, of each kind.
@@ -150,7 +155,8 @@ impl Replay {
                 self.start_party(at, name, party, key, floor)
             }
             ("lock", [name, floor]) => self.start_lock(name, floor),
-            ("deal", [_, _, _, _, _, room0, room1]) => self.deal(&fields[..5], [room0, room1]),
+            ("deal", [order @ .., room0, room1]) => self.deal(order, [room0, room1]),
+            ("clock", [order @ .., room0, room1]) => self.clock(order, [room0, room1]),
             ("load", [at, half @ ..]) => self.load(at, self.cut_half(half)?),
             ("mixed", [at, blocks @ ..]) => self.load(at, self.mixed_half(at, blocks)?),
             ("bytes", [at, half]) => self.load(at, bytes(half)?),
@@ -213,18 +219,53 @@ impl Replay {
             length: decimal::<u32>(length)?.into(),
             rule: Rule::parse(rule)?,
         };
-        let mut buffer0 = vec![BYTE_BEFORE; room(rooms[0], MAX_BYTES)?];
-        let mut buffer1 = vec![BYTE_BEFORE; room(rooms[1], MAX_BYTES)?];
-        let dealt = self.dealer.deal(&order, [&mut buffer0, &mut buffer1]);
-        Some(answered(dealt.map(|()| {
-            let tags = vec![tag(&buffer0), tag(&buffer1)];
-            let bytes = BLOCK_BYTES * content::blocks(order.length as usize);
-            buffer0.truncate(bytes);
-            buffer1.truncate(bytes);
-            self.dealt.push_front([buffer0, buffer1]);
-            self.dealt.truncate(DEALS_KEPT);
-            tags
-        })))
+        let mut buffers = buffers(rooms)?;
+        let [buffer0, buffer1] = &mut buffers;
+        let dealt = self.dealer.deal(&order, [buffer0, buffer1]);
+        Some(answered(dealt.map(|()| self.keep(buffers, order.length))))
+    }
+
+    fn clock(&mut self, order: &[&str], rooms: [&str; 2]) -> Option<String> {
+        let [number, seed, code, length, firsts, lasts, thresholds, minute] = order else {
+            return None;
+        };
+        let seed = bytes(seed)?;
+        let table = Table {
+            firsts: checks::words(firsts).ok()?,
+            lasts: checks::words(lasts).ok()?,
+            thresholds: checks::words(thresholds).ok()?,
+        };
+        let order = Order {
+            number: decimal(number)?,
+            seed: &seed,
+            code: decimal::<u32>(code)?.into(),
+            length: decimal::<u32>(length)?.into(),
+            rule: Clock {
+                table: &table,
+                minute: decimal(minute)?,
+            },
+        };
+        let mut buffers = buffers(rooms)?;
+        let [buffer0, buffer1] = &mut buffers;
+        match self.dealer.deal_by_clock(&order, [buffer0, buffer1]) {
+            Err(Refused { why, place }) => Some(format!("{} {place}", why as u32)),
+            Ok(place) => {
+                let tags = self.keep(buffers, order.length).join(" ");
+                Some(format!("0 {place} {tags}"))
+            }
+        }
+    }
+
+    /// Keeps the halves that an accepted deal wrote into these buffers: the buffers' tags.
+    fn keep(&mut self, buffers: [Vec<u8>; 2], length: u64) -> Vec<String> {
+        let tags = buffers.each_ref().map(|buffer| tag(buffer));
+        let bytes = BLOCK_BYTES * content::blocks(length as usize);
+        self.dealt.push_front(buffers.map(|mut buffer| {
+            buffer.truncate(bytes);
+            buffer
+        }));
+        self.dealt.truncate(DEALS_KEPT);
+        tags.to_vec()
     }
 
     /// The half that an earlier deal wrote.
@@ -404,143 +445,16 @@ fn room(field: &str, most: usize) -> Option<usize> {
     decimal(field).filter(|room| *room <= most)
 }
 
+/// The buffers of a deal, of these sizes.
+fn buffers(rooms: [&str; 2]) -> Option<[Vec<u8>; 2]> {
+    let [room0, room1] = rooms.map(|field| room(field, MAX_BYTES));
+    Some([vec![BYTE_BEFORE; room0?], vec![BYTE_BEFORE; room1?]])
+}
+
 /// A bytes field: words are not generated in it.
 fn bytes(field: &str) -> Option<Vec<u8>> {
     match field.starts_with('~') {
         true => None,
         false => field::parse(field).ok(),
-    }
-}
-
-#[cfg(test)]
-pub mod tests {
-    use super::*;
-    use crate::message::ANSWER;
-
-    /// `Hut 4`, bare and padded.
-    const NAME: &str = "4875742034";
-    const PADDED: &str = "48757420340000000000000000000000";
-
-    pub fn started() -> Replay {
-        let mut replay = Replay::default();
-        let starts = format!(
-            "dealer {NAME} @32:1 @32:2 0\nparty camera {NAME} 0 @32:1 0\n\
-             party office {NAME} 1 @32:2 0\nlock {NAME} 0\n"
-        );
-        assert_eq!(replay.answers(&starts), "0\n0\n0\n0\n");
-        replay
-    }
-
-    /// A check under number 1, the squared Euclid line of 01, up to its join.
-    pub fn checked(replay: &mut Replay, rule: &str) -> String {
-        let deal = format!("deal 1 @32:3 1 2 {rule} 1536 2048");
-        assert!(replay.answer(&deal).starts_with("0 "));
-        for (at, vector) in [
-            ("camera", "03000000fcffffff"),
-            ("office", "0200000005000000"),
-        ] {
-            assert_eq!(replay.answer(&format!("load {at} {at} 0 1536 9999")), "0");
-            let mask = replay.answer(&format!("mask {at} {vector} 3"));
-            assert!(mask.starts_with("0 "));
-        }
-        for (call, kind) in [("take", 0), ("finish", 1)] {
-            for (at, from, sender) in [("camera", "office", 1), ("office", "camera", 0)] {
-                let line = format!("{call} {at} {kind} {PADDED} {sender} 1 {from}");
-                assert!(replay.answer(&line).starts_with("0 "));
-            }
-        }
-        let answers = format!("{ANSWER} {PADDED} 0 1 camera {ANSWER} {PADDED} 1 1 office");
-        let host = replay.answer(&format!("host {PADDED} 0 {answers}"));
-        let join = replay.answer(&format!("join {answers}"));
-        assert_eq!(host, format!("{} 1", &join[2..]));
-        assert_eq!(replay.answer(&format!("join {answers}")), "7");
-        assert_eq!(
-            replay.answer(&format!("host {PADDED} 1 {answers}")),
-            "107 1"
-        );
-        join
-    }
-
-    #[test]
-    fn a_check_is_answered() {
-        for (rule, bit) in [("81", 0), ("82", 1), ("83", 1), ("82:82", 1), ("0:82", 1)] {
-            assert_eq!(checked(&mut started(), rule), format!("0 {bit}"));
-        }
-        for rule in ["0:81", "83:2147483647", "81:81", "83:83"] {
-            assert_eq!(checked(&mut started(), rule), "0 0");
-        }
-    }
-
-    /// What is no line of a script after a check.
-    const BAD_LINES: [&str; 41] = [
-        "deal",
-        "drop door",
-        "drop camera ",
-        " drop camera",
-        "drop  camera",
-        "Drop camera",
-        "deal 2 @32:3 1 2 5 1536 8705",
-        "deal 18446744073709551616 @32:3 1 2 5 1536 1536",
-        "deal 2 @32:3 1 2 4294967296 1536 1536",
-        "deal +2 @32:3 1 2 5 1536 1536",
-        "deal -2 @32:3 1 2 5 1536 1536",
-        "deal 2 @+32:3 1 2 5 1536 1536",
-        "deal 2 ~8:3:0:1 1 2 5 1536 1536",
-        "load camera camera 4 1536 0",
-        "load camera camera 1 1536 0",
-        "load camera camera 0 2049 0",
-        "load camera lock 0 1536 0",
-        "mixed camera 3 0 0",
-        "mixed camera 0 0 3",
-        "bytes camera 0G",
-        "mask camera 03000000fcffff 2",
-        "mask camera - 521",
-        "take camera 0 - 1 1 lock",
-        "finish camera 0 - 1 4294967296",
-        "put camera 0 0 0",
-        "deal 2 @32:3 1 2 5: 1536 1536",
-        "deal 2 @32:3 1 2 :5 1536 1536",
-        "deal 2 @32:3 1 2 5:6:7 1536 1536",
-        "deal 2 @32:3 1 2 5:4294967296 1536 1536",
-        "width camera 0",
-        "width camera 0 0 0",
-        "width lock 0 0",
-        "width camera 4294967296 0",
-        "width camera 0 4294967296",
-        "waiting camera 1 0",
-        "waiting camera 1 0 1 0",
-        "waiting lock 1 0 1",
-        "waiting camera 18446744073709551616 0 1",
-        "waiting camera 1 4294967296 1",
-        "waiting camera 1 0 4294967296",
-        "show door",
-    ];
-
-    /// What is no line of a script is answered so, and changes nothing.
-    #[test]
-    fn bad_lines() {
-        let mut replay = started();
-        checked(&mut replay, "82");
-        let states = ["dealer", "camera", "office", "lock"].map(|part| format!("show {part}"));
-        let before = states.clone().map(|line| replay.answer(&line));
-        let lines = replay.lines;
-        for (place, bad) in BAD_LINES.into_iter().enumerate() {
-            let number = lines + 1 + place;
-            assert_eq!(replay.answer(bad), format!("bad line {number}"), "{bad}");
-        }
-        assert_eq!(replay.answer(""), "");
-        assert_eq!(replay.answer("# drop camera"), "");
-        assert_eq!(states.map(|line| replay.answer(&line)), before);
-    }
-
-    #[test]
-    fn before_the_first_start_all_is_zero() {
-        let mut replay = Replay::default();
-        assert_eq!(replay.answer("show lock"), tag(&[0; 24]));
-        assert_eq!(replay.answer("show dealer"), tag(&[0; 88]));
-        let zeros = "00".repeat(16);
-        let join = format!("join 2 {zeros} 0 5 camera 2 {zeros} 1 5 office");
-        assert_eq!(replay.answer(&join), "0 0");
-        assert_eq!(replay.answer("load camera camera 0 0 0"), "bad line 4");
     }
 }

@@ -1,10 +1,10 @@
 //! The script of the program `test_replay`: whole checks (`replay_checks`), every refusal of
 //! every call with every other one that may apply beside it (here, and `replay_boxes`),
 //! states that no call leaves, sets loaded ahead (`replay_ahead`, `replay_pairs`), sets
-//! between two marks (`replay_marks`), lists of calls as a bad network and a careless host
-//! make them (`replay_lists`), and halves from before (`replay_older`). What is refused, and
-//! by which number, stands here and is not asked of this implementation; so does every
-//! joined bit.
+//! between two marks (`replay_marks`) and by the clock (`replay_clock`, `replay_days`), lists
+//! of calls as a bad network and a careless host make them (`replay_lists`), and halves from
+//! before (`replay_older`). What is refused, and by which number, stands here and is not asked
+//! of this implementation; so does every joined bit.
 
 use crate::field;
 use crate::measure::{Measure, MAX_LENGTH};
@@ -87,6 +87,7 @@ impl Script {
         self.answered("load camera camera 0 1536 9999", 0);
         self.answered("load office camera 0 1536 9999", 0);
         self.show_all();
+        self.by_the_clock_before_the_first_start();
     }
 
     /// Names that no start takes, and some that are taken.
@@ -390,6 +391,7 @@ pub fn cases() -> Vec<Case> {
     script.distances();
     script.older_sets();
     script.between_marks();
+    script.by_the_clock();
     script.list
 }
 
@@ -442,7 +444,8 @@ mod tests {
         let answers = answers();
         let mut expected = Vec::new();
         for (command, numbers) in [
-            ("deal", &[0, 2, 4, 5, 7, 8][..]),
+            ("clock", &[0, 2, 4, 5, 7, 8, 14, 15, 16][..]),
+            ("deal", &[0, 2, 4, 5, 7, 8]),
             ("deal between", &[0, 2, 4, 5, 7, 8, 13]),
             ("dealer", &[0, 1, 4, 9]),
             ("drop", &[0, 3]),

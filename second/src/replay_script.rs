@@ -4,6 +4,7 @@
 use crate::cases::Seeds;
 use crate::checks;
 use crate::content::{self, Name};
+use crate::day::Table;
 use crate::field::{self, decimal};
 use crate::measure::Measure;
 use crate::message::{ANSWER, MASKED_VECTOR, WORD};
@@ -34,16 +35,26 @@ pub struct Deal {
     pub code: u32,
     pub length: u32,
     pub rule: Rule,
+    /// The table and the minute of a deal by the clock, whose rule is not in its line.
+    pub clock: Option<(Table, u32)>,
     pub rooms: [usize; 2],
 }
 
 impl Display for Deal {
     fn fmt(&self, f: &mut Formatter) -> fmt::Result {
+        let (call, by) = match &self.clock {
+            None => ("deal", self.rule.to_string()),
+            Some((table, minute)) => {
+                let lists = [&table.firsts, &table.lasts, &table.thresholds];
+                let [firsts, lasts, thresholds] = lists.map(|list| hex_words(list));
+                ("clock", format!("{firsts} {lasts} {thresholds} {minute}"))
+            }
+        };
         let (number, seed, code) = (self.number, &self.seed, self.code);
-        let (length, rule, [room0, room1]) = (self.length, self.rule, self.rooms);
+        let (length, [room0, room1]) = (self.length, self.rooms);
         write!(
             f,
-            "deal {number} {seed} {code} {length} {rule} {room0} {room1}"
+            "{call} {number} {seed} {code} {length} {by} {room0} {room1}"
         )
     }
 }
@@ -233,6 +244,7 @@ impl Script {
             code: measure.code(),
             length: length as u32,
             rule: rule.into(),
+            clock: None,
             rooms: [half_bytes(length); 2],
         }
     }

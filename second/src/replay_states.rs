@@ -55,7 +55,7 @@ fn set_bytes(set: &OpenedSet) -> Vec<u8> {
 #[cfg(test)]
 mod tests {
     use super::*;
-    use crate::replay::tests::{checked, started};
+    use crate::replay_lines::{checked, started};
 
     /// The bytes before the open set, those of a set, and those between the two.
     const HEAD: usize = 16 + 4 + 32 + 8 + 4;
