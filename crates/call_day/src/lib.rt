@@ -108,14 +108,14 @@ fn row_at(firsts: &[u32], lasts: &[u32], minute: u32) -> usize
     requires { ⌜ length (now lasts) ≡ length (now firsts) ⌝ }
     ensures { λ r. ⌜ r ≡ rowAt (now (firsts .entry)) (now (lasts .entry)) minute ⌝ }
 {
-    let mut i: usize = 0;
-    while i < firsts.len() {
-        if in_row(firsts[i], lasts[i], minute) {
-            return i;
+    let mut at: usize = 0;
+    while at < firsts.len() {
+        if in_row(firsts[at], lasts[at], minute) {
+            return at;
         }
-        i += 1;
+        at += 1;
     }
-    i
+    at
 }
 
 // Whether a table is good.

@@ -81,7 +81,7 @@ unfolding CanEnd
 can-end s f cs a d v R F =
     let out : List ℕ = replicate (halfSize (d .terms .n)) 0 in
     let enough = room (halfSize (d .terms .n)) in
-    (ended s f cs a d v R F (begins s f cs a d v F), (deal d out out, (refl, refl, enough, enough)))
+    ((deal d out out, (refl, refl, enough, enough)), ended s f cs a d v R F (begins s f cs a d v F))
 
 can-drop : CanDrop
 unfolding CanDrop

@@ -14,7 +14,7 @@ use Rattle.door_lists.specs.Lists.{deal, load, mask, take, finish, join,
 use Rattle.door_lists.specs.Lists.{there, Fits, Sent, SentVector, SentWord, SentAnswer, Admits, history}
 use Rattle.door_lists.specs.Lists.{Admissible, dealByClock, here}
 use Rattle.door_lists.specs.Demand.{Progress, nothingMade, onward, Labelled, Ready, Run, start, own, InRange}
-use Rattle.door_lists.specs.Demand.{Free, Ended}
+use Rattle.door_lists.specs.Demand.{Free, Begins, Ended}
 use Rattle.door_lists.proofs.Boxes.{both}
 use Rattle.door_lists.proofs.Once.{in-left}
 use Rattle.door_lists.proofs.History.{door, halfOf}
@@ -111,7 +111,7 @@ module _ (s : Starts) (start-ok : Started s) (cs : List Call) (list-ok : Admissi
     none = record { run = start; admissible = list-ok; events-are = refl }
 
     -- its first call is its deal, of either kind
-    begun : (first : Call) → Ready (door s) d v nothingMade [] first
+    begun : (first : Call) → Begins (door s) d v first
         → Reached (first ∷ []) (record { begun = true; made = λ b. 0; ended = false }) (dealt d (halfOf s d) ∷ [])
     begun (deal e out0 out1) r = next none (deal e out0 out1) r
     begun (dealByClock k out0 out1) r = next none (dealByClock k out0 out1) r
@@ -121,7 +121,7 @@ module _ (s : Starts) (start-ok : Started s) (cs : List Call) (list-ok : Admissi
     begun (finish b m) r = absurd (omega (arith, r .0))
     begun (join m n) r = elim (r .2) [ ]
 
-    pub ended : (first : Call) → Ready (door s) d v nothingMade [] first → Ended s cs d v first
+    pub ended : (first : Call) → Begins (door s) d v first → Ended s cs d v first
     ended first r =
         let out : List ℕ = replicate (d .terms .n) 0 in
         let t1 = begun first r in

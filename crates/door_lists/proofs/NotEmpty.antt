@@ -32,7 +32,7 @@ use Rattle.call_dealer.specs.Dealer.{startDealer, whyNotDealer, halfSize}
 use Rattle.call_dealer.specs.Clock.{ClockDeal, clockFrom, dealAt}
 use Rattle.door_lists.specs.Lists.{Box, camera, office, partyOf, Starts, Started, Call, dealByClock, history}
 use Rattle.door_lists.specs.Lists.{Admissible}
-use Rattle.door_lists.specs.Demand.{nothingMade, Ready, InRange, Free, CanEnd, Example, ByClock}
+use Rattle.door_lists.specs.Demand.{Begins, InRange, Free, CanEnd, Example, ByClock}
 use Rattle.door_lists.proofs.Boxes.{both}
 use Rattle.door_lists.proofs.Stuck.{room}
 
@@ -245,7 +245,7 @@ module _ (n : ℕ) (terms : Terms) (small : n < 2 ^ 64) (coded : isCode (terms .
 
   -- .. which begins with a call that it may begin with
   begins-with : CanEnd → (s : Starts) → Started s → (cs : List Call) → Admissible s cs → Free s (history s cs) n
-      → (first : Call) → Ready (padded (s .name)) sampleDeal (p .v) nothingMade [] first
+      → (first : Call) → Begins (padded (s .name)) sampleDeal (p .v) first
       → (e : Example s cs n terms rule bit) × (e .first ≡ first)
   unfolding CanEnd
   begins-with ends s f cs a F first r = (
@@ -257,7 +257,7 @@ module _ (n : ℕ) (terms : Terms) (small : n < 2 ^ 64) (coded : isCode (terms .
       rule-is = refl;
       in-range = sample-range;
       first = first;
-      ended = ends s f cs a sampleDeal (p .v) sample-range F .0 first r;
+      ended = ends s f cs a sampleDeal (p .v) sample-range F .1 first r;
       says = p .says;
     },
     refl,
@@ -267,7 +267,7 @@ module _ (n : ℕ) (terms : Terms) (small : n < 2 ^ 64) (coded : isCode (terms .
       → Example s cs n terms rule bit
   unfolding CanEnd
   example ends s f cs a F =
-      let (first, r) = ends s f cs a sampleDeal (p .v) sample-range F .1 in begins-with ends s f cs a F first r .0
+      let (first, r) = ends s f cs a sampleDeal (p .v) sample-range F .0 in begins-with ends s f cs a F first r .0
 
 -- .. by the clock: a table of one row
 module _ (n : ℕ) (terms : Terms) (small : n < 2 ^ 64) (coded : isCode (terms .code) ≡ true)

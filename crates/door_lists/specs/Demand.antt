@@ -315,13 +315,16 @@ pub record Ended (s : Starts) (cs : List Call) (d : Deal) (v : Box → List ℕ)
   pub says : history s (rs ++ cs) ≡ joined (d .number) (verdict d (v camera) (v office)) ∷ before
   pub free : (n : ℕ) → d .number < n → Free s (history s (rs ++ cs)) n
 
--- after every admissible list that leaves no set open, for every deal and vectors in range there is such a run, with
--- every call that it may begin with, and there is such a call
+-- a call that a run may begin with
+abbrev pub Begins : List ℕ → Deal → (Box → List ℕ) → Call → Type 0
+Begins door d v first = Ready door d v nothingMade [] first
+
+-- after every admissible list that leaves no set open, for every deal and vectors in range there is a call that the run
+-- may begin with, and with each such call there is such a run
 unfoldable pub CanEnd : Type 0
 CanEnd = (s : Starts) → Started s → (cs : List Call) → Admissible s cs → (d : Deal) (v : Box → List ℕ) → InRange d v
-    → Free s (history s cs) (d .number)
-    → ((first : Call) → Ready (padded (s .name)) d v nothingMade [] first → Ended s cs d v first)
-    × ((first : Call) × Ready (padded (s .name)) d v nothingMade [] first)
+    → Free s (history s cs) (d .number) → ((first : Call) × Begins (padded (s .name)) d v first)
+    × ((first : Call) → Begins (padded (s .name)) d v first → Ended s cs d v first)
 
 -- "Drop ends the open set", 02, §1: "Drop acts on the open set only": after every admissible list, a box with a set
 -- open is not refused its drop, and is then as with that set closed [SPEC 19.1, 19.2, 28.12]

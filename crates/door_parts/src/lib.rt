@@ -145,9 +145,9 @@ impl Door {
             out0,
             out1,
         );
-        let next = a.dealer;
+        let dealt = a.dealer;
         let mut door = self;
-        door.dealer = next;
+        door.dealer = dealt;
         PlacedAnswer {
             why: a.why,
             place: a.place,

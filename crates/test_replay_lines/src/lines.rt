@@ -138,13 +138,19 @@ fn read_rule(field: &[u8]) -> Value {
     }
 }
 
-// The count of a field's bytes, which go to its slot. A vector has whole words.
+// The count of a field's bytes, which go to its slot. A vector has whole words, and words are generated
+// for vectors alone.
 fn read_bytes(kind: u8, field: &[u8], b: &mut [u8; BYTES], slot: usize) -> Value {
     let mut bytes = [0u8; SLOT];
     let r = test_script::read_bytes(field, &mut bytes);
     memory::lay(b, slot, &bytes);
+    let fits = if kind == b'B' {
+        test_script::first_byte(field) != b'~'
+    } else {
+        r.count % 4 == 0
+    };
     Value {
-        ok: r.ok & ((kind == b'B') | (r.count % 4 == 0)),
+        ok: r.ok & fits,
         n: memory::wide(r.count),
     }
 }

@@ -11,10 +11,10 @@ use Rattle.call_day.proofs.row_at.Statement.{statement}
 use Rattle.call_day.proofs.row_at.Tie as tie
 
 abbrev Inv-loop : tie.InvT-loop
-Inv-loop firsts lasts minute i₀ i = (i ≤ length firsts) × ((k : ℕ) → k < i → holds firsts lasts minute k ≡ false)
+Inv-loop firsts lasts minute at₀ at = (at ≤ length firsts) × ((k : ℕ) → k < at → holds firsts lasts minute k ≡ false)
 
 abbrev μ-loop : tie.MeasureT-loop
-μ-loop firsts lasts minute i₀ i = length firsts - i
+μ-loop firsts lasts minute at₀ at = length firsts - at
 
 loop-holds : tie.Need-loop-holds Inv-loop μ-loop
 loop-holds c = (search needs, λ k h. absurd (omega arith))
@@ -38,11 +38,11 @@ returns : tie.Need-returns Inv-loop μ-loop
 unfolding rowAt holds
 returns c =
     let at-test = c .before in
-    let at = at-test .before .before .before .before in
-    found (omega arith) (at .loop .inv .1) (sym (at-test .in-row .ensures) ∙ c .if1 .taken)
+    let step = at-test .before .before .before .before in
+    found (omega arith) (step .loop .inv .1) (sym (at-test .in-row .ensures) ∙ c .if1 .taken)
 
-add-i : tie.Need-add-i Inv-loop μ-loop
-add-i c = search needs
+add-at : tie.Need-add-at Inv-loop μ-loop
+add-at c = search needs
 
 loop-less : tie.Need-loop-less Inv-loop μ-loop
 loop-less c = search needs
@@ -51,8 +51,8 @@ loop-again : tie.Need-loop-again Inv-loop μ-loop
 unfolding holds
 loop-again c =
     let at-test = c .before in
-    let at = at-test .before .before .before .before in
-    (search needs, below-more _ _ (at .loop .inv .1) (sym (at-test .in-row .ensures) ∙ c .if1 .left))
+    let step = at-test .before .before .before .before in
+    (search needs, below-more _ _ (step .loop .inv .1) (sym (at-test .in-row .ensures) ∙ c .if1 .left))
 
 returns-2 : tie.Need-returns-2 Inv-loop μ-loop
 unfolding rowAt
@@ -71,7 +71,7 @@ row-at-spec =
     shared-slice-read-in-row-2
     in-row-requires
     returns
-    add-i
+    add-at
     loop-less
     loop-again
     returns-2)
