@@ -51,8 +51,8 @@ abbrev pub badMarks : ℕ
 badMarks = 13
 
 -- 02, §5
-abbrev pub badTable : ℕ
-badTable = 14
+abbrev pub badRows : ℕ
+badRows = 14
 
 abbrev pub noRow : ℕ
 noRow = 15

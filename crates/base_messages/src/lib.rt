@@ -33,7 +33,7 @@ pub const BAD_SUM: u32 = 12;
 
 pub const BAD_MARKS: u32 = 13;
 
-pub const BAD_TABLE: u32 = 14;
+pub const BAD_ROWS: u32 = 14;
 
 pub const NO_ROW: u32 = 15;
 

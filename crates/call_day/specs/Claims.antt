@@ -10,13 +10,13 @@ use borrow.Author.Tests.{not-true, not-false}
 use lib.Dec.{eqb, leb, ltb}
 use lib.ListN.{length, getD}
 use Rattle.base_algebra.specs.Bit.{both, neither}
-use Rattle.base_messages.specs.Messages.{badTable, noRow, moreRows}
+use Rattle.base_messages.specs.Messages.{badRows, noRow, moreRows}
 use Rattle.call_day.specs.Search.{least, count, Single, least-least, found, not-found, count-none, count-single}
 use Rattle.call_day.specs.Search.{count-two, none-count, single-count, two-count}
 use Rattle.call_day.specs.Table.{Table, tableOf, day, mostRows, noThreshold, holds, badRow, rowsWith, badMinute}
-use Rattle.call_day.specs.Table.{firstBadRow, firstBadMinute, rowAt, shaped, verdict, whyNotTable, choose}
+use Rattle.call_day.specs.Table.{firstBadRow, firstBadMinute, rowAt, shaped, fault, whyNotTable, choose}
 use Rattle.call_day.specs.Laws as laws
-use Rattle.call_day.specs.declared.Verdict.{Verdict}
+use Rattle.call_day.specs.declared.Fault.{Fault}
 use Rattle.call_day.specs.declared.Choice.{Choice}
 
 -- ---- what a table is, in 02's words, with no test and no search. Rows are counted from 0.
@@ -56,7 +56,7 @@ module _ (firsts lasts : List ℕ) where
   abbrev pub GoodRows : Type 0
   GoodRows = (i : ℕ) → i < length firsts → GoodRow i
 
-  -- "Every minute must lie in one row and no more", up to this one
+  -- "Every minute must lie in one row and no more": every one below this
   abbrev pub OneRowBelow : ℕ → Type 0
   OneRowBelow minute = (m : ℕ) → m < minute → OneRow m
 
@@ -69,11 +69,11 @@ pub record Good (t : Table) : Type 0 where
 -- what a number and its place say of a table
 pub data Says (t : Table) : ℕ → ℕ → Type 0 where
   good : Good t → Says t 0 0
-  lists : (Shaped t → ⊥) → Says t badTable 0
+  lists : (Shaped t → ⊥) → Says t badRows 0
   -- the first bad row
   row : Shaped t → (i : ℕ) → i < length (t .firsts) → (GoodRow (t .firsts) (t .lasts) i → ⊥)
       → ((j : ℕ) → j < i → GoodRow (t .firsts) (t .lasts) j)
-      → Says t badTable (suc i)
+      → Says t badRows (suc i)
   -- the lowest bad minute
   none : Shaped t → GoodRows (t .firsts) (t .lasts)
       → (m : ℕ) → m < day → OneRowBelow (t .firsts) (t .lasts) m → ((i : ℕ) → InRow (t .firsts) (t .lasts) m i → ⊥)
@@ -267,9 +267,9 @@ module _ (t : Table) where
   abbrev badMinuteOf : ℕ
   badMinuteOf = firstBadMinute (t .firsts) (t .lasts)
 
-  said : (v : Verdict) → whyNotTable t ≡ v → Says t (v .why) (v .place)
+  said : (v : Fault) → whyNotTable t ≡ v → Says t (v .why) (v .place)
       → Says t (whyNotTable t .why) (whyNotTable t .place)
-  said v e h = subst (λ (v : Verdict). Says t (v .why) (v .place)) (sym e) h
+  said v e h = subst (λ (v : Fault). Says t (v .why) (v .place)) (sym e) h
 
   -- the number and the place that are told are true of the table
   pub told : Says t (whyNotTable t .why) (whyNotTable t .place)
@@ -314,7 +314,7 @@ module _ (t : Table) where
       go false e = said _ (laws.lists t e) (lists (λ s. neither (sym e ∙ of-shaped t s)))
 
   -- and no others are
-  pub told-only : {why place : ℕ} → Says t why place → verdict why place ≡ whyNotTable t
+  pub told-only : {why place : ℕ} → Says t why place → fault why place ≡ whyNotTable t
   told-only (good g) =
       sym (laws.good t (of-shaped t (g .is-shaped)) (omega (arith, rows-all (t .firsts) (t .lasts) (g .rows)))
       (omega (arith, minutes-all (t .firsts) (t .lasts) (g .minutes))))
@@ -325,18 +325,18 @@ module _ (t : Table) where
       wrong n false e = e
   told-only (row s i l b g) =
       let at = bad-at (t .firsts) (t .lasts) i l b g in
-      ap (λ (k : ℕ). verdict badTable (suc k)) at ∙ sym (laws.row t (of-shaped t s) (omega arith))
+      ap (λ (k : ℕ). fault badRows (suc k)) at ∙ sym (laws.row t (of-shaped t s) (omega arith))
   told-only (none s g m l o n) =
       let at = minute-at (t .firsts) (t .lasts) m l o (not-one-none (t .firsts) (t .lasts) m n) in
       let z : rowsWith (t .firsts) (t .lasts) badMinuteOf ≡ 0 =
       ap (rowsWith (t .firsts) (t .lasts)) (sym at) ∙ of-no (t .firsts) (t .lasts) m n in
-      ap (verdict noRow) at
+      ap (fault noRow) at
       ∙ sym (laws.none t (of-shaped t s) (omega (arith, rows-all (t .firsts) (t .lasts) g)) (omega arith) z)
   told-only (more s g m l o w) =
       let at = minute-at (t .firsts) (t .lasts) m l o (not-one-two (t .firsts) (t .lasts) m w) in
       let k : rowsWith (t .firsts) (t .lasts) m ≡ rowsWith (t .firsts) (t .lasts) badMinuteOf =
       ap (rowsWith (t .firsts) (t .lasts)) at in
-      ap (verdict moreRows) at
+      ap (fault moreRows) at
       ∙ sym (laws.more t (of-shaped t s) (omega (arith, rows-all (t .firsts) (t .lasts) g)) (omega arith)
       (λ z. omega (arith, of-two (t .firsts) (t .lasts) m w)))
 
@@ -351,7 +351,7 @@ module _ (t : Table) where
       go (none s g m l o n) e = absurd (omega arith)
       go (more s g m l o w) e = absurd (omega arith)
 
-  pub good-taken : Good t → whyNotTable t ≡ verdict 0 0
+  pub good-taken : Good t → whyNotTable t ≡ fault 0 0
   good-taken g = sym (told-only (good g))
 
 -- what is told of a minute: its threshold and its place, counted from 1, are those of the only row that holds it
@@ -379,7 +379,7 @@ module _ (t : Table) (minute : ℕ) where
         row = o .row;
         in-row = o .in-row;
         only = o .only;
-        taken = ap (λ (v : Verdict). v .why) (good-taken t g);
+        taken = ap (λ (v : Fault). v .why) (good-taken t g);
         place-is = rw (good-taken t g, lt-ltb minute day h, at) refl;
         threshold-is = rw (good-taken t g, lt-ltb minute day h, at) refl;
       }
@@ -388,6 +388,12 @@ module _ (t : Table) (minute : ℕ) where
   pub past-day : Good t → day ≤ minute → choose t minute ≡ record { why = 0; place = 0; threshold = noThreshold }
   unfolding choose
   past-day g h = rw (good-taken t g, le-ltb minute day h) refl
+
+  -- "A good table must be taken" whatever its thresholds: only how many there are counts
+  pub any-thresholds : (u : Table) → u .firsts ≡ t .firsts → u .lasts ≡ t .lasts
+      → length (u .thresholds) ≡ length (t .thresholds) → whyNotTable u ≡ whyNotTable t
+  unfolding whyNotTable shaped
+  any-thresholds u f l n = rw (f, l, n) refl
 
   -- a bad table: its number and place, whatever the minute
   pub choose-why : choose t minute .why ≡ whyNotTable t .why
@@ -404,7 +410,7 @@ module _ (t : Table) (minute : ℕ) where
 abbrev pub wholeDay : ℕ → Table
 wholeDay threshold = tableOf (0 ∷ []) (1439 ∷ []) (threshold ∷ [])
 
-pub whole-day : (threshold : ℕ) → whyNotTable (wholeDay threshold) ≡ verdict 0 0
+pub whole-day : (threshold : ℕ) → whyNotTable (wholeDay threshold) ≡ fault 0 0
 unfolding whyNotTable shaped firstBadRow firstBadMinute rowsWith badRow badMinute holds least count
 whole-day threshold = refl
 
@@ -416,14 +422,30 @@ whole-day-row threshold minute h =
 
 -- minute 300 in two rows and minute 900 in none: the lower one decides
 lower-first :
-    whyNotTable (tableOf (901 ∷ 0 ∷ 300 ∷ []) (1439 ∷ 300 ∷ 899 ∷ []) (7 ∷ 7 ∷ 7 ∷ [])) ≡ verdict moreRows 300
+    whyNotTable (tableOf (901 ∷ 0 ∷ 300 ∷ []) (1439 ∷ 300 ∷ 899 ∷ []) (7 ∷ 7 ∷ 7 ∷ [])) ≡ fault moreRows 300
 unfolding whyNotTable shaped firstBadRow firstBadMinute rowsWith badRow badMinute holds least count
 lower-first = refl
 
--- three bad rows: the first is told
-backwards : whyNotTable (tableOf (0 ∷ 700 ∷ 9 ∷ []) (1440 ∷ 600 ∷ 8 ∷ []) (7 ∷ 7 ∷ 7 ∷ [])) ≡ verdict badTable 1
+-- lists of unequal length, in each place, and no rows
+lists-differ :
+    (whyNotTable (tableOf (0 ∷ []) (1439 ∷ []) []) ≡ fault badRows 0)
+    × (whyNotTable (tableOf (0 ∷ []) [] (7 ∷ [])) ≡ fault badRows 0)
+    × (whyNotTable (tableOf [] (1439 ∷ []) (7 ∷ [])) ≡ fault badRows 0)
+    × (whyNotTable (tableOf [] [] []) ≡ fault badRows 0)
+unfolding whyNotTable shaped
+lists-differ = (refl, refl, refl, refl)
+
+-- minute 0 in no row, and minute 1,439
+gaps :
+    (whyNotTable (tableOf (1 ∷ []) (1439 ∷ []) (7 ∷ [])) ≡ fault noRow 0)
+    × (whyNotTable (tableOf (0 ∷ []) (1438 ∷ []) (7 ∷ [])) ≡ fault noRow 1439)
 unfolding whyNotTable shaped firstBadRow firstBadMinute rowsWith badRow badMinute holds least count
-backwards = refl
+gaps = (refl, refl)
+
+-- three bad rows: the first is told
+first-of-three : whyNotTable (tableOf (0 ∷ 700 ∷ 9 ∷ []) (1440 ∷ 600 ∷ 8 ∷ []) (7 ∷ 7 ∷ 7 ∷ [])) ≡ fault badRows 1
+unfolding whyNotTable shaped firstBadRow firstBadMinute rowsWith badRow badMinute holds least count
+first-of-three = refl
 
 -- rows of night, work and evening, in another order: at minute 480 work's row is used, the third
 work-row :

@@ -6,9 +6,9 @@ use mathlib.Core.List.{List}
 use Prim.Native.Nat.{ℕ, suc}
 use lib.Dec.{eqb, leb, ltb}
 use lib.ListN.{length, getD}
-use Rattle.base_messages.specs.Messages.{badTable, noRow, moreRows}
+use Rattle.base_messages.specs.Messages.{badRows, noRow, moreRows}
 use Rattle.call_day.specs.Search.{least, count}
-use Rattle.call_day.specs.declared.Verdict.{Verdict}
+use Rattle.call_day.specs.declared.Fault.{Fault}
 use Rattle.call_day.specs.declared.Choice.{Choice}
 
 -- "A table of 1 to 32 rows holds first minute, last minute and threshold, handed in as three lists" [SPEC 33.1]
@@ -71,22 +71,22 @@ shaped t =
     && (eqb (length (t .thresholds)) (length (t .firsts))
     && (leb 1 (length (t .firsts)) && leb (length (t .firsts)) mostRows))
 
-abbrev pub verdict : ℕ → ℕ → Verdict
-verdict why place = record { why = why; place = place }
+abbrev pub fault : ℕ → ℕ → Fault
+fault why place = record { why = why; place = place }
 
 -- "Number 14 means lists of unequal length or a row count outside 1 to 32 (place 0) or else a row running backwards or
 -- past 1,439 (the first such row, counted from 1); then the lowest minute not in just one row is reported, with 15 if
 -- it has none and 16 if it has more" [SPEC 23.14 to 23.16]
-unfoldable pub whyNotTable : Table → Verdict
+unfoldable pub whyNotTable : Table → Fault
 whyNotTable t =
     let row : ℕ = firstBadRow (t .firsts) (t .lasts) in
     let minute : ℕ = firstBadMinute (t .firsts) (t .lasts) in
-    cond (not (shaped t)) (verdict badTable 0)
-    (cond (ltb row (length (t .firsts))) (verdict badTable (suc row))
-    (cond (not (ltb minute day)) (verdict 0 0)
-    (cond (eqb (rowsWith (t .firsts) (t .lasts) minute) 0) (verdict noRow minute) (verdict moreRows minute))))
+    cond (not (shaped t)) (fault badRows 0)
+    (cond (ltb row (length (t .firsts))) (fault badRows (suc row))
+    (cond (not (ltb minute day)) (fault 0 0)
+    (cond (eqb (rowsWith (t .firsts) (t .lasts) minute) 0) (fault noRow minute) (fault moreRows minute))))
 
--- where no row is chosen: no measure takes this threshold (`call_dealer` Laws.`nobody-takes`)
+-- where no row is chosen: no measure takes this threshold (`call_dealer` ClockLaws.`nobody-takes`)
 abbrev pub noThreshold : ℕ
 noThreshold = 2147483648
 
@@ -94,11 +94,11 @@ noThreshold = 2147483648
 -- table is bad, its number and place; where the minute is not of the day, place 0. [SPEC 14.5, 14.6]
 unfoldable pub choose : Table → ℕ → Choice
 choose t minute =
-    let v : Verdict = whyNotTable t in
-    let told : Bool = eqb (v .why) 0 && ltb minute day in
+    let v : Fault = whyNotTable t in
+    let isRow : Bool = eqb (v .why) 0 && ltb minute day in
     let row : ℕ = rowAt (t .firsts) (t .lasts) minute in
     record {
       why = v .why;
-      place = cond told (suc row) (v .place);
-      threshold = cond told (getD (t .thresholds) row 0) noThreshold;
+      place = cond isRow (suc row) (v .place);
+      threshold = cond isRow (getD (t .thresholds) row 0) noThreshold;
     }

@@ -17,13 +17,14 @@ pub const ROWS: usize = 32;
 const NO_THRESHOLD: u32 = 2147483648;
 
 // Why a table is turned down, or 0; and the place beside it.
-pub struct Verdict {
+pub struct Fault {
     pub why: u32,
     pub place: u32,
 }
 
 // The same, and for a good table the row that holds a minute: its place, counted from 1, and its
-// threshold. For a minute that is not of the day the place is 0.
+// threshold. For a minute that is not of the day the place is 0. Where no row is chosen the threshold
+// is NO_THRESHOLD.
 pub struct Choice {
     pub why: u32,
     pub place: u32,
@@ -118,36 +119,36 @@ fn row_at(firsts: &[u32], lasts: &[u32], minute: u32) -> usize
     at
 }
 
-// Whether a table is good.
-pub fn why_not(firsts: &[u32], lasts: &[u32], thresholds: &[u32]) -> Verdict
+// Why a table is turned down, if it is.
+pub fn why_not(firsts: &[u32], lasts: &[u32], thresholds: &[u32]) -> Fault
     ensures { λ r. ⌜ r
         ≡ whyNotTable (tableOf (now (firsts .entry)) (now (lasts .entry)) (now (thresholds .entry))) ⌝ }
 {
     let n = firsts.len();
     if !((lasts.len() == n) & ((thresholds.len() == n) & ((1 <= n) & (n <= ROWS)))) {
-        return Verdict {
-            why: base_messages::BAD_TABLE,
+        return Fault {
+            why: base_messages::BAD_ROWS,
             place: 0,
         };
     }
     let row = first_bad_row(firsts, lasts);
     if row < n {
-        return Verdict {
-            why: base_messages::BAD_TABLE,
+        return Fault {
+            why: base_messages::BAD_ROWS,
             place: row as u32 + 1,
         };
     }
     let minute = first_bad_minute(firsts, lasts);
     if !(minute < DAY) {
-        return Verdict { why: 0, place: 0 };
+        return Fault { why: 0, place: 0 };
     }
     if rows_with(firsts, lasts, minute) == 0 {
-        return Verdict {
+        return Fault {
             why: base_messages::NO_ROW,
             place: minute,
         };
     }
-    Verdict {
+    Fault {
         why: base_messages::MORE_ROWS,
         place: minute,
     }
@@ -158,18 +159,18 @@ pub fn choose(firsts: &[u32], lasts: &[u32], thresholds: &[u32], minute: u32) ->
     ensures { λ r. ⌜ r
         ≡ chooseOf (tableOf (now (firsts .entry)) (now (lasts .entry)) (now (thresholds .entry))) minute ⌝ }
 {
-    let verdict = why_not(firsts, lasts, thresholds);
-    if (verdict.why == 0) & (minute < DAY) {
+    let fault = why_not(firsts, lasts, thresholds);
+    if (fault.why == 0) & (minute < DAY) {
         let at = row_at(firsts, lasts, minute);
         return Choice {
-            why: verdict.why,
+            why: fault.why,
             place: at as u32 + 1,
             threshold: thresholds[at],
         };
     }
     Choice {
-        why: verdict.why,
-        place: verdict.place,
+        why: fault.why,
+        place: fault.place,
         threshold: NO_THRESHOLD,
     }
 }

@@ -10,7 +10,7 @@ use Rattle.measure_table.specs.declared.Terms.{Terms}
 use Rattle.measure_table.specs.declared.Rule.the-variants.{Threshold}
 use Rattle.measure_table.specs.Measure.{ruleFits}
 use Rattle.base_messages.specs.Messages.{outOfRange, unless, ifTaken}
-use Rattle.call_day.specs.declared.Verdict.{Verdict}
+use Rattle.call_day.specs.declared.Fault.{Fault}
 use Rattle.call_day.specs.Table.{Table, day, whyNotTable, choose}
 use Rattle.half_deal.specs.Dealing.{Deal, dealFrom}
 use Rattle.call_dealer.specs.Dealer.{untilRule, nextDealer, outBuffer}
@@ -37,7 +37,7 @@ dealAt k = dealFrom (k .number) (k .seed) (k .terms) (Threshold (choose (k .tabl
 -- range, is 01's eighth in its usual turn".
 unfoldable pub whyNotByClock : Dealer → ClockDeal → ℕ → ℕ → ℕ
 whyNotByClock s k room0 room1 =
-    let v : Verdict = whyNotTable (k .table) in
+    let v : Fault = whyNotTable (k .table) in
     ifTaken (v .why)
     (untilRule s (k .number) (k .seed) (k .terms) room0 room1
     (unless (ltb (k .minute) day && ruleFits (k .terms) (dealAt k .rule)) outOfRange 0))
@@ -47,7 +47,7 @@ whyNotByClock s k room0 room1 =
 -- counted from 1", and "every refusal but 14 to 16 has place 0" [SPEC 14.6]
 unfoldable pub placeByClock : Dealer → ClockDeal → ℕ → ℕ → ℕ
 placeByClock s k room0 room1 =
-    let v : Verdict = whyNotTable (k .table) in
+    let v : Fault = whyNotTable (k .table) in
     ifTaken (v .why)
     (ifTaken (whyNotByClock s k room0 room1) (choose (k .table) (k .minute) .place) 0)
     (v .place)

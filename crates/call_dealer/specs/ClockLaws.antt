@@ -7,7 +7,7 @@ use Prim.Native.Nat.{ℕ, zero, suc, _≤_, _<_}
 use native.Mathlib.Omega.{arith}
 use borrow.Author.Tests.{lt-ltb, le-ltb, ltb-true, ltb-false, eqb-true, eqb-false, eq-eqb, ne-eqb}
 use lib.Dec.{eqb, leb, ltb}
-use lib.ListN.{length}
+use lib.ListN.{length, getD}
 use Rattle.base_algebra.specs.Bit.{neither}
 use Rattle.base_algebra.specs.Word.{signed}
 use Rattle.measure_table.specs.declared.Terms.{Terms}
@@ -15,12 +15,12 @@ use Rattle.measure_table.specs.declared.Rule.the-variants.{Threshold}
 use Rattle.measure_table.specs.Measure.{row as rowOf, scalarProduct, squaredEuclid, hamming, within, thresholdFits}
 use Rattle.measure_table.specs.Measure.{ruleFits, inOrder, isCode, lengthFits}
 use Rattle.base_messages.specs.Messages.{badPartyOrCode, wrongLength, shortBuffer, wrongNumber, outOfRange}
-use Rattle.base_messages.specs.Messages.{badTable, moreRows, isKey, unless, ifTaken}
+use Rattle.base_messages.specs.Messages.{badRows, moreRows, isKey, unless, ifTaken}
 use Rattle.call_day.specs.declared.Choice.{Choice}
 use Rattle.call_day.specs.Table.{Table, day, noThreshold, whyNotTable, choose}
 use Rattle.call_day.specs.Claims.{Says, good, lists, row, none, more, told, Good, taken-good, good-taken, Chosen}
-use Rattle.call_day.specs.Claims.{chosen, past-day}
-use Rattle.half_deal.specs.Dealing.{Deal}
+use Rattle.call_day.specs.Claims.{chosen, InRow, past-day}
+use Rattle.half_deal.specs.Dealing.{Deal, dealFrom}
 use Rattle.call_dealer.specs.Dealer.{halfSize, untilRule, whyNotDeal, deal, dealOut}
 use Rattle.call_dealer.specs.Laws.{deal-tells}
 use Rattle.call_dealer.specs.Clock.{ClockDeal, dealAt, whyNotByClock, placeByClock, dealByClock, clockOut}
@@ -37,6 +37,18 @@ nobody-takes terms = by-code (terms .code)
     by-code (suc zero) = refl
     by-code (suc (suc code)) = refl
 
+-- the deal by row i, counted from 0
+abbrev pub rowDeal : ClockDeal → ℕ → Deal
+rowDeal k i = dealFrom (k .number) (k .seed) (k .terms) (Threshold (getD (k .table .thresholds) i 0))
+
+-- "For a given minute the dealer uses that row's threshold"
+pub row-used : (k : ClockDeal) → Good (k .table) → k .minute < day
+    → (i : ℕ) → InRow (k .table .firsts) (k .table .lasts) (k .minute) i → dealAt k ≡ rowDeal k i
+row-used k g h i r =
+    let c = chosen (k .table) (k .minute) g h in
+    ap (λ t. dealFrom (k .number) (k .seed) (k .terms) (Threshold t))
+    (c .threshold-is ∙ ap (λ j. getD (k .table .thresholds) j 0) (sym (c .only i r)))
+
 module _ (s : Dealer) (k : ClockDeal) where
   -- whether a minute lies in the day or not, its 8 is the deal's own
   rule-test : (b : Bool) → ltb (k .minute) day ≡ b → Good (k .table)
@@ -48,7 +60,6 @@ module _ (s : Dealer) (k : ClockDeal) where
       (past-day (k .table) (k .minute) g (ltb-false _ _ e)) ∙ nobody-takes (k .terms))
 
   module _ (room0 room1 : ℕ) where
-    -- "all come before the dealer's other checks": a bad table is refused by its own number, whatever else is handed in
     pub table-first : (whyNotTable (k .table) .why ≡ 0 → ⊥)
         → whyNotByClock s k room0 room1 ≡ whyNotTable (k .table) .why
     unfolding whyNotByClock ifTaken
@@ -58,6 +69,14 @@ module _ (s : Dealer) (k : ClockDeal) where
         → placeByClock s k room0 room1 ≡ whyNotTable (k .table) .place
     unfolding placeByClock ifTaken
     table-place n = rw (ne-eqb (whyNotTable (k .table) .why) 0 n) refl
+
+    -- "all come before the dealer's other checks": a bad table is turned down with its own number and place, whatever
+    -- else is handed in
+    pub table-answer : (whyNotTable (k .table) .why ≡ 0 → ⊥)
+        → dealByClock s k room0 room1
+        ≡ record { why = whyNotTable (k .table) .why; place = whyNotTable (k .table) .place; dealer = s }
+    unfolding dealByClock ifTaken
+    table-answer n = rw (table-first n, table-place n, ne-eqb (whyNotTable (k .table) .why) 0 n) refl
 
     -- a good table: refused or not, it is the plain deal with the chosen row's threshold
     pub as-deal : Good (k .table) → whyNotByClock s k room0 room1 ≡ whyNotDeal s (dealAt k) room0 room1
@@ -105,7 +124,11 @@ module _ (s : Dealer) (k : ClockDeal) where
     pub told-clock : ClockTells → whyNotByClock s k room0 room1 ≡ 0
     told-clock t = as-deal (t .good-table) ∙ t .deal-taken
 
-    -- ---- "same state, same bytes"
+    -- ---- same number, same state, same bytes
+
+    pub clock-why : Good (k .table) → dealByClock s k room0 room1 .why ≡ deal s (dealAt k) room0 room1 .why
+    unfolding dealByClock deal
+    clock-why g = as-deal g
 
     pub clock-state : Good (k .table)
         → dealByClock s k room0 room1 .dealer ≡ deal s (dealAt k) room0 room1 .dealer
@@ -129,15 +152,19 @@ module _ (s : Dealer) (k : ClockDeal) where
 
     -- .. and 14 to 16 are told of a bad table, and only of one
     pub table-numbers : (whyNotTable (k .table) .why ≡ 0 → ⊥)
-        → (badTable ≤ whyNotByClock s k room0 room1) × (whyNotByClock s k room0 room1 ≤ moreRows)
-    table-numbers n = subst (λ w. (badTable ≤ w) × (w ≤ moreRows)) (sym (table-first n)) (go (told (k .table)) n)
+        → (badRows ≤ whyNotByClock s k room0 room1) × (whyNotByClock s k room0 room1 ≤ moreRows)
+    table-numbers n = subst (λ w. (badRows ≤ w) × (w ≤ moreRows)) (sym (table-first n)) (go (told (k .table)) n)
       where
-        go : {why place : ℕ} → Says (k .table) why place → (why ≡ 0 → ⊥) → (badTable ≤ why) × (why ≤ moreRows)
+        go : {why place : ℕ} → Says (k .table) why place → (why ≡ 0 → ⊥) → (badRows ≤ why) × (why ≤ moreRows)
         go (good g) n = absurd (n refl)
         go (lists s) n = (omega arith, omega arith)
         go (row s i l b g) n = (omega arith, omega arith)
         go (none s g m l o e) n = (omega arith, omega arith)
         go (more s g m l o w) n = (omega arith, omega arith)
+
+    pub place-low : (whyNotByClock s k room0 room1 ≡ 0 → ⊥) → whyNotByClock s k room0 room1 < badRows
+        → dealByClock s k room0 room1 .place ≡ 0
+    place-low n l = good-or-not (λ g. place-0 g n) (λ b. absurd (omega (arith, l, table-numbers b .0)))
 
     pub deal-numbers : Good (k .table) → whyNotByClock s k room0 room1 ≤ outOfRange
     unfolding whyNotByClock ifTaken unless

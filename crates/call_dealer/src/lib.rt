@@ -33,8 +33,8 @@ pub struct DealerAnswer {
     pub dealer: Dealer,
 }
 
-// The same of a deal by the clock, and a place: the row that was used, counted from 1, or where the
-// table is bad.
+// The same of a deal by the clock, and a place: the row that was used, counted from 1; with 14 to 16
+// the row or the minute that they name; else 0.
 #[repr(C)]
 pub struct ClockAnswer {
     pub why: u32,
@@ -157,7 +157,7 @@ impl Dealer {
     }
 }
 
-// The row's place with an accepted deal.
+// The row's place with an accepted deal, else 0.
 fn place_told(why: u32, place: u32) -> u32
     ensures { λ r. ⌜ r ≡ ifTaken why place 0 ⌝ }
 {

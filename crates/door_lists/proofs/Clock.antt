@@ -9,7 +9,7 @@ use lib.Dec.{eqb}
 use lib.ListN.{length}
 use Rattle.base_messages.specs.Messages.{ifTaken}
 use Rattle.call_day.specs.Table.{whyNotTable}
-use Rattle.call_day.specs.Claims.{taken-good}
+use Rattle.call_day.specs.Claims.{Good, taken-good}
 use Rattle.half_content.specs.Content.{part}
 use Rattle.call_dealer.specs.declared.Dealer.{Dealer}
 use Rattle.call_dealer.specs.Dealer as DealerCalls
@@ -28,9 +28,9 @@ module _ (w : World) (k : ClockDeal) (out0 out1 : List ℕ) where
       (dealt (dealAt k) (λ b. part 0 (halfSize (k .terms .n)) (outBuffer why s (dealAt k) out0 out1 (partyOf b))))
 
   -- a table that 14 to 16 let through
-  pub as-plain : whyNotTable (k .table) .why ≡ 0 → step w (dealByClock k out0 out1) ≡ step w (deal (dealAt k) out0 out1)
+  pub as-plain : Good (k .table) → step w (dealByClock k out0 out1) ≡ step w (deal (dealAt k) out0 out1)
   unfolding ClockCalls.dealByClock ClockCalls.clockOut DealerCalls.deal DealerCalls.dealOut
-  as-plain e = ap by (as-deal (w .dealer) k (length out0) (length out1) (taken-good (k .table) e))
+  as-plain g = ap by (as-deal (w .dealer) k (length out0) (length out1) g)
 
   -- and one that they do not
   table-refused : (whyNotTable (k .table) .why ≡ 0 → ⊥)
@@ -46,5 +46,5 @@ module _ (w : World) (k : ClockDeal) (out0 out1 : List ℕ) where
   by-clock Q f g = go (eqb (whyNotTable (k .table) .why) 0) refl
     where
       go : (b : Bool) → eqb (whyNotTable (k .table) .why) 0 ≡ b → Q (step w (dealByClock k out0 out1))
-      go true e = subst Q (sym (as-plain (eqb-true _ 0 e))) f
+      go true e = subst Q (sym (as-plain (taken-good (k .table) (eqb-true _ 0 e)))) f
       go false e = subst Q (sym (table-refused (eqb-false _ 0 e))) (g _)

@@ -12,7 +12,7 @@ use Rattle.call_dealer.specs.Dealer.{halfSize}
 use Rattle.door_lists.specs.Lists.{Box, camera, office, other, World, Starts, Started, beginning, Message, Call}
 use Rattle.door_lists.specs.Lists.{deal, load, mask, take, finish, join, Event, dealt, step, after, events, In}
 use Rattle.door_lists.specs.Lists.{there, Fits, Sent, SentVector, SentWord, SentAnswer, Admits, history}
-use Rattle.door_lists.specs.Lists.{Admissible, dealByClock, here}
+use Rattle.door_lists.specs.Lists.{Admissible, dealByClock, here, refused}
 use Rattle.door_lists.specs.Demand.{Progress, nothingMade, onward, Labelled, Ready, Run, start, own, InRange}
 use Rattle.door_lists.specs.Demand.{Free, Begins, Ended}
 use Rattle.door_lists.proofs.Boxes.{both}
@@ -55,7 +55,7 @@ module _ (name : List ℕ) (d : Deal) (v : Box → List ℕ) where
 
   pub fitting : d .number < 2 ^ 64 → (c : Call) (g : Progress) (h : List Event) → Ready name d v g h c → Fits c
   fitting k (deal e out0 out1) g h (m, q, r0, r1) = subst (λ z. z .number < 2 ^ 64) (sym q) k
-  fitting k (dealByClock e out0 out1) g h r = subst (λ z. z .number < 2 ^ 64) (sym (r .1)) k
+  fitting k (dealByClock e out0 out1) g h r = subst (λ z. z .number < 2 ^ 64) (sym (r .5)) k
   fitting k (load b x) g h r = tt
   fitting k (mask b x out) g h r = tt
   fitting k (take b m) g h r = tt
@@ -107,6 +107,10 @@ module _ (s : Starts) (start-ok : Started s) (cs : List Call) (list-ok : Admissi
         → (n : ℕ) → Free s (es ++ history s cs) n → Free s (history s (rs ++ cs)) n
     free-then t n f = subst (λ h. Free s h n) (sym (history-is t)) f
 
+    abbrev newest-event : List Event → Event
+    newest-event [] = refused 0
+    newest-event (e ∷ h) = e
+
     none : Reached [] nothingMade []
     none = record { run = start; admissible = list-ok; events-are = refl }
 
@@ -139,6 +143,8 @@ module _ (s : Starts) (start-ok : Started s) (cs : List Call) (list-ok : Admissi
           rs = _;
           later = _ ∷ _ ∷ _ ∷ _ ∷ _ ∷ _ ∷ _ ∷ _ ∷ _ ∷ [];
           begins = refl;
+          written = halfOf s d;
+          deals = ap newest-event (t1 .events-are);
           g = _;
           run = t .run;
           whole = (refl, both _ refl refl, refl);

@@ -24,12 +24,11 @@ use Rattle.base_messages.specs.Messages.{unless, nameFits, padded, printable, i
 use Rattle.call_party.specs.Party.{startParty, whyNotParty}
 use Rattle.call_lock.specs.Lock.{startLock, whyNotLock}
 use Rattle.half_deal.specs.Dealing.{Deal, dealFrom}
-use Rattle.call_day.specs.declared.Verdict.{Verdict}
-use Rattle.call_day.specs.declared.Choice.{Choice}
+use Rattle.call_day.specs.declared.Fault.{Fault}
 use Rattle.call_day.specs.Table.{day}
-use Rattle.call_day.specs.Claims.{wholeDay, whole-day, whole-day-row}
+use Rattle.call_day.specs.Claims.{InRow, taken-good, wholeDay, whole-day}
 use Rattle.call_dealer.specs.Dealer.{startDealer, whyNotDealer, halfSize}
-use Rattle.call_dealer.specs.Clock.{ClockDeal, clockFrom, dealAt}
+use Rattle.call_dealer.specs.Clock.{ClockDeal, clockFrom}
 use Rattle.door_lists.specs.Lists.{Box, camera, office, partyOf, Starts, Started, Call, dealByClock, history}
 use Rattle.door_lists.specs.Lists.{Admissible}
 use Rattle.door_lists.specs.Demand.{Begins, InRange, Free, CanEnd, Example, ByClock}
@@ -281,12 +280,12 @@ module _ (n : ℕ) (terms : Terms) (small : n < 2 ^ 64) (coded : isCode (terms .
   by-clock ends s f cs a F =
       let out : List ℕ = replicate (halfSize (terms .n)) 0 in
       let enough = room (halfSize (terms .n)) in
-      let is : dealAt sampleClock ≡ dealFrom n (replicate 32 0) terms (Threshold t) =
-      ap (λ (c : Choice). dealFrom n (replicate 32 0) terms (Threshold (c .threshold))) (whole-day-row t minute h) in
-      let taken = ap (λ (v : Verdict). v .why) (whole-day t) in
+      let good = taken-good (wholeDay t) (ap (λ (v : Fault). v .why) (whole-day t)) in
+      let row : InRow (0 ∷ []) (1439 ∷ []) minute 0 =
+      record { row = omega arith; from = omega arith; to = omega arith } in
       let (e, first-is) =
       begins-with n terms small coded long (Threshold t) bit p ends s f cs a F (dealByClock sampleClock out out)
-      (refl, is, taken, h, enough, enough) in
+      (refl, good, h, 0, row, refl, enough, enough) in
       (sampleClock, refl, e, out, out, first-is)
 
 -- ---- a door named "A", with floors of zero

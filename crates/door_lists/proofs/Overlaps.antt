@@ -19,6 +19,7 @@ use Rattle.door_lists.specs.Lists.{refused, put, onBox, maskedBy, step, 
 use Rattle.door_lists.specs.Lists.{dealByClock}
 use Rattle.call_dealer.specs.Dealer.{halfSize}
 use Rattle.call_dealer.specs.Clock.{dealAt}
+use Rattle.call_dealer.specs.ClockLaws.{row-used}
 use Rattle.door_lists.proofs.Clock.{as-plain}
 use Rattle.door_lists.specs.Demand.{lastDealt, lastJoined, madeOne, onward, InRange, Free}
 use Rattle.door_lists.specs.Overlap.{madeTo}
@@ -304,11 +305,11 @@ module _ (S : Starts) (d e : Deal) (v u : Box → List ℕ) (above : d .number <
     goes-first : (c : Call) → FirstReady (door S) d e v u g h c → FirstGoes c
     goes-first (deal x out0 out1) ((m, q, r0, r1), o) =
         subst (λ y. FirstGoes (deal y out0 out1)) (sym q) (first-deal out0 out1 m r0 r1)
-    goes-first (dealByClock k out0 out1) ((m, q, t, l, r0, r1), o) =
+    goes-first (dealByClock k out0 out1) ((m, t, l, i, j, q, r0, r1), o) =
         subst (λ x. (x .event ≡ said S d v (deal (dealAt k) out0 out1))
         × At (x .world) (record { first = onward (g .first) (deal (dealAt k) out0 out1); second = g .second })
         (x .event ∷ h)) (sym (as-plain w k out0 out1 t))
-        (subst (λ y. FirstGoes (deal y out0 out1)) (sym q) (first-deal out0 out1 m r0 r1))
+        (subst (λ y. FirstGoes (deal y out0 out1)) (sym (row-used k t l i j ∙ q)) (first-deal out0 out1 m r0 r1))
     goes-first (load b x) ((m, f, i, q), o) =
         let K = subst (λ l. Holds b (w .box b) 0 l) o (first-at b 0 m) in
         let made = load-made S d v long R b (K .last) [] (omega arith) (none-sound S d v b (K .last))
@@ -496,11 +497,11 @@ module _ (S : Starts) (d e : Deal) (v u : Box → List ℕ) (above : d .number <
     goes-second : (c : Call) → SecondReady (door S) d e v u g h c → SecondGoes c
     goes-second (deal x out0 out1) ((m, q, r0, r1), o) =
         subst (λ y. SecondGoes (deal y out0 out1)) (sym q) (second-deal out0 out1 m o r0 r1)
-    goes-second (dealByClock k out0 out1) ((m, q, t, l, r0, r1), o) =
+    goes-second (dealByClock k out0 out1) ((m, t, l, i, j, q, r0, r1), o) =
         subst (λ x. (x .event ≡ said S e u (deal (dealAt k) out0 out1))
         × At (x .world) (record { first = g .first; second = onward (g .second) (deal (dealAt k) out0 out1) })
         (x .event ∷ h)) (sym (as-plain w k out0 out1 t))
-        (subst (λ y. SecondGoes (deal y out0 out1)) (sym q) (second-deal out0 out1 m o r0 r1))
+        (subst (λ y. SecondGoes (deal y out0 out1)) (sym (row-used k t l i j ∙ q)) (second-deal out0 out1 m o r0 r1))
     goes-second (load b x) ((m, f, i, q), o) = second-load b x m o (q ∙ A .exact-at (dealt e f) i b)
     goes-second (mask b x out) ((m, q, r), o) =
         let call : Party → PartyAnswer = λ y. BoxCalls.mask y x (length out) in

@@ -1,24 +1,26 @@
 -- A refusal changes nothing: one lemma over any call, and for each call that its part keeps what was there. Assumes
 -- nothing.
-use mathlib.Core.Path.{_≡_, refl, sym, ap, _∙_}
+use mathlib.Core.Path.{_≡_, refl, sym, ap, subst, _∙_}
 use mathlib.Core.Bool.{Bool, true, false, cond, not, _&&_}
 use mathlib.Core.List.{List, _∷_}
-use Prim.Native.Nat.{ℕ, suc}
+use Prim.Native.Nat.{ℕ, suc, _<_}
 use native.Mathlib.Omega.{arith}
 use borrow.Author.Tests.{eqb-false}
 use lib.Dec.{eqb}
-use Rattle.base_messages.specs.Messages.{unless, ifTaken}
+use lib.ListN.{length}
+use Rattle.base_messages.specs.Messages.{badRows, unless, ifTaken}
 use Rattle.base_messages.specs.Laws as Laws
 use Rattle.call_dealer.specs.declared.Dealer.{Dealer}
 use Rattle.call_dealer.specs.Dealer as DealerCalls
 use Rattle.call_dealer.specs.Clock as ClockCalls
+use Rattle.call_dealer.specs.ClockLaws.{place-low}
 use Rattle.call_party.specs.declared.Party.{Party}
 use Rattle.call_party.specs.Party as BoxCalls
 use Rattle.call_lock.specs.declared.Lock.{Lock}
 use Rattle.call_lock.specs.Lock as LockCalls
 use Rattle.door_lists.specs.Lists.{Box, put, World, Call, deal, load, mask, take, finish, drop, join, Event}
 use Rattle.door_lists.specs.Lists.{dealt, loaded, sent, dropped, joined, refused, eventOf, step, dealByClock}
-use Rattle.door_lists.specs.Refusals.{lent, lentAfter, said, NothingChanges, RefusalsChangeNothing}
+use Rattle.door_lists.specs.Refusals.{lent, lentAfter, said, placed, NothingChanges, RefusalsChangeNothing}
 use Rattle.door_lists.specs.Refusals.{UnsoundRefused}
 use Rattle.door_lists.proofs.Boxes.{put-same}
 
@@ -67,7 +69,8 @@ buffers p q = λ i. p i ∷ q i
 
 -- a call whose event is e where `why` is 0, and which leaves all as it was where it is not
 alone : (w : World) (c : Call) (k why : ℕ) (e : Event) → refusal e ≡ 0 → step w c .event ≡ eventOf why e
-    → ((why ≡ 0 → ⊥) → (step w c .world ≡ w) × (lentAfter w c ≡ lent c) × (said w c ≡ 0)) → step w c .event ≡ refused k
+    → ((why ≡ 0 → ⊥) → (step w c .world ≡ w) × (lentAfter w c ≡ lent c) × (said w c ≡ 0)
+    × (why < badRows → placed w c ≡ 0)) → step w c .event ≡ refused k
     → NothingChanges w c k
 alone w c k why e n q f p =
     let told = says-why why k e n (sym q ∙ p) in
@@ -77,6 +80,7 @@ alone w c k why e n q f p =
       same-states = left .0;
       same-bytes = left .1;
       nothing-said = left .2;
+      no-place = λ l. left .3 (subst (λ n. n < badRows) (sym (told .0)) l);
     }
 
 pub refusals-change-nothing : RefusalsChangeNothing
@@ -84,22 +88,28 @@ unfolding RefusalsChangeNothing DealerCalls.deal DealerCalls.dealOut ClockCalls.
     BoxCalls.load BoxCalls.mask BoxCalls.maskOut BoxCalls.takeVector BoxCalls.finish BoxCalls.dropSet LockCalls.join
 refusals-change-nothing w (deal d out0 out1) k =
     alone w _ k _ _ refl refl
-    (λ z. (same-dealer w _ (old _ _ _ z), buffers (old _ _ out0 z) (buffers (old _ _ out1 z) refl), refl))
+    (λ z. (same-dealer w _ (old _ _ _ z), buffers (old _ _ out0 z) (buffers (old _ _ out1 z) refl), refl, λ l. refl))
 refusals-change-nothing w (dealByClock d out0 out1) k =
     alone w _ k _ _ refl refl
-    (λ z. (same-dealer w _ (old _ _ _ z), buffers (old _ _ out0 z) (buffers (old _ _ out1 z) refl), refl))
+    (λ z. (
+      same-dealer w _ (old _ _ _ z),
+      buffers (old _ _ out0 z) (buffers (old _ _ out1 z) refl),
+      refl,
+      place-low (w .dealer) d (length out0) (length out1) z,
+    ))
 refusals-change-nothing w (load b h) k =
-    alone w _ k _ _ refl refl (λ z. (same-box w b _ (old _ _ _ z), refl, old _ _ _ z))
+    alone w _ k _ _ refl refl (λ z. (same-box w b _ (old _ _ _ z), refl, old _ _ _ z, λ l. refl))
 refusals-change-nothing w (mask b v out) k =
-    alone w _ k _ _ refl refl (λ z. (same-box w b _ (old _ _ _ z), buffers (old _ _ out z) refl, old _ _ _ z))
+    alone w _ k _ _ refl refl
+    (λ z. (same-box w b _ (old _ _ _ z), buffers (old _ _ out z) refl, old _ _ _ z, λ l. refl))
 refusals-change-nothing w (take b m) k =
-    alone w _ k _ _ refl refl (λ z. (same-box w b _ (old _ _ _ z), refl, old _ _ _ z))
+    alone w _ k _ _ refl refl (λ z. (same-box w b _ (old _ _ _ z), refl, old _ _ _ z, λ l. refl))
 refusals-change-nothing w (finish b m) k =
-    alone w _ k _ _ refl refl (λ z. (same-box w b _ (old _ _ _ z), refl, old _ _ _ z))
+    alone w _ k _ _ refl refl (λ z. (same-box w b _ (old _ _ _ z), refl, old _ _ _ z, λ l. refl))
 refusals-change-nothing w (drop b) k =
-    alone w _ k _ _ refl refl (λ z. (same-box w b _ (old _ _ _ z), refl, old _ _ _ z))
+    alone w _ k _ _ refl refl (λ z. (same-box w b _ (old _ _ _ z), refl, old _ _ _ z, λ l. refl))
 refusals-change-nothing w (join m n) k =
-    alone w _ k _ _ refl refl (λ z. (same-lock w _ (old _ _ _ z), refl, old _ _ _ z))
+    alone w _ k _ _ refl refl (λ z. (same-lock w _ (old _ _ _ z), refl, old _ _ _ z, λ l. refl))
 
 pub refused-still : (w : World) (c : Call) (why : ℕ) → step w c .event ≡ refused why → step w c .world ≡ w
 unfolding RefusalsChangeNothing

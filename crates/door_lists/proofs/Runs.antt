@@ -8,9 +8,10 @@ use native.Mathlib.Omega.{arith}
 use lib.ListN.{length}
 use Rattle.half_seal.specs.Half.{setNumber}
 use Rattle.half_deal.specs.Dealing.{Deal}
-use Rattle.call_day.specs.Table.{whyNotTable}
+use Rattle.call_day.specs.Claims.{Good}
 use Rattle.call_dealer.specs.Dealer.{halfSize}
 use Rattle.call_dealer.specs.Clock.{ClockDeal, dealAt}
+use Rattle.call_dealer.specs.ClockLaws.{row-used}
 use Rattle.door_lists.proofs.Clock.{as-plain}
 use Rattle.call_party.specs.declared.Party.{Party}
 use Rattle.call_party.specs.declared.PartyAnswer.{PartyAnswer}
@@ -135,7 +136,7 @@ module _ (S : Starts) (d : Deal) (v : Box → List ℕ) where
             },
           )
 
-      by-clock-goes : (k : ClockDeal) (out0 out1 : List ℕ) → whyNotTable (k .table) .why ≡ 0
+      by-clock-goes : (k : ClockDeal) (out0 out1 : List ℕ) → Good (k .table)
           → Goes (deal (dealAt k) out0 out1) → Goes (dealByClock k out0 out1)
       by-clock-goes k out0 out1 t goes =
           subst (λ x. (x .event ≡ said S d v (deal (dealAt k) out0 out1))
@@ -144,8 +145,9 @@ module _ (S : Starts) (d : Deal) (v : Box → List ℕ) where
       goes : (c : Call) → Ready (door S) d v g h c → Goes c
       goes (deal e out0 out1) (m, q, r0, r1) =
           subst (λ y. Goes (deal y out0 out1)) (sym q) (deal-goes-on out0 out1 m r0 r1)
-      goes (dealByClock k out0 out1) (m, q, t, l, r0, r1) =
-          by-clock-goes k out0 out1 t (subst (λ y. Goes (deal y out0 out1)) (sym q) (deal-goes-on out0 out1 m r0 r1))
+      goes (dealByClock k out0 out1) (m, t, l, i, j, q, r0, r1) =
+          by-clock-goes k out0 out1 t
+          (subst (λ y. Goes (deal y out0 out1)) (sym (row-used k t l i j ∙ q)) (deal-goes-on out0 out1 m r0 r1))
       goes (load b x) (m, f, i, q) =
           let (last, st, l) = holding b 0 m in
           let made = load-made S d v long R b last [] (omega arith) (none-sound b last)

@@ -17,9 +17,11 @@ use Rattle.measure_table.specs.declared.Rule.the-variants.{Threshold, Between}
 use Rattle.measure_table.specs.Measure.{measure, isCode, lengthFits, allInRange, meets, ruleFits, inOrder, markOf}
 use Rattle.base_messages.specs.Messages.{vectorKind, wordKind, answerKind, padded}
 use Rattle.half_deal.specs.Dealing.{Deal}
-use Rattle.call_day.specs.Table.{day, whyNotTable}
+use Rattle.call_day.specs.Table.{day}
+use Rattle.call_day.specs.Claims.{Good, InRow}
 use Rattle.call_dealer.specs.Dealer.{halfSize}
-use Rattle.call_dealer.specs.Clock.{ClockDeal, dealAt}
+use Rattle.call_dealer.specs.Clock.{ClockDeal}
+use Rattle.call_dealer.specs.ClockLaws.{rowDeal}
 use Rattle.call_party.specs.Party.{closed}
 use Rattle.door_lists.specs.Lists.{Box, camera, office, partyOf, other, sameBox, put, World, Starts, Started}
 use Rattle.door_lists.specs.Lists.{beginning, Message, Call, deal, dealByClock, load, mask, take, finish, drop}
@@ -212,9 +214,11 @@ module _ (door : List ℕ) (d : Deal) (v : Box → List ℕ) where
   Ready g h (deal e out0 out1) =
       (g .begun ≡ false) × (e ≡ d) × (halfSize (d .terms .n) ≤ length out0) × (halfSize (d .terms .n) ≤ length out1)
   -- "The run that is always answered, where it is dealt by the clock, needs a table that 14 to 16 let through and a
-  -- minute from 0 to 1,439" (02, §5)
+  -- minute from 0 to 1,439" (02, §5), and what it deals is the deal by "that row's threshold". No test of the code's
+  -- stands here, but what a good table and the minute's row are. [SPEC 28.6, 33.4]
   Ready g h (dealByClock k out0 out1) =
-      (g .begun ≡ false) × (dealAt k ≡ d) × (whyNotTable (k .table) .why ≡ 0) × (k .minute < day)
+      (g .begun ≡ false) × Good (k .table) × (k .minute < day)
+      × (i : ℕ) × InRow (k .table .firsts) (k .table .lasts) (k .minute) i × (rowDeal k i ≡ d)
       × (halfSize (d .terms .n) ≤ length out0) × (halfSize (d .terms .n) ≤ length out1)
   Ready g h (load b half) = (g .made b ≡ 0) × (f : Box → List ℕ) × In (dealt d f) h × (half ≡ f b)
   Ready g h (mask b x out) = (g .made b ≡ 1) × (x ≡ v b) × (d .terms .n ≤ length out)
@@ -300,13 +304,15 @@ NeverStuck = (s : Starts) → Started s → (cs : List Call) → Admissible s cs
     (rs : List Call) (g : Progress) → Run (padded (s .name)) d v w rs g
     → Whole g ⊎ ((c : Call) × Ready (padded (s .name)) d v g (events w rs) c))
 
--- "The run in the right order follows the list": a whole run rs after the list cs. Both are one admissible list; its
--- first call is this one, its last the join, which is accepted and right; and then every higher number is free.
--- [SPEC 28.1, 28.11]
+-- "The run in the right order follows the list": a whole run rs after the list cs. Both are one admissible list. The
+-- run's first call is this one, and it deals; its last is the join, which is accepted and right; and then every higher
+-- number is free. [SPEC 28.1, 28.11]
 pub record Ended (s : Starts) (cs : List Call) (d : Deal) (v : Box → List ℕ) (first : Call) : Type 0 where
   pub rs : List Call
   pub later : List Call
   pub begins : rs ≡ later ++ first ∷ []
+  pub written : Box → List ℕ
+  pub deals : step (after (beginning s) cs) first .event ≡ dealt d written
   pub g : Progress
   pub run : Run (padded (s .name)) d v (after (beginning s) cs) rs g
   pub whole : Whole g

@@ -3,9 +3,9 @@
 use mathlib.Core.Path.{_≡_}
 use mathlib.Core.Bool.{false}
 use mathlib.Core.List.{List, [], _∷_}
-use Prim.Native.Nat.{ℕ}
+use Prim.Native.Nat.{ℕ, _<_}
 use lib.ListN.{length}
-use Rattle.base_messages.specs.Messages.{cameraParty, officeParty, outOfTurn}
+use Rattle.base_messages.specs.Messages.{cameraParty, officeParty, outOfTurn, badRows}
 use Rattle.call_dealer.specs.Dealer as DealerCalls
 use Rattle.call_dealer.specs.Clock as ClockCalls
 use Rattle.call_party.specs.Party as BoxCalls
@@ -40,8 +40,7 @@ lentAfter w (finish b m) = []
 lentAfter w (drop b) = []
 lentAfter w (join m n) = []
 
--- the word or the bit that the answer has beside its number. Of the place, which a deal by the clock has there,
--- `call_dealer` ClockLaws speaks.
+-- the word or the bit that the answer has beside its number
 abbrev pub said : World → Call → ℕ
 said w (deal d out0 out1) = 0
 said w (dealByClock k out0 out1) = 0
@@ -53,12 +52,25 @@ said w (drop b) = BoxCalls.dropSet (w .box b) .word
 said w (join m n) =
     LockCalls.join (w .lock) (m .label) (m .name) (m .content) (n .label) (n .name) (n .content) .bit
 
--- "The answer is the number alone; no state and no byte changes." [SPEC 22.4]
+-- the place that a deal by the clock has there
+abbrev pub placed : World → Call → ℕ
+placed w (deal d out0 out1) = 0
+placed w (dealByClock k out0 out1) = ClockCalls.dealByClock (w .dealer) k (length out0) (length out1) .place
+placed w (load b h) = 0
+placed w (mask b v out) = 0
+placed w (take b m) = 0
+placed w (finish b m) = 0
+placed w (drop b) = 0
+placed w (join m n) = 0
+
+-- "The answer is the number alone; no state and no byte changes." 02, §5: "every refusal but 14 to 16 has place 0"
+-- [SPEC 14.6, 22.3, 22.4]
 pub record NothingChanges (w : World) (c : Call) (why : ℕ) : Type 0 where
   pub a-number : why ≡ 0 → ⊥
   pub same-states : step w c .world ≡ w
   pub same-bytes : lentAfter w c ≡ lent c
   pub nothing-said : said w c ≡ 0
+  pub no-place : why < badRows → placed w c ≡ 0
 
 unfoldable pub RefusalsChangeNothing : Type 0
 RefusalsChangeNothing = (w : World) (c : Call) (why : ℕ) → step w c .event ≡ refused why → NothingChanges w c why

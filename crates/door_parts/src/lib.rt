@@ -39,7 +39,7 @@ pub struct DoorAnswer {
     pub door: Door,
 }
 
-// The same of a deal by the clock, which answers a place in place of the number.
+// The same of a deal by the clock, with a place where the others have a word.
 pub struct PlacedAnswer {
     pub why: u32,
     pub place: u32,
