@@ -1,13 +1,13 @@
 -- m blocks 0, for any m: started, their first words stored one after the other, and as one-time keys. Assumes nothing.
 use mathlib.Core.Path.{_≡_, refl, sym, ap, _∙_}
-use Prim.Native.Nat.{ℕ, _+_, _*_, _^_, _<_, _≤_, min}
+use Prim.Native.Nat.{ℕ, _+_, _*_, _^_, _<_, _≤_}
 use native.Mathlib.Omega.{arith}
-use mathlib.Core.List.{List, [], _∷_, _++_, map}
+use mathlib.Core.List.{List, [], _∷_, map}
 use lib.ListN.{length, getD, set, take}
 use lib.Seq.{length-take-le}
 use Rattle.base_algebra.specs.Word.{add}
 use Rattle.base_words.specs.List.{tab, over, over-next, over-all, take-tab, flat}
-use Rattle.base_words.specs.Bytes.{bytesOf, length-bytesOf, take-bytesOf, wordAt, wordsAt, wordAt-bytesOf}
+use Rattle.base_words.specs.Bytes.{bytesOf, length-bytesOf, take-bytesOf, wordsAt, wordAt-bytesOf}
 use Rattle.chacha20_rounds.specs.Rounds.{blockFrom}
 use Rattle.chacha20_block.specs.ChaCha20.{start, block, blockBytes}
 use Rattle.chacha20_lanes4.specs.Lanes.{each, each-ext, map-each, getD-each, length-each, flat-more, length-flat, col}

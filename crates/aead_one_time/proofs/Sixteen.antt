@@ -1,19 +1,18 @@
 -- The keys for sixteen nonces, from those for twice eight. Assumes nothing.
-use mathlib.Core.Path.{_≡_, refl, sym, ap, ap₂, _∙_}
-use Prim.Native.Nat.{ℕ, zero, suc, _+_, _*_, _-_, _^_, _<_, _≤_}
+use mathlib.Core.Path.{_≡_, refl, ap, ap₂, _∙_}
+use Prim.Native.Nat.{ℕ, _+_, _*_, _-_, _<_, _≤_}
 use native.Mathlib.Omega.{arith}
-use native.Mathlib.Nat.{mul-le-mul-left}
-use mathlib.Core.List.{List, [], _∷_, _++_}
+use mathlib.Core.List.{List, [], _++_}
 use mathlib.Core.Bool.{Bool, true, false}
 use borrow.Author.Tests.{ltb-true, ltb-false}
 use lib.Dec.{ltb}
-use lib.ListN.{length, take, drop, length-append, length-drop}
-use lib.Seq.{length-take-le, take-append-le, drop-append-le, drop-append-add, take-all}
+use lib.ListN.{length, take, drop, length-drop}
+use lib.Seq.{length-take-le, drop-append-add}
 use Rattle.base_algebra.specs.Word.{add}
-use Rattle.base_words.specs.List.{over, over-after, length-tab, flat}
+use Rattle.base_words.specs.List.{over, over-after, length-tab}
 use Rattle.base_words.specs.Bytes.{bytesOf, length-bytesOf, wordAt, wordsAt}
 use Rattle.chacha20_block.specs.ChaCha20.{block, blockBytes, length-block}
-use Rattle.chacha20_lanes4.specs.Lanes.{each, flat-at, length-flat}
+use Rattle.chacha20_lanes4.specs.Lanes.{flat-at, length-flat}
 use Rattle.aead_seal.specs.Aead.{polyKey}
 use Rattle.aead_one_time.specs.OneTime.{nonceOf, keys, KeysTo}
 

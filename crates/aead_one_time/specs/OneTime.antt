@@ -1,9 +1,8 @@
 -- The one-time keys of RFC 8439, 2.6, for nonces that differ in their last word. Assumes nothing.
-use mathlib.Core.Path.{_≡_, refl, sym, ap, ap₂, _∙_}
-use mathlib.Core.List.{List, [], _∷_, _++_}
-use Prim.Native.Nat.{ℕ, _+_, _*_, _^_, _<_}
-use native.Mathlib.Omega.{arith}
-use lib.ListN.{length, getD, take, drop}
+use mathlib.Core.Path.{_≡_}
+use mathlib.Core.List.{List, [], _∷_}
+use Prim.Native.Nat.{ℕ, _*_, _<_}
+use lib.ListN.{getD, take, drop}
 use Rattle.base_words.specs.List.{flat}
 use Rattle.base_algebra.specs.Word.{add}
 use Rattle.base_words.specs.Bytes.{bytesOf}

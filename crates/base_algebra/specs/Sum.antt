@@ -1,6 +1,6 @@
 -- Sums over the first n places: of words, taken modulo 2^32 (01, "Measures"), and of integers. Assumes nothing.
 -- [SPEC 2.2, 2.7]
-use mathlib.Core.Path.{_≡_, refl, sym, ap, ap₂, _∙_}
+use mathlib.Core.Path.{_≡_, refl, ap, ap₂}
 use Prim.Native.Nat.{ℕ, zero, suc, _+_, _^_, _<_}
 use native.Mathlib.Numerals.{add-one}
 use native.Mathlib.Omega.{arith}

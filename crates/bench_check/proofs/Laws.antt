@@ -6,7 +6,6 @@ use Prim.Native.Nat.{ℕ, _<_, _≤_}
 use lib.ListN.{length}
 use borrow.Author.Tests.{le-leb, lt-leb}
 use Rattle.base_words.specs.List.{over}
-use Rattle.measure_table.specs.declared.Terms.{Terms}
 use Rattle.measure_table.specs.Measure.{ordinaryMark, ownWord}
 use Rattle.share_vectors.specs.Share.{plus, share, boxWord}
 use Rattle.bench_check.specs.Check.{maskFits, maskedOver, wordFits, termsOf, wordOrZero}

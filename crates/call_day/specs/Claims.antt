@@ -1,7 +1,7 @@
 -- What is told of a table is what 02, §5 asks for: which tables are good, which row holds a minute, and what each
 -- refusal and its place mean. Assumes nothing. [SPEC 23.14 to 23.16, 33.1 to 33.4]
 use mathlib.Core.Path.{_≡_, refl, sym, ap, subst, _∙_}
-use mathlib.Core.Bool.{Bool, true, false, not, cond, _&&_}
+use mathlib.Core.Bool.{Bool, true, false, not, _&&_}
 use mathlib.Core.List.{List, [], _∷_}
 use Prim.Native.Nat.{ℕ, zero, suc, _≤_, _<_}
 use native.Mathlib.Omega.{arith}

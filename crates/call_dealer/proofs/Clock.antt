@@ -1,8 +1,7 @@
 -- The deal by the clock, from what the table's look-up and the plain deal say. Assumes nothing.
-use mathlib.Core.Path.{_≡_, refl, sym, ap, subst, _∙_}
+use mathlib.Core.Path.{_≡_, sym, ap, _∙_}
 use mathlib.Core.List.{List}
 use Prim.Native.Nat.{ℕ}
-use borrow.Author.Tests.{ne-eqb}
 use lib.ListN.{length}
 use Rattle.measure_table.specs.declared.Rule.the-variants.{Threshold}
 use Rattle.base_messages.specs.Messages.{ifTaken}
@@ -11,7 +10,7 @@ use Rattle.call_day.specs.declared.Choice.{Choice}
 use Rattle.call_day.specs.Table.{whyNotTable, choose}
 use Rattle.call_day.specs.Claims.{Good, taken-good, good-taken, choose-why, bad-chosen}
 use Rattle.half_deal.specs.Dealing.{Deal, dealFrom}
-use Rattle.call_dealer.specs.Dealer.{deal, dealOut, whyNotDeal}
+use Rattle.call_dealer.specs.Dealer.{deal, dealOut}
 use Rattle.call_dealer.specs.Clock.{ClockDeal, dealAt, whyNotByClock, placeByClock, dealByClock, clockOut}
 use Rattle.call_dealer.specs.ClockLaws.{table-first, table-place, as-deal, clock-state, clock-bytes}
 use Rattle.call_dealer.specs.declared.Dealer.{Dealer}

@@ -5,7 +5,7 @@ use mathlib.Core.Bool.{Bool, true, false, cond, _&&_}
 use mathlib.Core.List.{List}
 use Prim.Native.Nat.{ℕ, zero, suc, _≤_, _<_}
 use native.Mathlib.Omega.{arith}
-use borrow.Author.Tests.{lt-ltb, le-ltb, ltb-true, ltb-false, eqb-true, eqb-false, eq-eqb, ne-eqb}
+use borrow.Author.Tests.{le-ltb, ltb-true, ltb-false, eqb-true, eqb-false, ne-eqb}
 use lib.Dec.{eqb, leb, ltb}
 use lib.ListN.{length, getD}
 use Rattle.base_algebra.specs.Bit.{neither}
@@ -17,7 +17,7 @@ use Rattle.measure_table.specs.Measure.{ruleFits, inOrder, isCode, lengthFits}
 use Rattle.base_messages.specs.Messages.{badPartyOrCode, wrongLength, shortBuffer, wrongNumber, outOfRange}
 use Rattle.base_messages.specs.Messages.{badRows, moreRows, isKey, unless, ifTaken}
 use Rattle.call_day.specs.declared.Choice.{Choice}
-use Rattle.call_day.specs.Table.{Table, day, noThreshold, whyNotTable, choose}
+use Rattle.call_day.specs.Table.{day, noThreshold, whyNotTable, choose}
 use Rattle.call_day.specs.Claims.{Says, good, lists, row, none, more, told, Good, taken-good, good-taken, Chosen}
 use Rattle.call_day.specs.Claims.{chosen, InRow, past-day}
 use Rattle.half_deal.specs.Dealing.{Deal, dealFrom}
@@ -25,7 +25,6 @@ use Rattle.call_dealer.specs.Dealer.{halfSize, untilRule, whyNotDeal, de
 use Rattle.call_dealer.specs.Laws.{deal-tells}
 use Rattle.call_dealer.specs.Clock.{ClockDeal, dealAt, whyNotByClock, placeByClock, dealByClock, clockOut}
 use Rattle.call_dealer.specs.declared.Dealer.{Dealer}
-use Rattle.call_dealer.specs.declared.ClockAnswer.{ClockAnswer}
 
 -- the threshold of no row, under every code
 pub nobody-takes : (terms : Terms) → ruleFits terms (Threshold noThreshold) ≡ false

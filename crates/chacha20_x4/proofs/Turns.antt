@@ -1,6 +1,6 @@
 -- Double rounds on each of n states, and the sum of all, for any n. Assumes nothing.
 use mathlib.Core.Path.{_≡_, refl, sym, ap, ap₂, _∙_}
-use Prim.Native.Nat.{ℕ, zero, suc, _+_, _*_, _%_, _^_, _<_, _≤_}
+use Prim.Native.Nat.{ℕ, suc, _+_, _*_, _%_, _^_, _<_, _≤_}
 use native.Mathlib.Nat.{add-comm, mul-le-mul-left}
 use native.Mathlib.Omega.{arith}
 use native.Mathlib.Numerals.{add-one}
@@ -9,7 +9,7 @@ use lib.ListN.{getD, set}
 use Rattle.base_algebra.specs.Word.{add}
 use Rattle.base_words.specs.List.{tab, tab-ext, getD-tab}
 use Rattle.chacha20_rounds.specs.Rounds.{doubleRound, added, rounds, blockFrom}
-use Rattle.chacha20_lanes4.specs.Lanes.{each, each-ext, map-each, getD-each, col, rows, length-rows, upTo, map-more}
+use Rattle.chacha20_lanes4.specs.Lanes.{each-ext, map-each, getD-each, col, rows, length-rows, upTo, map-more}
 use Rattle.chacha20_lanes4.specs.Lanes.{map-all}
 
 -- a double round on one more of the n states, and on all

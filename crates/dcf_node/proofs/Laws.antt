@@ -5,7 +5,7 @@ use mathlib.Core.List.{List, [], _∷_, zipWith}
 use Prim.Native.Nat.{ℕ, zero, suc, _-_, _/_, _%_, _^_, _<_}
 use native.Mathlib.Nat.{div-one}
 use native.Mathlib.Omega.{arith}
-use lib.Bits.{bitAnd, bitXor, and-mask, and-zero-r, xor-zero-r}
+use lib.Bits.{bitAnd, bitXor, and-mask, xor-zero-r}
 use lib.Dec.{eqb}
 use lib.ListN.{length, getD}
 use Rattle.base_algebra.specs.Ring.{ring}

@@ -3,7 +3,7 @@
 use mathlib.Core.Path.{_≡_, refl, ap, _∙_}
 use mathlib.Core.Bool.{Bool, true, false, cond}
 use mathlib.Core.List.{List}
-use Prim.Native.Nat.{ℕ, _^_, _%_, _<_, _≤_}
+use Prim.Native.Nat.{ℕ, _^_, _%_, _<_}
 use native.Mathlib.Omega.{arith}
 use lib.ListN.{length}
 use Rattle.base_algebra.specs.Word.{add}
@@ -11,7 +11,7 @@ use Rattle.base_algebra.specs.Bit.{only}
 use Rattle.base_words.specs.List.{length-tab}
 use Rattle.measure_table.specs.declared.Terms.{Terms}
 use Rattle.measure_table.specs.Measure.{isCode, lengthFits, allInRange, ruleFits, inOrder, ownWord, carried}
-use Rattle.share_vectors.specs.Share.{plus, answer, share}
+use Rattle.share_vectors.specs.Share.{plus, share}
 use Rattle.share_vectors.specs.Share as Share
 use Rattle.half_content.specs.declared.Set.{Set}
 use Rattle.half_content.specs.Content.{fill, Proper}

@@ -8,7 +8,6 @@ use native.Mathlib.Omega.{arith}
 use lib.ListN.{length, replicate}
 use Rattle.half_seal.specs.Half.{blockAt}
 use Rattle.half_deal.specs.Dealing.{Deal}
-use Rattle.call_dealer.specs.Dealer.{halfSize}
 use Rattle.door_lists.specs.Lists.{Box, camera, office, other, World, Starts, Started, beginning, Message, Call}
 use Rattle.door_lists.specs.Lists.{deal, load, mask, take, finish, join, Event, dealt, step, after, events, In}
 use Rattle.door_lists.specs.Lists.{there, Fits, Sent, SentVector, SentWord, SentAnswer, Admits, history}

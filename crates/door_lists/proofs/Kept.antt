@@ -7,7 +7,6 @@ use Prim.Native.Nat.{ℕ, _*_, _-_, _/_, _<_, _≤_}
 use native.Mathlib.Omega.{arith}
 use lib.ListN.{length, length-append}
 use Rattle.measure_table.specs.Measure.{allInRange}
-use Rattle.share_vectors.specs.Share as Share
 use Rattle.half_content.specs.declared.Set.{Set}
 use Rattle.half_content.specs.Content.{blockCount, fill, Proper}
 use Rattle.half_seal.specs.Claims.{length-half, half-number, half-opened, Wrote, only-whole}

@@ -5,9 +5,8 @@ use mathlib.Core.List.{List, [], _∷_, _++_}
 use Prim.Native.Nat.{ℕ, zero, suc, _<_, _≤_}
 use native.Mathlib.Omega.{arith}
 use lib.ListN.{length}
-use Rattle.base_algebra.specs.Word.{add, signed}
+use Rattle.base_algebra.specs.Word.{add}
 use Rattle.measure_table.specs.Measure.{measure, meets}
-use Rattle.share_vectors.specs.Share as Share
 use Rattle.half_content.specs.declared.Set.{Set}
 use Rattle.half_content.specs.Content.{fill, noSet}
 use Rattle.half_seal.specs.Claims.{half-taken, half-number, half-opened}

@@ -1,6 +1,6 @@
 -- The one-time keys of a set's blocks, as sealing and opening hand them on. Assumes nothing.
-use mathlib.Core.Path.{_≡_, ap, ap₂, sym, _∙_}
-use mathlib.Core.List.{List, [], _∷_, _++_}
+use mathlib.Core.Path.{_≡_, ap, ap₂, _∙_}
+use mathlib.Core.List.{List, _++_}
 use Prim.Native.Nat.{ℕ, _*_, _/_, _%_, _^_, _<_}
 use lib.ListN.{take, drop}
 use Rattle.base_words.specs.Numbers.{eight, four}

@@ -7,7 +7,7 @@ use native.Mathlib.Omega.{arith}
 use lib.Dec.{lit<}
 use lib.ListN.{length, take, drop, replicate, length-append, length-replicate, length-drop}
 use lib.Seq.{take-all, take-append-le, drop-append-le, drop-append-add}
-use Rattle.base_words.specs.Numbers.{number, bytes, length-bytes}
+use Rattle.base_words.specs.Numbers.{number, length-bytes}
 use Rattle.base_algebra.specs.Mod.{Mod, m-refl, m-eq, m-sym, m-trans, m-add, m-mul, m-mod}
 use Rattle.poly1305_limbs.specs.Limbs.{value, modPrime}
 use Rattle.poly1305_limbs.specs.Limbs.{prime}

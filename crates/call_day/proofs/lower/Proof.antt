@@ -1,4 +1,4 @@
-use mathlib.Core.Path.{_≡_, sym, _∙_}
+use mathlib.Core.Path.{sym, _∙_}
 use Rattle.call_day.specs.Turns.{lower-bad, lower-good, lower-past}
 use borrow.Author.Needs.{needs}
 use Rattle.call_day.proofs.lower.Statement.{statement}

@@ -1,4 +1,4 @@
-use mathlib.Core.Path.{_≡_, refl}
+use mathlib.Core.Path.{_≡_}
 use native.Mathlib.Omega.{arith}
 use Rattle.chacha20_x2.specs.Pair.{leftBy}
 use Rattle.chacha20_x2.proofs.turned.Statement.{statement}

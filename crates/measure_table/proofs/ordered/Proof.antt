@@ -1,4 +1,4 @@
-use mathlib.Core.Path.{_∙_, sym, ap, ap₂}
+use mathlib.Core.Path.{_∙_, ap, ap₂}
 use mathlib.Core.Bool.{_&&_}
 use lib.Dec.{leb}
 use Rattle.measure_table.specs.Measure.{ordinaryWidth}

@@ -1,5 +1,3 @@
-use mathlib.Core.Path.{_∙_, sym, ap}
-use Rattle.measure_table.specs.Measure.{signWord}
 use Rattle.measure_table.proofs.Rows.{ordinary-sign, marked-word}
 use borrow.Author.Needs.{needs}
 use Rattle.measure_table.proofs.sign.Statement.{statement}
