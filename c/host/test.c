@@ -990,7 +990,8 @@ static void summary(void)
            "killed with a set waiting: %lu boxes, loaded ahead and open: %lu boxes, dealt ahead: "
            "%lu dealers; %lu checks begun anew with another set\n",
         tally.to_marks, tally.to_threshold, tally.by_clock, tally.ahead, tally.taken, tally.unused,
-        tally.other_row, killed_waiting(), kills_with[CAMERA][READY_AHEAD] + kills_with[OFFICE][READY_AHEAD],
+        tally.other_row, killed_waiting(),
+        kills_with[CAMERA][READY_AHEAD] + kills_with[OFFICE][READY_AHEAD],
         kills_with[DEALER][READY_AHEAD], begun_anew);
     printf("c/host/test: upgrades cut short %lu times, %lu of them with a power cut; %lu between "
            "the first part's and the last one's; each was then finished\n",
