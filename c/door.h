@@ -48,9 +48,10 @@
  * meant measure >= T for distances too.
  *
  * Refusals. `why` is 0 for an accepted call, else the number of the first test that failed, lowest
- * first (enum door_refusal). A refused call changes nothing: the answer holds the state that was
- * handed in, its word is 0, and every buffer is as it was. So `box = a.party` is right either way.
- * Only a refused start has no state to hand back: the one in its answer is all zero.
+ * first (enum door_refusal); but door_deal_by_clock tests 14 to 16 before all others. A refused call
+ * changes nothing: the answer holds the state that was handed in, its word is 0, and every buffer is
+ * as it was. So `box = a.party` is right either way. Only a refused start has no state to hand back:
+ * the one in its answer is all zero.
  *
  * Buffers. A slice is a pointer and the number of its elements, not of its bytes. It is lent for
  * the call alone. What is const is only read; in a buffer that is not, an accepted call writes
@@ -65,8 +66,8 @@
  * 2^32: a host that has int32_t may hand these in, (uint32_t)x for x and (const uint32_t *)v for v.
  * Every element, threshold and mark that a measure takes is an int32_t. But a call sees 32 bits and
  * no more: a host that has one of them wider has to compare it with the range itself, since C cuts
- * 2^32 + 5 to 5 on the way, which a call would take. The same goes for a code, a kind and a party
- * that a host has in more than 32 bits.
+ * 2^32 + 5 to 5 on the way, which a call would take. The same goes for a code, a kind, a party and
+ * a minute that a host has in more than 32 bits.
  */
 #ifndef DOOR_H
 #define DOOR_H
@@ -86,6 +87,8 @@ extern "C" {
 #define DOOR_BLOCK 512             /* bytes of a block of a half */
 #define DOOR_HALF_MOST 8192        /* bytes of a half of 16 blocks: room for every L */
 #define DOOR_STACK 98304           /* bytes of stack that suffice for a call */
+#define DOOR_DAY 1440              /* minutes of a day: they run from 0 to 1439 */
+#define DOOR_ROWS_MOST 32          /* rows of a table of the day: it has from 1 to this */
 
 /* Bytes of a half of vectors of length n, from 1 to DOOR_LENGTH_MOST. */
 #define DOOR_HALF(n) (DOOR_BLOCK * ((1253 + 12 * (size_t)(n) + 483) / 484))
@@ -113,7 +116,8 @@ enum door_refusal {
        above the last one (deal, load, join) or the open one (load), or differs between two joined
        answers. */
     DOOR_WRONG_NUMBER = 7,
-    /* An element, a threshold, P or Q is outside its measure's range. */
+    /* An element, a threshold, P or Q is outside its measure's range; by the clock it is the chosen
+       row's threshold, and a minute of DOOR_DAY or above is refused so too. */
     DOOR_OUT_OF_RANGE = 8,
     /* The dealer starts with two equal keys. */
     DOOR_EQUAL_KEYS = 9,
@@ -128,7 +132,17 @@ enum door_refusal {
     DOOR_BAD_SUM = 12,
     /* The second mark is below the first, or more than DOOR_WIDTH_MOST above it: that is P = -2^30
        with Q = 2^30, and no other two marks of a measure's range. */
-    DOOR_BAD_MARKS = 13
+    DOOR_BAD_MARKS = 13,
+    /* The next three are door_deal_by_clock's alone, which tests them before all others and tells
+       a place with them. 14: the three lists have unequal lengths or not 1 to DOOR_ROWS_MOST rows
+       (place 0), or else a row's first minute is above its last, or its last is DOOR_DAY or above
+       (place: the first such row, counted from 1). */
+    DOOR_BAD_TABLE = 14,
+    /* Of the minutes from 0 to 1439 that do not lie in just one row, the lowest lies in none
+       (place: that minute, 0 to 1439). */
+    DOOR_NO_ROW = 15,
+    /* The lowest of them lies in two rows or more (place: that minute). */
+    DOOR_MORE_ROWS = 16
 };
 
 /* Measures, with the ranges of elements and of the threshold T, and what the lock's 1 means: a
@@ -210,6 +224,14 @@ struct door_dealer_answer {
     struct door_dealer dealer;
 };
 
+/* What door_deal_by_clock answers. */
+struct door_clock_answer {
+    uint32_t why;
+    uint32_t place; /* accepted: the row that was used, counted from 1. Refused by 14: a row,
+                       counted from 1, or 0; by 15 or 16: a minute, which may be 0; by any other: 0 */
+    struct door_dealer dealer;
+};
+
 /* The check that a box has open; all zero with none. */
 struct door_check {
     uint32_t phase; /* enum door_phase */
@@ -283,6 +305,34 @@ struct door_dealer_answer door_deal_between(
     const uint8_t *seed, size_t seed_len,
     struct door_terms terms,
     uint32_t p, uint32_t q,
+    uint8_t *out0, size_t out0_len,
+    uint8_t *out1, size_t out1_len);
+
+/*
+ * The same by the clock: a set with the threshold of that row of a table in which the minute lies.
+ * The halves and the state are those that door_deal gives for that threshold. Row i of the table
+ * is firsts[i], lasts[i] and thresholds[i]: from minute firsts[i] to minute lasts[i] of the day,
+ * both included, the threshold is thresholds[i]. The three lists have one length: each comes with
+ * its own, and unequal ones are refused by 14 at place 0. Rows may come in any order, and every
+ * minute from 0 to 1439 has to lie in one row and no more. So a row over midnight is two rows:
+ * 22:00 to 5:59 is 1320 to 1439 and 0 to 359.
+ *
+ * The minute is 0 to 1439, and the host says which one it is: no call has a clock. `place` in the
+ * answer is the row that was used, counted from 1 in the order of the lists; of a refusal, see
+ * struct door_clock_answer. Only the threshold of that row is tested. A table with a threshold in
+ * another row that the measure does not take is taken, until a minute of that row comes: try each
+ * row once when a table is set up. Refusals, in this order: 14, 15 or 16, 2, 4, 5, 7, 8 (the
+ * minute, or the row's threshold).
+ */
+struct door_clock_answer door_deal_by_clock(
+    struct door_dealer dealer,
+    uint64_t number,
+    const uint8_t *seed, size_t seed_len,
+    struct door_terms terms,
+    const uint32_t *firsts, size_t firsts_len,
+    const uint32_t *lasts, size_t lasts_len,
+    const uint32_t *thresholds, size_t thresholds_len,
+    uint32_t minute,
     uint8_t *out0, size_t out0_len,
     uint8_t *out1, size_t out1_len);
 
@@ -442,6 +492,9 @@ DOOR_AT(door_dealer, key1, 48);
 DOOR_AT(door_dealer, last, 80);
 DOOR_SIZE(door_dealer_answer, 96);
 DOOR_AT(door_dealer_answer, dealer, 8);
+DOOR_SIZE(door_clock_answer, 96);
+DOOR_AT(door_clock_answer, place, 4);
+DOOR_AT(door_clock_answer, dealer, 8);
 DOOR_SIZE(door_lock, 24);
 DOOR_AT(door_lock, last, 16);
 DOOR_SIZE(door_lock_answer, 40);

@@ -1,8 +1,9 @@
 /*
  * Calls every function of door.h as a host does: whole checks, whose answers must be those of the
- * measure computed here, and each refusal of each call, which must change nothing, empty slices
- * with a null pointer among them; and loads of sets that older versions dealt, which are all
- * refused. Its argument is the level that must be in use. c/test runs it.
+ * measure computed here; deals by the clock, which must be those by the row's threshold; each
+ * refusal of each call, which must change nothing, empty slices with a null pointer among them; and
+ * loads of sets that older versions dealt, which are all refused. Its argument is the level that
+ * must be in use. c/test runs it.
  */
 #include "door.h"
 #include "older.h"
@@ -996,6 +997,386 @@ static void deals_refused(struct door_dealer dealer)
     }
 }
 
+/* By the clock. */
+
+#define ROWS_ROOM (DOOR_ROWS_MOST + 2)
+#define NO_THRESHOLD 0x80000000 /* no measure takes it */
+
+/* A table, and the length that is told of each of its lists. */
+struct table {
+    uint32_t first[ROWS_ROOM], last[ROWS_ROOM], t[ROWS_ROOM];
+    size_t firsts, lasts, thresholds;
+};
+
+/* What is handed to a deal by the clock: all of the order but its threshold and marks. */
+struct clock_order {
+    struct order o;
+    struct table table;
+    uint32_t minute;
+};
+
+static const void *fence_list(struct fenced *f, const uint32_t *list, size_t length)
+{
+    return fence(f, list, sizeof *list * length);
+}
+
+static struct door_clock_answer deal_by_clock(
+    struct door_dealer dealer, const struct clock_order *c, struct halves *h)
+{
+    static struct fenced in, list[3], out[2];
+    const struct order *o = &c->o;
+    const struct table *t = &c->table;
+    const uint8_t *lent = fence(&in, seed, o->seed_size);
+    const uint32_t *firsts = fence_list(&list[0], t->first, t->firsts);
+    const uint32_t *lasts = fence_list(&list[1], t->last, t->lasts);
+    const uint32_t *thresholds = fence_list(&list[2], t->t, t->thresholds);
+    uint8_t *out0 = fence(&out[0], h->half[0], o->room[0]);
+    uint8_t *out1 = fence(&out[1], h->half[1], o->room[1]);
+    struct door_clock_answer a = door_deal_by_clock(dealer, o->number, lent, o->seed_size,
+        o->terms, firsts, t->firsts, lasts, t->lasts, thresholds, t->thresholds, c->minute, out0,
+        o->room[0], out1, o->room[1]);
+    unhurt(&in);
+    for (int i = 0; i < 3; i++)
+        unhurt(&list[i]);
+    take_written(out, a.why == DOOR_ACCEPTED ? half_size(o->terms.n) : 0, h, o->room);
+    return a;
+}
+
+/* A deal by the clock is answered by `why` and this place. If that is a refusal, the dealer and
+   both buffers are as before. Else they are what the deal by the row's threshold leaves. */
+static void clock_says(
+    struct door_dealer dealer, const struct clock_order *c, uint32_t why, uint32_t place)
+{
+    static struct halves h, expected;
+    draw_bytes(h.half[0], sizeof h.half[0]);
+    draw_bytes(h.half[1], sizeof h.half[1]);
+    expected = h;
+    struct door_clock_answer a = deal_by_clock(dealer, c, &h);
+    EXPECT(a.why == why && a.place == place);
+    if (why == DOOR_ACCEPTED) {
+        struct order by_threshold = c->o;
+        by_threshold.t = c->table.t[place - 1];
+        struct door_dealer_answer b = deal_order(dealer, &by_threshold, &expected);
+        EXPECT(b.why == DOOR_ACCEPTED && b.dealer.last == c->o.number);
+        dealer = b.dealer;
+    }
+    EXPECT(same_dealer(&a.dealer, &dealer));
+    EXPECT(memcmp(&h, &expected, sizeof h) == 0);
+}
+
+static void set_rows(struct table *t, size_t rows)
+{
+    t->firsts = t->lasts = t->thresholds = rows;
+}
+
+static void exchange(uint32_t *a, uint32_t *b)
+{
+    const uint32_t kept = *a;
+    *a = *b;
+    *b = kept;
+}
+
+static void shuffle(struct table *t)
+{
+    for (size_t i = t->firsts; i > 1; i--) {
+        const size_t k = draw() % i;
+        exchange(&t->first[i - 1], &t->first[k]);
+        exchange(&t->last[i - 1], &t->last[k]);
+        exchange(&t->t[i - 1], &t->t[k]);
+    }
+}
+
+/* The day cut into so many rows by chance, in an order by chance, with thresholds that each measure
+   takes. */
+static struct table drawn_table(size_t rows)
+{
+    bool begins[DOOR_DAY + 1] = {[0] = true, [DOOR_DAY] = true};
+    struct table t = {0};
+    for (size_t left = rows - 1; left > 0;) {
+        const uint32_t minute = draw() % DOOR_DAY;
+        left -= !begins[minute];
+        begins[minute] = true;
+    }
+    size_t row = 0;
+    for (uint32_t minute = 1; minute <= DOOR_DAY; minute++)
+        if (begins[minute]) {
+            t.last[row++] = minute - 1;
+            t.first[row] = minute;
+        }
+    for (row = 0; row < rows; row++)
+        t.t[row] = draw() % 514;
+    set_rows(&t, rows);
+    shuffle(&t);
+    return t;
+}
+
+static struct clock_order clock_order(struct door_dealer dealer, uint32_t code, size_t rows)
+{
+    const size_t n = 1 + draw() % 40, size = half_size(n);
+    struct clock_order c = {
+        .o = {.number = dealer.last + 1 + draw() % 9, .seed_size = DOOR_KEY, .terms = {code, n},
+            .room = {size, size}},
+        .table = drawn_table(rows), .minute = draw() % DOOR_DAY};
+    return c;
+}
+
+/* The first and the last minute of each row, which are those beside its neighbours'. */
+static void clock_each_row(struct door_dealer dealer, struct clock_order c)
+{
+    for (uint32_t row = 0; row < c.table.firsts; row++) {
+        c.minute = c.table.first[row];
+        clock_says(dealer, &c, DOOR_ACCEPTED, row + 1);
+        c.minute = c.table.last[row];
+        clock_says(dealer, &c, DOOR_ACCEPTED, row + 1);
+    }
+}
+
+/* A threshold that no measure takes is refused in the row that is used, and in no other. */
+static void clock_thresholds(struct door_dealer dealer, struct clock_order c)
+{
+    const struct table good = c.table;
+    for (uint32_t row = 0; row < good.firsts; row++) {
+        c.minute = good.first[row];
+        c.table = good;
+        c.table.t[row] = NO_THRESHOLD;
+        clock_says(dealer, &c, DOOR_OUT_OF_RANGE, 0);
+        for (size_t i = 0; i < good.firsts; i++)
+            c.table.t[i] = i == row ? good.t[i] : NO_THRESHOLD;
+        clock_says(dealer, &c, DOOR_ACCEPTED, row + 1);
+    }
+}
+
+static void clock_minutes(struct door_dealer dealer, struct clock_order c)
+{
+    static const uint32_t none[] = {
+        DOOR_DAY, DOOR_DAY + 1, 2 * DOOR_DAY, 65536, 0x7fffffff, 0x80000000, UINT32_MAX};
+    for (size_t i = 0; i < sizeof none / sizeof *none; i++) {
+        c.minute = none[i];
+        clock_says(dealer, &c, DOOR_OUT_OF_RANGE, 0);
+    }
+}
+
+static void clock_good_tables(struct door_dealer dealer)
+{
+    static const size_t rows[] = {1, 2, 3, 31, DOOR_ROWS_MOST};
+    for (size_t i = 0; i < sizeof rows / sizeof *rows; i++)
+        for (uint32_t code = 0; code < 3; code++) {
+            const struct clock_order c = clock_order(dealer, code, rows[i]);
+            clock_each_row(dealer, c);
+            clock_thresholds(dealer, c);
+            clock_minutes(dealer, c);
+        }
+}
+
+/* Lists of unequal length, or of too few or too many rows. */
+static void clock_lists(struct door_dealer dealer)
+{
+    static const size_t lengths[] = {0, 1, 31, DOOR_ROWS_MOST, DOOR_ROWS_MOST + 1};
+    const size_t count = sizeof lengths / sizeof *lengths;
+    for (size_t i = 0; i < count * count * count; i++) {
+        const size_t firsts = lengths[i % count], lasts = lengths[i / count % count];
+        const size_t thresholds = lengths[i / count / count];
+        bool is_one = firsts == lasts && lasts == thresholds;
+        struct clock_order c =
+            clock_order(dealer, DOOR_HAMMING, is_one && firsts > 0 ? firsts : DOOR_ROWS_MOST);
+        if (is_one && firsts >= 1 && firsts <= DOOR_ROWS_MOST)
+            continue;
+        c.table.firsts = firsts;
+        c.table.lasts = lasts;
+        c.table.thresholds = thresholds;
+        clock_says(dealer, &c, DOOR_BAD_TABLE, 0);
+    }
+}
+
+/* What a table of this few rows is answered by, where it does not depend on the minute. */
+static const struct few_rows {
+    size_t rows;
+    uint32_t minutes[3][2]; /* first and last */
+    uint32_t why, place;
+} FEW_ROWS[] = {
+    {1, {{0, 1440}}, DOOR_BAD_TABLE, 1}, /* past the day */
+    {1, {{0, UINT32_MAX}}, DOOR_BAD_TABLE, 1},
+    {1, {{1440, 1440}}, DOOR_BAD_TABLE, 1},
+    {1, {{1439, 0}}, DOOR_BAD_TABLE, 1}, /* backwards */
+    {1, {{720, 719}}, DOOR_BAD_TABLE, 1},
+    {2, {{0, 1439}, {UINT32_MAX, UINT32_MAX}}, DOOR_BAD_TABLE, 2},
+    {2, {{0, 1439}, {UINT32_MAX, 0}}, DOOR_BAD_TABLE, 2},
+    {2, {{1, 0}, {0, 1440}}, DOOR_BAD_TABLE, 1}, /* the first such row */
+    {3, {{0, 719}, {0, 1440}, {9, 8}}, DOOR_BAD_TABLE, 2},
+    {3, {{0, 300}, {302, 1439}, {7, 6}}, DOOR_BAD_TABLE, 3}, /* before any minute */
+    {3, {{0, 300}, {300, 1439}, {7, 6}}, DOOR_BAD_TABLE, 3},
+    {1, {{1, 1439}}, DOOR_NO_ROW, 0}, /* gaps */
+    {1, {{0, 1438}}, DOOR_NO_ROW, 1439},
+    {1, {{700, 700}}, DOOR_NO_ROW, 0},
+    {2, {{0, 719}, {721, 1439}}, DOOR_NO_ROW, 720},
+    {2, {{721, 1439}, {0, 719}}, DOOR_NO_ROW, 720},
+    {2, {{0, 0}, {1439, 1439}}, DOOR_NO_ROW, 1},
+    {2, {{0, 1439}, {0, 0}}, DOOR_MORE_ROWS, 0}, /* overlaps */
+    {2, {{0, 1439}, {1439, 1439}}, DOOR_MORE_ROWS, 1439},
+    {2, {{0, 719}, {719, 1439}}, DOOR_MORE_ROWS, 719},
+    {2, {{719, 1439}, {0, 719}}, DOOR_MORE_ROWS, 719},
+    {3, {{0, 1439}, {0, 1439}, {0, 1439}}, DOOR_MORE_ROWS, 0},
+    {3, {{0, 300}, {300, 899}, {901, 1439}}, DOOR_MORE_ROWS, 300}, /* the lower minute decides */
+    {3, {{901, 1439}, {300, 899}, {0, 300}}, DOOR_MORE_ROWS, 300},
+    {3, {{0, 299}, {301, 900}, {900, 1439}}, DOOR_NO_ROW, 300},
+    {3, {{900, 1439}, {301, 900}, {0, 299}}, DOOR_NO_ROW, 300},
+};
+
+static void clock_few_rows(struct door_dealer dealer)
+{
+    static const uint32_t minutes[] = {0, 300, 720, 1439, 1440, UINT32_MAX};
+    for (size_t i = 0; i < sizeof FEW_ROWS / sizeof *FEW_ROWS; i++) {
+        const struct few_rows *few = &FEW_ROWS[i];
+        struct clock_order c = clock_order(dealer, i % 3, few->rows);
+        for (size_t row = 0; row < few->rows; row++) {
+            c.table.first[row] = few->minutes[row][0];
+            c.table.last[row] = few->minutes[row][1];
+        }
+        for (size_t k = 0; k < sizeof minutes / sizeof *minutes; k++) {
+            c.minute = minutes[k];
+            clock_says(dealer, &c, few->why, few->place);
+        }
+    }
+}
+
+/* How many rows hold a minute; `place` is the last of them, counted from 1. */
+static size_t rows_with(const struct table *t, uint32_t minute, uint32_t *place)
+{
+    size_t found = 0;
+    for (uint32_t row = 0; row < t->firsts; row++)
+        if (t->first[row] <= minute && minute <= t->last[row]) {
+            found++;
+            *place = row + 1;
+        }
+    return found;
+}
+
+/* What a table with lists of one length is answered by, found minute by minute. */
+static uint32_t table_why(const struct table *t, uint32_t *place)
+{
+    *place = 0;
+    if (t->firsts < 1 || t->firsts > DOOR_ROWS_MOST)
+        return DOOR_BAD_TABLE;
+    for (uint32_t row = 0; row < t->firsts; row++)
+        if (t->first[row] > t->last[row] || t->last[row] >= DOOR_DAY) {
+            *place = row + 1;
+            return DOOR_BAD_TABLE;
+        }
+    for (uint32_t minute = 0; minute < DOOR_DAY; minute++) {
+        const size_t found = rows_with(t, minute, place);
+        *place = minute;
+        if (found != 1)
+            return found == 0 ? DOOR_NO_ROW : DOOR_MORE_ROWS;
+    }
+    return DOOR_ACCEPTED;
+}
+
+static void damage(struct table *t)
+{
+    uint32_t *list = draw() % 2 == 0 ? t->first : t->last, *minute = &list[draw() % t->firsts];
+    switch (draw() % 5) {
+    case 0: *minute += 1; break;
+    case 1: *minute -= 1; break;
+    case 2: *minute = draw() % (DOOR_DAY + 2); break;
+    case 3: exchange(minute, &list[draw() % t->firsts]); break;
+    default: *minute = DOOR_DAY; break;
+    }
+}
+
+/* Tables with little or much that is wrong with them, by chance. */
+static void clock_drawn_tables(struct door_dealer dealer)
+{
+    long met[DOOR_MORE_ROWS + 1] = {0};
+    for (int i = 0; i < 1500; i++) {
+        struct clock_order c =
+            clock_order(dealer, draw() % 3, 1 + draw() % (DOOR_ROWS_MOST + 1));
+        for (uint32_t damages = draw() % 3; damages > 0; damages--)
+            damage(&c.table);
+        uint32_t place;
+        const uint32_t why = table_why(&c.table, &place);
+        if (why == DOOR_ACCEPTED)
+            EXPECT(rows_with(&c.table, c.minute, &place) == 1);
+        clock_says(dealer, &c, why, place);
+        met[why]++;
+    }
+    EXPECT(met[DOOR_ACCEPTED] >= 100 && met[DOOR_BAD_TABLE] >= 100);
+    EXPECT(met[DOOR_NO_ROW] >= 100 && met[DOOR_MORE_ROWS] >= 100);
+}
+
+/* What may be wrong with a deal by the clock, in the order in which it is tested. */
+enum clock_fault {
+    CLOCK_LISTS, CLOCK_COUNT, CLOCK_ROW, CLOCK_GAP, CLOCK_OVERLAP,
+    CLOCK_CODE, CLOCK_SEED, CLOCK_LENGTH, CLOCK_ROOM_0, CLOCK_ROOM_1, CLOCK_NUMBER,
+    CLOCK_MINUTE, CLOCK_T,
+    CLOCK_FAULTS
+};
+
+/* The table that is spoiled has the rows 0 to 499, 500 to 999 and 1000 to 1439. */
+static const struct { uint32_t why, place; } WHY_CLOCK[CLOCK_FAULTS] = {
+    [CLOCK_LISTS] = {DOOR_BAD_TABLE, 0}, [CLOCK_COUNT] = {DOOR_BAD_TABLE, 0},
+    [CLOCK_ROW] = {DOOR_BAD_TABLE, 3}, [CLOCK_GAP] = {DOOR_NO_ROW, 499},
+    [CLOCK_OVERLAP] = {DOOR_MORE_ROWS, 999}, [CLOCK_CODE] = {DOOR_BAD_PARTY_OR_CODE, 0},
+    [CLOCK_SEED] = {DOOR_WRONG_LENGTH, 0}, [CLOCK_LENGTH] = {DOOR_WRONG_LENGTH, 0},
+    [CLOCK_ROOM_0] = {DOOR_SHORT_BUFFER, 0}, [CLOCK_ROOM_1] = {DOOR_SHORT_BUFFER, 0},
+    [CLOCK_NUMBER] = {DOOR_WRONG_NUMBER, 0}, [CLOCK_MINUTE] = {DOOR_OUT_OF_RANGE, 0},
+    [CLOCK_T] = {DOOR_OUT_OF_RANGE, 0},
+};
+
+static void spoil_clock(struct clock_order *c, enum clock_fault fault)
+{
+    switch (fault) {
+    case CLOCK_LISTS: c->table.thresholds = 2; break;
+    case CLOCK_COUNT: set_rows(&c->table, 0); break;
+    case CLOCK_ROW: c->table.last[2] = DOOR_DAY; break;
+    case CLOCK_GAP: c->table.last[0] = 498; break;
+    case CLOCK_OVERLAP: c->table.first[2] = 999; break;
+    case CLOCK_CODE: c->o.terms.code = 3; break;
+    case CLOCK_SEED: c->o.seed_size = 31; break;
+    case CLOCK_LENGTH: c->o.terms.n = 513; break;
+    case CLOCK_ROOM_0: c->o.room[0]--; break;
+    case CLOCK_ROOM_1: c->o.room[1]--; break;
+    case CLOCK_NUMBER: c->o.number--; break;
+    case CLOCK_MINUTE: c->minute = DOOR_DAY; break;
+    default: c->table.t[1] = NO_THRESHOLD; break;
+    }
+}
+
+/* Every fault alone, every two, and all from each one on: the one that is tested first refuses. */
+static void clock_with_faults(struct door_dealer dealer)
+{
+    const size_t size = half_size(18);
+    struct clock_order good = {
+        .o = {.number = dealer.last + 1, .seed_size = DOOR_KEY, .terms = {DOOR_HAMMING, 18},
+            .room = {size, size}},
+        .table = {{0, 500, 1000}, {499, 999, 1439}, {3, 4, 5}, 3, 3, 3}, .minute = 500};
+    clock_says(dealer, &good, DOOR_ACCEPTED, 2);
+    for (int lower = 0; lower < CLOCK_FAULTS; lower++) {
+        struct clock_order all = good;
+        for (int higher = CLOCK_FAULTS - 1; higher >= lower; higher--) {
+            struct clock_order c = good;
+            spoil_clock(&c, (enum clock_fault)lower);
+            if (higher != lower)
+                spoil_clock(&c, (enum clock_fault)higher);
+            clock_says(dealer, &c, WHY_CLOCK[lower].why, WHY_CLOCK[lower].place);
+            spoil_clock(&all, (enum clock_fault)higher);
+        }
+        clock_says(dealer, &all, WHY_CLOCK[lower].why, WHY_CLOCK[lower].place);
+    }
+    dealer.last = good.o.number = UINT64_MAX;
+    clock_says(dealer, &good, DOOR_WRONG_NUMBER, 0);
+    good.o.seed_size = 33;
+    clock_says(dealer, &good, DOOR_WRONG_LENGTH, 0);
+}
+
+static void deals_by_clock(struct door_dealer dealer)
+{
+    clock_good_tables(dealer);
+    clock_lists(dealer);
+    clock_few_rows(dealer);
+    clock_drawn_tables(dealer);
+    clock_with_faults(dealer);
+}
+
 /* What is handed to calls 3 and 4. */
 struct message {
     uint32_t kind;
@@ -1363,6 +1744,43 @@ static void empty_at_deal_between(uint8_t *none)
     EXPECT(memcmp(&h, &before, sizeof h) == 0);
 }
 
+static void clock_refused(
+    struct door_clock_answer a, const struct door_dealer *dealer, uint32_t why)
+{
+    EXPECT(a.why == why && a.place == 0);
+    EXPECT(same_dealer(&a.dealer, dealer));
+}
+
+/* With a table that has one row, or none in some of its lists. */
+static void empty_at_deal_by_clock(uint8_t *none, const uint32_t *no_words)
+{
+    static struct halves h, before;
+    static const uint32_t zero = 0, last = DOOR_DAY - 1;
+    const struct door_terms terms = {DOOR_SCALAR, 18};
+    const struct door_dealer dealer = dealer_of(BARE, sizeof BARE, 40);
+    size_t key = DOOR_KEY, room = sizeof h.half[0];
+    uint8_t *out0 = h.half[0], *out1 = h.half[1];
+    draw_bytes(out0, room);
+    draw_bytes(out1, room);
+    before = h;
+    clock_refused(door_deal_by_clock(dealer, 41, none, 0, terms, &zero, 1, &last, 1, &zero, 1, 0,
+        out0, room, out1, room), &dealer, DOOR_WRONG_LENGTH);
+    clock_refused(door_deal_by_clock(dealer, 41, seed, key, terms, &zero, 1, &last, 1, &zero, 1, 0,
+        none, 0, out1, room), &dealer, DOOR_SHORT_BUFFER);
+    clock_refused(door_deal_by_clock(dealer, 41, seed, key, terms, &zero, 1, &last, 1, &zero, 1, 0,
+        out0, room, none, 0), &dealer, DOOR_SHORT_BUFFER);
+    for (size_t lists = 0; lists < 7; lists++) { /* a bit for each list that has a row */
+        const size_t firsts = lists & 1, lasts = lists >> 1 & 1, thresholds = lists >> 2;
+        clock_refused(door_deal_by_clock(dealer, 41, seed, key, terms,
+            firsts ? &zero : no_words, firsts, lasts ? &last : no_words, lasts,
+            thresholds ? &zero : no_words, thresholds, 0, out0, room, out1, room),
+            &dealer, DOOR_BAD_TABLE);
+    }
+    clock_refused(door_deal_by_clock(dealer, 41, none, 0, terms, no_words, 0, no_words, 0, no_words,
+        0, 0, none, 0, none, 0), &dealer, DOOR_BAD_TABLE);
+    EXPECT(memcmp(&h, &before, sizeof h) == 0);
+}
+
 static void empty_at_box(uint8_t *none, uint32_t *no_words)
 {
     static const struct door_party none_started;
@@ -1414,6 +1832,7 @@ static void empty_slices(uint8_t *none, uint32_t *no_words)
 {
     empty_at_dealer(none);
     empty_at_deal_between(none);
+    empty_at_deal_by_clock(none, no_words);
     empty_at_box(none, no_words);
     empty_at_lock(none);
 }
@@ -2030,6 +2449,7 @@ int main(int count, char **arguments)
     ends();
     starts();
     deals_refused(dealer_of(BARE, sizeof BARE, 40));
+    deals_by_clock(dealer_of(BARE, sizeof BARE, 40));
     for (uint32_t code = 0; code < 3; code++)
         for (int between = 0; between < 2; between++)
             refusals_of(code, between);

@@ -1,6 +1,7 @@
 //! The calls of a dealer, a box and a lock, as each implementation does them. Ours stand in
 //! foreign.rs.
 
+use crate::door::Day;
 use crate::foreign::door::PartyAnswer;
 use crate::foreign::Key;
 use crate::measure::Who;
@@ -36,6 +37,15 @@ pub trait Calls: Copy {
     fn start_dealer(self, name: &[u8], floor: u64, keys: &[Key; 2]) -> Self::Dealer;
     /// Writes both halves, and answers why not; the dealer's next state is not wanted.
     fn deal(self, dealer: &Self::Dealer, order: &Order, out: [&mut [u8]; 2]) -> u32;
+    /// The same by the clock, in place of the order's rule: that is the threshold of the day's row. The
+    /// word is the row's place.
+    fn deal_by_clock(
+        self,
+        dealer: &Self::Dealer,
+        order: &Order,
+        day: &Day,
+        out: [&mut [u8]; 2],
+    ) -> Said;
     fn start_party(self, name: &[u8], party: usize, key: &Key, floor: u64) -> Self::Party;
     /// A call on a box, as a host makes it: the next state takes the place of this one.
     fn step(self, party: &mut Self::Party, step: Step) -> Said;
@@ -65,6 +75,15 @@ impl Calls for Second {
 
     fn deal(self, dealer: &Dealer, order: &Order, out: [&mut [u8]; 2]) -> u32 {
         refusal::number(&dealer.clone().deal(order, out))
+    }
+
+    /// Only its deal by the row's threshold, which the deal by the clock is to equal.
+    fn deal_by_clock(self, dealer: &Dealer, order: &Order, day: &Day, out: [&mut [u8]; 2]) -> Said {
+        let why = self.deal(dealer, order, out);
+        Said {
+            why,
+            word: day.place,
+        }
     }
 
     fn start_party(self, name: &[u8], party: usize, key: &Key, floor: u64) -> Party {

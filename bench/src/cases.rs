@@ -1,8 +1,8 @@
 //! The calls that are timed, accepted and refused: one list for all that looks at them.
 
 use crate::calls::{Calls, Said, Second, States, Step};
-use crate::door::{label, Door, Known, Parts, Sent, FLOOR, FULL, MARKS, NUMBER, OTHER, PARTY};
 use crate::door::THRESHOLD;
+use crate::door::{label, Door, Known, Parts, Sent, FLOOR, FULL, MARKS, NUMBER, OTHER, PARTY};
 use crate::foreign::ours::Ours;
 use crate::measure::{row, way, Row, Way};
 use second::message::{Label, MASKED_VECTOR, WORD};
@@ -19,6 +19,10 @@ pub struct Case {
 enum Call {
     Deal {
         rule: Rule,
+    },
+    /// By that one of the days that are known.
+    DealByClock {
+        day: usize,
     },
     /// A call on the timed box after so many of a check's four, or with a set waiting (`FULL`).
     Box {
@@ -70,9 +74,25 @@ pub const COPY_STATE: Case = Case {
     call: Call::CopyState,
 };
 
+pub const DEAL: Case = deal("deal", 0, THRESHOLD);
+
+/// With a table of one row, and with as many as there can be.
+pub const BY_CLOCK: [Case; 2] = [
+    Case {
+        name: "deal by the clock, 1 row",
+        why: 0,
+        call: Call::DealByClock { day: 0 },
+    },
+    Case {
+        name: "deal by the clock, 32 rows",
+        why: 0,
+        call: Call::DealByClock { day: 1 },
+    },
+];
+
 /// The calls of a check, in their order.
 pub const ACCEPTED: [Case; 10] = [
-    deal("deal", 0, THRESHOLD),
+    DEAL,
     deal("deal between two marks", 0, MARKS),
     on_box("load", 0, 0, |known, out| known.step(0, out)),
     on_box("load ahead", 0, 1, |known, _| Step::Load(&known.ahead)),
@@ -177,6 +197,11 @@ impl Call {
                 let order = known.input.order(rule);
                 let why = who.deal(&parts.dealer, &order, [half0, half1]);
                 Said { why, word: 0 }
+            }
+            Call::DealByClock { day } => {
+                let [half0, half1] = &mut sent.halves;
+                let order = known.input.order(THRESHOLD);
+                who.deal_by_clock(&parts.dealer, &order, &known.days[day], [half0, half1])
             }
             Call::Box { phase, step } => {
                 let next = &mut states.of(who)[PARTY];

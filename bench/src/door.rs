@@ -179,6 +179,40 @@ fn check<C: Calls>(
 pub const THRESHOLD: Rule = Rule::Threshold(500);
 pub const MARKS: Rule = Rule::Between(500, 510);
 
+/// A table of the day, and a minute of the row that is looked for.
+pub struct Day {
+    pub firsts: Vec<u32>,
+    pub lasts: Vec<u32>,
+    pub thresholds: Vec<u32>,
+    pub minute: u32,
+    /// That row's, counted from 1.
+    pub place: u32,
+}
+
+const MINUTES: u32 = 1440;
+
+/// The rows of the days that are known.
+const ROWS: [u32; 2] = [1, 32];
+
+impl Day {
+    /// So many rows, each as long as the others. The last one has `THRESHOLD`, and is looked for.
+    fn new(rows: u32) -> Day {
+        let Rule::Threshold(threshold) = THRESHOLD else {
+            unreachable!("it is a threshold")
+        };
+        let long = MINUTES / rows;
+        Day {
+            firsts: (0..rows).map(|row| row * long).collect(),
+            lasts: (1..=rows).map(|row| row * long - 1).collect(),
+            thresholds: (1..=rows)
+                .map(|row| threshold as u32 + rows - row)
+                .collect(),
+            minute: MINUTES - 1,
+            place: rows,
+        }
+    }
+}
+
 /// All that a call may be handed: the messages of a good check, and some that are refused.
 pub struct Known {
     pub input: Input,
@@ -189,6 +223,7 @@ pub struct Known {
     pub spent: Vec<u8>,
     pub broken: Vec<u8>,
     pub wide: Vec<u32>,
+    pub days: [Day; 2],
 }
 
 impl Known {
@@ -209,6 +244,7 @@ impl Known {
             spent,
             broken,
             wide,
+            days: black_box(ROWS.map(Day::new)),
         }
     }
 

@@ -12,7 +12,7 @@ pub type Tag = [u8; 16];
 /// The verified functions of crates/bench_cipher, bench_check, c_door and c_lock, at each level of x86-64,
 /// and what the cipher and the check are handed.
 pub mod ours {
-    use super::door::{Dealer, DealerAnswer, Party, PartyAnswer, Terms};
+    use super::door::{ClockAnswer, Dealer, DealerAnswer, Party, PartyAnswer, Terms};
     use super::*;
     use crate::level::Level;
     use second::dcf::{self, Seed};
@@ -171,6 +171,24 @@ pub mod ours {
             out1: *mut u8,
             out1_len: usize,
         ) -> DealerAnswer;
+        fn door_deal_by_clock(
+            dealer: Dealer,
+            number: u64,
+            seed: *const u8,
+            seed_len: usize,
+            terms: Terms,
+            firsts: *const u32,
+            firsts_len: usize,
+            lasts: *const u32,
+            lasts_len: usize,
+            thresholds: *const u32,
+            thresholds_len: usize,
+            minute: u32,
+            out0: *mut u8,
+            out0_len: usize,
+            out1: *mut u8,
+            out1_len: usize,
+        ) -> ClockAnswer;
         fn door_start_party(
             name: *const u8,
             name_len: usize,
@@ -347,6 +365,7 @@ pub mod door {
     use super::ours::{ComparisonKey, Ours};
     use super::*;
     use crate::calls::{Calls, Said, States, Step};
+    use crate::door::Day;
     use crate::measure::Who;
     use second::dealer::Order;
     use second::lock::Answer;
@@ -386,6 +405,14 @@ pub mod door {
     #[repr(C)]
     pub struct DealerAnswer {
         pub why: u32,
+        dealer: Dealer,
+    }
+
+    /// The same of a deal by the clock, with a place.
+    #[repr(C)]
+    pub struct ClockAnswer {
+        why: u32,
+        place: u32,
         dealer: Dealer,
     }
 
@@ -520,10 +547,50 @@ pub mod door {
                 Rule::Between(p, q) => unsafe {
                     let deal = self.functions.door_deal_between;
                     let (number, p, q) = (order.number, p as u32, q as u32);
-                    deal(*dealer, number, seed, len, terms, p, q, out0, len0, out1, len1)
+                    deal(
+                        *dealer, number, seed, len, terms, p, q, out0, len0, out1, len1,
+                    )
                 },
             };
             answer.why
+        }
+
+        fn deal_by_clock(
+            self,
+            dealer: &Dealer,
+            order: &Order,
+            day: &Day,
+            out: [&mut [u8]; 2],
+        ) -> Said {
+            let terms = Terms {
+                code: order.code as u32,
+                n: order.length as usize,
+            };
+            let [(out0, len0), (out1, len1)] = out.map(|out| (out.as_mut_ptr(), out.len()));
+            let answer = unsafe {
+                (self.functions.door_deal_by_clock)(
+                    *dealer,
+                    order.number,
+                    order.seed.as_ptr(),
+                    order.seed.len(),
+                    terms,
+                    day.firsts.as_ptr(),
+                    day.firsts.len(),
+                    day.lasts.as_ptr(),
+                    day.lasts.len(),
+                    day.thresholds.as_ptr(),
+                    day.thresholds.len(),
+                    day.minute,
+                    out0,
+                    len0,
+                    out1,
+                    len1,
+                )
+            };
+            Said {
+                why: answer.why,
+                word: answer.place,
+            }
         }
 
         fn start_party(self, name: &[u8], party: usize, key: &Key, floor: u64) -> PartyAnswer {
@@ -604,9 +671,10 @@ pub mod door {
     }
 
     /// The structs of the calls, with their sizes in bytes.
-    pub const SIZES: [(&str, usize); 5] = [
+    pub const SIZES: [(&str, usize); 6] = [
         ("door_dealer", size_of::<Dealer>()),
         ("door_dealer_answer", size_of::<DealerAnswer>()),
+        ("door_clock_answer", size_of::<ClockAnswer>()),
         ("door_set", size_of::<Set>()),
         ("door_party", size_of::<Party>()),
         ("door_party_answer", size_of::<PartyAnswer>()),

@@ -1,6 +1,6 @@
 //! How many instructions a call takes, as valgrind counts them.
 
-use crate::cases::{Case, ACCEPTED, REFUSED};
+use crate::cases::{Case, ACCEPTED, BY_CLOCK, REFUSED};
 use crate::door::Door;
 use crate::level::{Level, LACKING};
 use crate::measure::Who;
@@ -86,7 +86,7 @@ fn of_run(call: &str, length: usize, who: &str, calls: u32) -> Result<u64, Strin
 /// One call some times, and nothing else that depends on how often: what valgrind runs.
 pub fn once(call: &str, length: &str, who: &str, calls: &str) -> Result<(), String> {
     let found = |case: &&Case| case.name == call;
-    let mut cases = ACCEPTED.iter().chain(&REFUSED);
+    let mut cases = ACCEPTED.iter().chain(&REFUSED).chain(&BY_CLOCK);
     let case = cases.find(found).ok_or("no such call")?;
     let length: usize = length.parse().map_err(|_| "L is a number")?;
     let calls: u32 = calls.parse().map_err(|_| "a count is a number")?;

@@ -17,11 +17,11 @@ mod report;
 mod rows;
 mod table;
 
-use cases::{Case, ACCEPTED, COPY_STATE, REFUSED, WHOLE_CHECK_EUCLID};
+use cases::{Case, ACCEPTED, BY_CLOCK, COPY_STATE, REFUSED, WHOLE_CHECK_EUCLID};
 use door::Door;
 use level::Level;
 use measure::Row;
-use report::LENGTHS;
+use report::{CLOCK_LENGTH, LENGTHS};
 use second::measure::Measure;
 use std::process::ExitCode;
 use table::{Style, Table};
@@ -84,6 +84,9 @@ fn times() -> Result<Vec<Table>, String> {
     rows.extend(of_case(&COPY_STATE, &scalar));
     let calls = rows.len();
     rows.extend(REFUSED.iter().flat_map(|case| of_case(case, &scalar)));
+    let refused = rows.len();
+    let by_clock = scalar.iter().filter(|door| door.length == CLOCK_LENGTH);
+    rows.extend(by_clock.flat_map(|door| BY_CLOCK.each_ref().map(|case| case.row(door))));
     for row in &mut rows {
         row.check()?;
     }
@@ -91,8 +94,12 @@ fn times() -> Result<Vec<Table>, String> {
     let mut tables = vec![report::glance(&timings), report::whole_checks(&timings)];
     tables.extend(report::operations(&timings[..operations]));
     tables.extend(report::accepted(&timings[operations..calls]));
-    tables.extend(report::refused(&timings[calls..]));
-    tables.extend([memory::sizes(), memory::depths()]);
+    tables.extend(report::refused(&timings[calls..refused]));
+    tables.extend([
+        report::by_clock(&timings),
+        memory::sizes(),
+        memory::depths(),
+    ]);
     Ok(tables)
 }
 

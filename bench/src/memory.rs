@@ -1,6 +1,6 @@
 //! The sizes of the states, and the stack that a call takes.
 
-use crate::cases::{ACCEPTED, REFUSED};
+use crate::cases::{ACCEPTED, BY_CLOCK, REFUSED};
 use crate::door::Door;
 use crate::foreign::{door, stack};
 use crate::level::Level;
@@ -44,7 +44,7 @@ fn lines() -> Vec<Vec<String>> {
             .iter()
             .map(|level| level.name().to_string()),
     );
-    for case in ACCEPTED.iter().chain(&REFUSED) {
+    for case in ACCEPTED.iter().chain(&BY_CLOCK).chain(&REFUSED) {
         let mut line = vec![case.name.to_string()];
         line.extend(Level::present().into_iter().map(|level| {
             let depths = doors.iter().map(|door| depth(&mut *case.row(door), level));

@@ -1,6 +1,7 @@
 //! The tables of times, and the lines below them that say how they came to be.
 
-use crate::cases::{Case, ACCEPTED, COPY_STATE, REFUSED, WHOLE_CHECK, WHOLE_CHECK_EUCLID};
+use crate::cases::{Case, ACCEPTED, BY_CLOCK, COPY_STATE, DEAL, REFUSED};
+use crate::cases::{WHOLE_CHECK, WHOLE_CHECK_EUCLID};
 use crate::foreign::{openssl, sodium};
 use crate::level::Level;
 use crate::measure::{Timing, Who};
@@ -25,6 +26,9 @@ const RATIO: &str = "1.00 is as fast, 2.00 is ours twice as fast";
 /// The whole check is to take at most so much of the second implementation's time, at this length.
 const WHOLE_CHECK_AIM: f64 = 0.6;
 const AIM_LENGTH: usize = 128;
+
+/// The length at which the deals by the clock are timed: what the table adds does not depend on it.
+pub const CLOCK_LENGTH: usize = 128;
 
 /// A refused call is to take less, in nanoseconds.
 const REFUSED_AIM: f64 = 1000.0;
@@ -290,6 +294,30 @@ pub fn refused(timings: &[Timing]) -> Vec<Table> {
          place, and has one copy of the state in its time",
     ];
     for_each_level(table, strings(notes))
+}
+
+/// The deals by the clock beside the deal by a threshold, with two columns for each level.
+pub fn by_clock(timings: &[Timing]) -> Table {
+    let levels = Level::present();
+    let heads: Vec<&str> = levels.iter().map(|level| level.name()).collect();
+    let deal = named(timings, &DEAL.at(CLOCK_LENGTH));
+    let lines: Vec<Line> = [&DEAL, &BY_CLOCK[0], &BY_CLOCK[1]]
+        .map(|case| {
+            let timing = named(timings, &case.at(CLOCK_LENGTH));
+            let pair = |level: &Level| [timing.ours(*level), deal.ours(*level)];
+            (timing.name.clone(), levels.iter().map(pair).collect())
+        })
+        .to_vec();
+    let columns = Columns {
+        names: ["ours, ns", "of deal"],
+        cells: |[ours, deal]| [nanoseconds(ours), format!("{:.3}", ours / deal)],
+    };
+    let mut table = paired("Deal by the clock".to_string(), &heads, columns, &lines);
+    let note =
+        "of deal: by the time of the deal by a threshold, at the same level; the row that is \
+                used is the last";
+    table.notes.push(note.to_string());
+    table
 }
 
 fn listed(names: &[&str]) -> String {

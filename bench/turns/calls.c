@@ -14,6 +14,7 @@
 #define NEXT 2
 #define THRESHOLD 100
 #define BARE 5 /* bytes of the name without its padding */
+#define ROW (DOOR_DAY / DOOR_ROWS_MOST) /* minutes of a row where there are as many as can be */
 
 static const uint8_t NAME[DOOR_NAME] = "Hut 4";
 static const uint8_t KEY[2][DOOR_KEY] = {{1}, {2}};
@@ -27,6 +28,8 @@ static struct scene {
     struct door_party idle[2], loaded[2], masked[2], taken[2];
     uint8_t half[2][DOOR_HALF_MOST], next_half[2][DOOR_HALF_MOST];
     uint32_t vector[2][DOOR_LENGTH_MOST], sent[2][DOOR_LENGTH_MOST], word[2], answer[2];
+    uint32_t first[DOOR_ROWS_MOST], last[DOOR_ROWS_MOST], threshold[DOOR_ROWS_MOST];
+    uint32_t last_of_day;
 } *at;
 
 static volatile uint32_t heard; /* so that the compiler leaves no call out */
@@ -52,6 +55,25 @@ static uint32_t deal_between(uint64_t number, uint8_t half[2][DOOR_HALF_MOST])
     return door_deal_between(at->dealer, number, SEED, DOOR_KEY, at->terms, THRESHOLD, THRESHOLD,
         half[0], DOOR_HALF_MOST, half[1], DOOR_HALF_MOST)
         .why;
+}
+
+/* The same. With one row it holds the whole day, and with more the last one is looked for. */
+static uint32_t deal_by_clock(size_t rows, uint8_t half[2][DOOR_HALF_MOST])
+{
+    const uint32_t *last = rows == 1 ? &at->last_of_day : at->last;
+    return door_deal_by_clock(at->dealer, NUMBER, SEED, DOOR_KEY, at->terms, at->first, rows, last,
+        rows, at->threshold, rows, at->last_of_day, half[0], DOOR_HALF_MOST, half[1],
+        DOOR_HALF_MOST)
+        .why;
+}
+
+/* A table whose last minute lies in no row: all of it is looked at. */
+static uint32_t refuse_by_clock(void)
+{
+    at->last[DOOR_ROWS_MOST - 1]--;
+    const uint32_t why = deal_by_clock(DOOR_ROWS_MOST, at->half);
+    at->last[DOOR_ROWS_MOST - 1]++;
+    return why;
 }
 
 static struct door_party_answer load(const struct door_party *box, const uint8_t *half)
@@ -118,6 +140,9 @@ static void check(void)
 /* Those of a box are the office box's. */
 static void make_deal(void) { heard = deal(NUMBER, at->half); }
 static void make_deal_between(void) { heard = deal_between(NUMBER, at->half); }
+static void make_deal_by_clock(void) { heard = deal_by_clock(1, at->half); }
+static void make_deal_by_32_rows(void) { heard = deal_by_clock(DOOR_ROWS_MOST, at->half); }
+static void make_refused_by_clock(void) { heard = refuse_by_clock(); }
 static void make_load(void) { heard = load(&at->idle[1], at->half[1]).why; }
 static void make_load_ahead(void) { heard = load(&at->loaded[1], at->next_half[1]).why; }
 static void make_mask(void) { heard = mask(1).why; }
@@ -126,9 +151,20 @@ static void make_finish(void) { heard = finish(1).word; }
 static void make_drop(void) { heard = door_drop(at->taken[1]).why; }
 static void make_join(void) { heard = join(); }
 
+static void prepare_table(void)
+{
+    for (uint32_t i = 0; i < DOOR_ROWS_MOST; i++) {
+        at->first[i] = ROW * i;
+        at->last[i] = ROW * (i + 1) - 1;
+        at->threshold[i] = THRESHOLD + i;
+    }
+    at->last_of_day = DOOR_DAY - 1;
+}
+
 static void prepare(size_t n)
 {
     memset(at, 0, sizeof *at);
+    prepare_table();
     at->terms.code = DOOR_SCALAR;
     at->terms.n = n;
     at->dealer = door_start_dealer(NAME, BARE, KEY[0], DOOR_KEY, KEY[1], DOOR_KEY, 0).dealer;
@@ -138,6 +174,9 @@ static void prepare(size_t n)
             at->vector[party][i] = (uint32_t)(i % (5 + 2 * party));
     }
     expect(deal_between(NUMBER, at->half), "deal between");
+    expect(deal_by_clock(1, at->half), "deal by the clock");
+    expect(deal_by_clock(DOOR_ROWS_MOST, at->half), "deal by the clock");
+    expect(refuse_by_clock() - DOOR_NO_ROW, "deal by the clock with a bad table");
     expect(deal(NEXT, at->next_half), "deal");
     check();
     expect(load(&at->loaded[1], at->next_half[1]).why, "load ahead");
@@ -159,6 +198,9 @@ struct calls calls_for(size_t n, void *room, size_t room_size)
     static const struct call list[] = {
         {"deal", make_deal},
         {"deal between", make_deal_between},
+        {"by clock, 1", make_deal_by_clock},
+        {"by clock, 32", make_deal_by_32_rows},
+        {"bad table", make_refused_by_clock},
         {"load", make_load},
         {"load ahead", make_load_ahead},
         {"mask", make_mask},

@@ -15,6 +15,7 @@
 #include <unistd.h>
 
 #define VECTOR_TEXT_MOST 16384 /* bytes of a vector's file: ample for 512 lines */
+#define TABLE_TEXT_MOST 16384  /* of a table's file: ample for 32 rows with comments */
 
 bool make_folder(const char *folder)
 {
@@ -242,23 +243,82 @@ bool parse_settings(const char *text, struct settings *settings)
     return true;
 }
 
+const char *parse_table_head(const char *text, struct settings *settings)
+{
+    const size_t size = strlen(TABLE_WORD);
+    intmax_t code, length;
+    if (!next_number(&text, 0, UINT32_MAX, &code) || !next_number(&text, 0, INTMAX_MAX, &length)
+        || strncmp(text, TABLE_WORD, size) != 0
+        || (text[size] != '\0' && strchr(" \t\r\n#", text[size]) == NULL))
+        return NULL;
+    *settings = (struct settings){
+        .terms = {.code = (uint32_t)code, .n = (size_t)length}, .by_clock = true};
+    return text + size;
+}
+
+/* A file that is too long, or has a zero byte, would lose rows without a word. */
+static bool read_text(const char *path, char text[TABLE_TEXT_MOST + 1])
+{
+    size_t size;
+    if (!read_file(path, text, TABLE_TEXT_MOST, &size))
+        return false;
+    text[size] = '\0';
+    if (size < TABLE_TEXT_MOST && strlen(text) == size)
+        return true;
+    say("%s is no text of below %d bytes", path, TABLE_TEXT_MOST);
+    return false;
+}
+
+bool read_table(const char *path, struct table *table)
+{
+    static char text[TABLE_TEXT_MOST + 1];
+    return read_text(path, text) && parse_table(text, path, 1, table);
+}
+
+static unsigned line_of(const char *text, const char *at)
+{
+    unsigned line = 1;
+    for (; text < at; text++)
+        line += *text == '\n';
+    return line;
+}
+
 bool read_settings(struct settings *settings)
 {
-    char text[PATH_ROOM] = "";
-    size_t size;
-    if (!read_file("dealer/settings", text, sizeof text - 1, &size))
+    static char text[TABLE_TEXT_MOST + 1];
+    if (!read_text(SETTINGS_FILE, text))
         return false;
+    const char *rows = parse_table_head(text, settings);
+    if (rows != NULL)
+        return parse_table(rows, SETTINGS_FILE, line_of(text, rows), &settings->table);
     if (parse_settings(text, settings))
         return true;
-    say("dealer/settings has to have three or four whole numbers: measure code, length, and a "
-        "threshold or two marks");
+    say(SETTINGS_FILE " has to have three or four whole numbers: measure code, length, and a "
+        "threshold or two marks; or code, length, the word " TABLE_WORD " and rows");
     return false;
+}
+
+static bool write_table_settings(const struct settings *settings)
+{
+    char text[TABLE_TEXT_MOST], from[TIME_ROOM], to[TIME_ROOM];
+    const struct table *table = &settings->table;
+    int size = snprintf(text, sizeof text, "%" PRIu32 " %zu " TABLE_WORD "\n",
+        settings->terms.code, settings->terms.n);
+    for (size_t i = 0; i < table->rows; i++) {
+        time_words(table->firsts[i], from);
+        time_words(table->lasts[i], to);
+        size += snprintf(text + size, sizeof text - (size_t)size, "%s %s %" PRId32 "\n", from, to,
+            (int32_t)table->thresholds[i]);
+    }
+    return write_durably("dealer", "settings", text, (size_t)size);
 }
 
 bool write_settings(const struct settings *settings)
 {
     char text[PATH_ROOM];
     const struct door_terms terms = settings->terms;
+    if (settings->by_clock)
+        return write_table_settings(settings);
     int size = settings->between
         ? snprintf(text, sizeof text, "%" PRIu32 " %zu %" PRId32 " %" PRId32 "\n", terms.code,
               terms.n, settings->p, settings->q)
@@ -279,6 +339,22 @@ void settings_words(const struct settings *settings, char words[SETTINGS_ROOM])
             settings->threshold);
     else
         snprintf(words, SETTINGS_ROOM, "%s, opens up to %" PRId32, terms, settings->threshold);
+}
+
+void dealt_words(const struct settings *settings, uint32_t row, char words[SETTINGS_ROOM])
+{
+    const struct table *table = &settings->table;
+    struct settings by_threshold = {.terms = settings->terms};
+    char used[ROW_ROOM];
+    if (!settings->by_clock) {
+        settings_words(settings, words);
+        return;
+    }
+    by_threshold.threshold = (int32_t)table->thresholds[row - 1];
+    settings_words(&by_threshold, words);
+    row_words(row, table->firsts[row - 1], table->lasts[row - 1], used);
+    const size_t size = strlen(words);
+    snprintf(words + size, SETTINGS_ROOM - size, ", by %s", used);
 }
 
 bool read_vector(const char *path, struct vector *vector)

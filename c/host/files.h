@@ -10,6 +10,7 @@
 #define HOST_FILES_H
 
 #include "../door.h"
+#include "table.h"
 
 #include <stdbool.h>
 #include <stddef.h>
@@ -50,23 +51,35 @@ struct door_name {
 
 bool read_name(const char *folder, struct door_name *name);
 
-/* What the dealer deals for: a threshold, or two marks from one of which to the other the lock
-   opens. Whether they fit code and length is the deal's matter. */
+/* What the dealer deals for: a threshold, two marks from one of which to the other the lock opens,
+   or a table that has a threshold for each minute of the day. Whether they fit code and length is
+   the deal's matter. */
 struct settings {
     struct door_terms terms;
-    bool between;      /* two marks, else a threshold */
-    int32_t threshold; /* 0 where there are marks */
-    int32_t p, q;      /* the marks; 0 where there is a threshold */
+    bool between;       /* two marks */
+    bool by_clock;      /* a table; with neither of the two, a threshold */
+    int32_t threshold;  /* 0 where there is none */
+    int32_t p, q;       /* the marks; 0 where there are none */
+    struct table table; /* without a row where there is none */
 };
 
 /* Three or four whole numbers: code, length, and the threshold or both marks. */
 bool parse_settings(const char *text, struct settings *settings);
+
+/* Code, length and the word 'table': where the table begins, or NULL. */
+#define TABLE_WORD "table"
+const char *parse_table_head(const char *text, struct settings *settings);
+
+bool read_table(const char *path, struct table *table);
+#define SETTINGS_FILE "dealer/settings"
 bool read_settings(struct settings *settings);
 bool write_settings(const struct settings *settings);
 
-/* For people: 'squared Euclid, 128 elements, opens from 5 to 900'. */
-#define SETTINGS_ROOM 128
+/* For people: 'squared Euclid, 128 elements, opens from 5 to 900'; of a set that was dealt by a
+   table's row, also which, counted from 1: 'opens up to 900, by row 2 (08:00 to 16:59)'. */
+#define SETTINGS_ROOM 192
 void settings_words(const struct settings *settings, char words[SETTINGS_ROOM]);
+void dealt_words(const struct settings *settings, uint32_t row, char words[SETTINGS_ROOM]);
 
 /* A vector, one whole number a line, as words. */
 struct vector {

@@ -13,7 +13,9 @@ enum exit_status {
     EXIT_TROUBLE = 2
 };
 
-int set_up(const char *folder, const char *name, const char *settings_text);
+/* The settings' text ends in 'table' where there is a table's file, else that is NULL. */
+int set_up(
+    const char *folder, const char *name, const char *settings_text, const char *table_file);
 int run_dealer(const char *via, bool deals_ahead);
 int run_box(enum part self, const char *via);
 int run_lock(const char *via);
@@ -49,11 +51,21 @@ struct halves {
     uint8_t half[2][DOOR_HALF_MOST];
 };
 
-/* Asks the proved call for a set with these settings. */
-struct door_dealer_answer deal_for(const struct door_dealer *dealer, uint64_t number,
-    const uint8_t seed[DOOR_KEY], const struct settings *s, struct halves *h);
+/* Asks the proved call for a set with these settings, by the clock at this minute of the day. The
+   place is 0 with a threshold and with marks. */
+struct door_clock_answer deal_for(const struct door_dealer *dealer, uint64_t number,
+    const uint8_t seed[DOOR_KEY], const struct settings *s, uint32_t minute, struct halves *h);
 
-/* Tells the operator that this set came to nothing here. */
+/* Whether a dealer like this one would deal with these settings, at each row of a table. Says of
+   each trial that is refused why, and what was done; the file is where the table was read. */
+bool trial_deals(const struct door_dealer *like, const struct settings *s, const char *file,
+    const char *done);
+
+/* The minute of the day by this machine's local time. */
+bool minute_now(uint32_t *minute);
+
+/* Tells the operator that this set came to nothing here, and with refusals 14 to 16 the place. */
 void send_failed(const struct link *link, uint64_t number, uint32_t why);
+void send_failed_at(const struct link *link, uint64_t number, uint32_t why, uint32_t place);
 
 #endif

@@ -14,6 +14,7 @@ static int usage(void)
 {
     fputs("usage: door-host setup FOLDER NAME CODE LENGTH THRESHOLD\n"
           "       door-host setup FOLDER NAME CODE LENGTH P Q\n"
+          "       door-host setup FOLDER NAME CODE LENGTH table FILE\n"
           "       door-host dealer FOLDER [--no-ahead] [--via SOCKET]\n"
           "       door-host camera|office|lock FOLDER [--via SOCKET]\n"
           "       door-host check FOLDER VECTORFILE\n"
@@ -48,19 +49,20 @@ static bool is_blank(const char *text)
     return text[strspn(text, " \t\r\n")] == '\0';
 }
 
-/* Folder, name, and the settings' numbers. A blank one is not passed over: where it was to be the
-   second mark, the first would be a threshold. */
+/* Folder, name, and the settings' numbers, or code, length, 'table' and its file. A blank one is not
+   passed over: where it was to be the second mark, the first would be a threshold. */
 static int run_setup(int count, char **arguments)
 {
     char text[PATH_ROOM] = "";
     size_t size = 0;
-    for (int i = 2; i < count; i++) {
+    bool has_table = count == 6 && strcmp(arguments[4], TABLE_WORD) == 0;
+    for (int i = 2; i < (has_table ? 5 : count); i++) {
         int more = snprintf(text + size, sizeof text - size, "%s ", arguments[i]);
         if (is_blank(arguments[i]) || more < 0 || (size_t)more >= sizeof text - size)
             return usage();
         size += (size_t)more;
     }
-    return set_up(arguments[0], arguments[1], text);
+    return set_up(arguments[0], arguments[1], text, has_table ? arguments[5] : NULL);
 }
 
 /* The vector's path is the caller's, so it is read before the working folder changes. */

@@ -103,6 +103,7 @@ static void follow(const struct message *m)
     if (m->kind == HOST_FAILED) {
         check.failed = true;
         check.why = m->words[0];
+        check.place = m->words[1];
     }
     if (m->kind == DOOR_MASKED_VECTOR && check.vector_ns == 0)
         check.vector_ns = now_ns();

@@ -13,6 +13,7 @@ struct tally tally;
 int32_t current[2][DOOR_LENGTH_MOST];
 struct settings settings;
 uint64_t newest_ahead;
+uint32_t minute;
 
 /* What is known of one set. */
 struct seen {
@@ -29,11 +30,30 @@ static struct seen seen[NUMBERS];
 static uint64_t most_sent[PARTS]; /* the highest number that left each part */
 static uint64_t lost[PARTS];      /* the newest set dealt ahead when the part had it no longer */
 static struct settings ahead_for; /* what that one was dealt for */
+static uint32_t ahead_row;        /* by which row, or 0 */
 
 bool same_settings(const struct settings *a, const struct settings *b)
 {
     return a->terms.code == b->terms.code && a->terms.n == b->terms.n && a->between == b->between
-        && a->threshold == b->threshold && a->p == b->p && a->q == b->q;
+        && a->threshold == b->threshold && a->p == b->p && a->q == b->q
+        && a->by_clock == b->by_clock && same_table(&a->table, &b->table);
+}
+
+uint32_t row_now(const struct settings *s)
+{
+    uint32_t row = 0;
+    for (uint32_t i = 0; i < s->table.rows; i++)
+        if (s->table.firsts[i] <= minute && minute <= s->table.lasts[i])
+            row = i + 1;
+    return row;
+}
+
+struct settings in_force(const struct settings *s)
+{
+    if (!s->by_clock)
+        return *s;
+    return (struct settings){
+        .terms = s->terms, .threshold = (int32_t)s->table.thresholds[row_now(s) - 1]};
 }
 
 int64_t measure(struct door_terms terms, const int32_t *x, const int32_t *y)
@@ -47,12 +67,13 @@ int64_t measure(struct door_terms terms, const int32_t *x, const int32_t *y)
     return sum;
 }
 
-bool has_to_open(const struct settings *s, const int32_t *x, const int32_t *y)
+bool has_to_open(const struct settings *settings_now, const int32_t *x, const int32_t *y)
 {
-    const int64_t found = measure(s->terms, x, y);
-    if (s->between)
-        return s->p <= found && found <= s->q;
-    return s->terms.code == DOOR_SCALAR ? found >= s->threshold : found <= s->threshold;
+    const struct settings s = in_force(settings_now);
+    const int64_t found = measure(s.terms, x, y);
+    if (s.between)
+        return s.p <= found && found <= s.q;
+    return s.terms.code == DOOR_SCALAR ? found >= s.threshold : found <= s.threshold;
 }
 
 static struct seen *set_of(uint64_t number)
@@ -163,17 +184,37 @@ void lose_stock(enum part part)
     lost[part] = newest_ahead;
 }
 
-/* A set dealt ahead is handed out unless the settings have changed. That a set that is handed out
-   was dealt for the new ones shows in its answer. */
+/* A set dealt ahead is handed out unless the settings have changed, or another row's time has come.
+   That a set that is handed out was dealt for the new ones shows in its answer. */
 static void use_stock(uint64_t number)
 {
+    bool is_other_row = same_settings(&ahead_for, &settings) && ahead_row != row_now(&settings);
     if (number == newest_ahead)
         tally.taken++;
+    else if (is_other_row)
+        tally.other_row++;
     else
         tally.unused++;
-    EXPECT(number == newest_ahead || !same_settings(&ahead_for, &settings),
+    EXPECT(number == newest_ahead || is_other_row || !same_settings(&ahead_for, &settings),
         "set %" PRIu64 " was dealt ahead in vain", newest_ahead);
+    EXPECT(number != newest_ahead || !is_other_row,
+        "set %" PRIu64 " was dealt by a row whose time is over", newest_ahead);
     lose_stock(DEALER);
+}
+
+/* By the clock the dealer tells the row that the minute lies in. */
+static void expect_row(const struct message *m)
+{
+    const uint32_t row = row_now(&settings);
+    EXPECT((m->count == DEALT_BY_CLOCK) == settings.by_clock,
+        "set %" PRIu64 " was announced with a row and has none, or without one and has one",
+        m->number);
+    EXPECT(!settings.by_clock
+            || (m->words[3] == row && m->words[4] == settings.table.firsts[row - 1]
+                && m->words[5] == settings.table.lasts[row - 1]),
+        "set %" PRIu64 " was announced with row %" PRIu32 " (%" PRIu32 " to %" PRIu32 ") at minute %"
+        PRIu32 ", which is row %" PRIu32 "'s", m->number, m->words[3], m->words[4], m->words[5],
+        minute, row);
 }
 
 /* What the dealer says that it has dealt for. */
@@ -194,6 +235,7 @@ static void count_dealt(const struct settings *s)
 {
     static bool was_between;
     tally.dealt++;
+    tally.by_clock += settings.by_clock;
     tally.to_marks += s->between && !was_between;
     tally.to_threshold += !s->between && was_between;
     was_between = s->between;
@@ -210,7 +252,9 @@ static void observe_dealt(enum part from, const struct message *m)
         "set %" PRIu64 " was announced without its halves", m->number);
     s->dealt = true;
     s->settings = settings_in(m);
-    EXPECT(same_settings(&s->settings, &settings),
+    const struct settings expected = in_force(&settings);
+    expect_row(m);
+    EXPECT(same_settings(&s->settings, &expected),
         "set %" PRIu64 " was announced for other settings than those that the dealer has",
         m->number);
     count_dealt(&s->settings);
@@ -231,6 +275,7 @@ static void observe_ahead(enum part from, const struct message *m)
         tally.ahead++;
     newest_ahead = m->number;
     ahead_for = settings;
+    ahead_row = row_now(&settings);
 }
 
 /* The test knows the vector and sees it masked: no other set of this box may have had this mask.

@@ -24,9 +24,11 @@ static bool is_failure(const struct message *message, uint32_t kind, uint64_t nu
 static void say_failure(const struct message *message)
 {
     uint32_t why = message->words[0];
+    char words[TROUBLE_ROOM] = "its log says why";
+    if (why != DOOR_ACCEPTED)
+        place_words(why, message->words[1], words);
     say("set %" PRIu64 " came to nothing at the %s: %s", message->number,
-        PART[message->sender].title,
-        why == DOOR_ACCEPTED ? "its log says why" : refusal_words(why));
+        PART[message->sender].title, words);
 }
 
 /* Waits for a message of this kind and set (any set if 0), and passes over others; false where the
@@ -67,13 +69,22 @@ static bool send_begin(
     return send_to(link, box, &begin);
 }
 
+/* Which row of the table a set was dealt by, behind the verdict; nothing where there is no table. */
+static void tell_row(const struct message *dealt, char row[ROW_ROOM])
+{
+    row[0] = '\0';
+    if (dealt->count == DEALT_BY_CLOCK)
+        row_words(dealt->words[3], dealt->words[4], dealt->words[5], row);
+}
+
 /* Asks for a set and begins with it; true where the lock has spoken. `said` is what came last. */
-static bool check_once(
-    const struct link *link, const struct vector *vector, struct message *said)
+static bool check_once(const struct link *link, const struct vector *vector, struct message *said,
+    char row[ROW_ROOM])
 {
     const struct message deal = {.kind = HOST_DEAL, .sender = OPERATOR};
     if (!send_to(link, DEALER, &deal) || !wait_for(link, HOST_DEALT, 0, said))
         return false;
+    tell_row(said, row);
     const uint64_t number = said->number;
     return send_begin(link, CAMERA, number, vector) && send_begin(link, OFFICE, number, vector)
         && wait_for(link, HOST_VERDICT, number, said);
@@ -92,16 +103,18 @@ static bool another_may_do(const struct message *said)
 static int check(const struct link *link, const struct vector *vector)
 {
     struct message said = {.kind = HOST_ASK};
+    char row[ROW_ROOM] = "";
     int sets = 1;
-    bool answered = check_once(link, vector, &said);
+    bool answered = check_once(link, vector, &said, row);
     for (; !answered && another_may_do(&said) && sets < SETS_FOR_A_CHECK; sets++) {
         say("the check begins again with another set");
-        answered = check_once(link, vector, &said);
+        answered = check_once(link, vector, &said, row);
     }
     if (!answered)
         return EXIT_TROUBLE;
     bool open = said.words[0] == 1;
-    printf("lock: set %" PRIu64 ": %s\n", said.number, open ? "OPEN" : "STAY SHUT");
+    printf("lock: set %" PRIu64 ": %s%s%s\n", said.number, open ? "OPEN" : "STAY SHUT",
+        row[0] == '\0' ? "" : ", by ", row);
     return open ? EXIT_OPEN : EXIT_SHUT;
 }
 

@@ -41,11 +41,17 @@ bool start_part(enum part self, struct door_name *name, uint64_t *last)
         && read_last(folder, last, &version) && is_of_this_version(folder, version);
 }
 
+void send_failed_at(const struct link *link, uint64_t number, uint32_t why, uint32_t place)
+{
+    bool has_place = why >= DOOR_BAD_TABLE && why <= DOOR_MORE_ROWS;
+    const struct message failed = {.kind = HOST_FAILED, .sender = link->self, .number = number,
+        .words = {why, place}, .count = has_place ? 2 : 1};
+    send_to(link, OPERATOR, &failed);
+}
+
 void send_failed(const struct link *link, uint64_t number, uint32_t why)
 {
-    const struct message failed = {
-        .kind = HOST_FAILED, .sender = link->self, .number = number, .words = {why}, .count = 1};
-    send_to(link, OPERATOR, &failed);
+    send_failed_at(link, number, why, 0);
 }
 
 static void answer_here(const struct link *link, const struct served *served)

@@ -11,30 +11,22 @@ struct plan {
     const char *name;
     uint8_t keys[2][DOOR_KEY];
     struct settings settings;
+    const char *table_file; /* NULL where there is no table */
 };
 
-/* Asks the proved calls whether a dealer with this name and these keys starts, and whether it
-   deals with these settings. The set of the trial is wiped, and no one ever has its seed. */
+/* Asks the proved calls whether a dealer with this name and these keys starts, and whether one deals
+   with these settings. */
 static bool would_deal(const struct plan *plan)
 {
-    static struct halves halves;
-    uint8_t seed[DOOR_KEY];
-    if (!draw_random(seed, sizeof seed))
-        return false;
     struct door_dealer_answer a = door_start_dealer((const uint8_t *)plan->name,
         strlen(plan->name), plan->keys[CAMERA], DOOR_KEY, plan->keys[OFFICE], DOOR_KEY, 0);
-    const char *call = "the dealer's start";
-    if (a.why == DOOR_ACCEPTED) {
-        call = "a trial deal with these settings";
-        a = deal_for(&a.dealer, 1, seed, &plan->settings, &halves);
-    }
-    if (a.why != DOOR_ACCEPTED)
-        say("%s was refused (%" PRIu32 "): %s; nothing was set up", call, a.why,
-            refusal_words(a.why));
     bool accepted = a.why == DOOR_ACCEPTED;
+    if (!accepted)
+        say("the dealer's start was refused (%" PRIu32 "): %s; nothing was set up", a.why,
+            refusal_words(a.why));
+    accepted = accepted
+        && trial_deals(&a.dealer, &plan->settings, plan->table_file, "nothing was set up");
     explicit_bzero(&a, sizeof a);
-    explicit_bzero(seed, sizeof seed);
-    explicit_bzero(&halves, sizeof halves);
     return accepted;
 }
 
@@ -70,15 +62,31 @@ static bool set_up_all(const char *folder, const struct plan *plan)
         && force_folder("..");
 }
 
-/* The folder must be new: an old one has numbers that must not begin at 0 again. */
-int set_up(const char *folder, const char *name, const char *settings_text)
+static bool plan_settings(struct plan *plan, const char *settings_text)
 {
-    struct plan plan = {.name = name};
-    if (!parse_settings(settings_text, &plan.settings)) {
+    if (plan->table_file == NULL) {
+        if (parse_settings(settings_text, &plan->settings))
+            return true;
         say("a set-up needs three or four whole numbers: measure code, length, and a threshold or "
             "two marks; nothing was set up");
-        return EXIT_TROUBLE;
+    } else if (parse_table_head(settings_text, &plan->settings) == NULL) {
+        say("a set-up with a table needs two whole numbers before it: measure code and length; "
+            "nothing was set up");
+    } else {
+        if (read_table(plan->table_file, &plan->settings.table))
+            return true;
+        say("the table cannot be read; nothing was set up");
     }
+    return false;
+}
+
+/* The folder must be new: an old one has numbers that must not begin at 0 again. */
+int set_up(
+    const char *folder, const char *name, const char *settings_text, const char *table_file)
+{
+    struct plan plan = {.name = name, .table_file = table_file};
+    if (!plan_settings(&plan, settings_text))
+        return EXIT_TROUBLE;
     bool done = draw_random(plan.keys[CAMERA], DOOR_KEY) && draw_random(plan.keys[OFFICE], DOOR_KEY)
         && would_deal(&plan) && set_up_all(folder, &plan);
     explicit_bzero(&plan, sizeof plan);

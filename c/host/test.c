@@ -27,6 +27,8 @@
 #define KILLS_MOST 1500        /* if these do not bring it about, the test fails */
 #define TURNS 21               /* checks of which the median time is taken */
 #define CHANGES_OF_RULE 30     /* at the least, from a threshold to marks, and back */
+#define BY_CLOCK 50            /* sets at the least that are handed out by a table's row */
+#define OTHER_ROW 10           /* at the least, of which another row's time comes before their use */
 
 static const char *const PLACE[PLACES] = {"P - 1", "P", "Q", "Q + 1"};
 
@@ -75,19 +77,13 @@ static void write_vector(const char *path, const int32_t *vector)
     EXPECT(fclose(file) == 0, "cannot write %s", path);
 }
 
-/* The range of a code's thresholds and marks. */
-struct range {
-    int64_t low, high;
-};
-
-static struct range range_of(uint32_t code)
+struct range range_of(uint32_t code)
 {
     static const struct range ranges[] = {{-(1 << 30), 1 << 30}, {0, INT32_MAX}, {0, 513}};
     return ranges[code];
 }
 
-/* That number, or the end of the range that is nearest to it. */
-static int32_t within(struct range r, int64_t number)
+int32_t within(struct range r, int64_t number)
 {
     return (int32_t)(number < r.low ? r.low : number > r.high ? r.high : number);
 }
@@ -135,16 +131,19 @@ static void draw_marks(int64_t found)
 
 static void draw_rule(void)
 {
-    const int64_t found = measure(settings.terms, current[CAMERA], current[OFFICE]);
-    if (chance(2) == 0)
-        draw_threshold(found);
-    else
-        draw_marks(found);
+    static void (*const draws[])(int64_t) = {
+        draw_threshold, draw_threshold, draw_marks, draw_marks, draw_table};
+    draws[chance(sizeof draws / sizeof *draws)](
+        measure(settings.terms, current[CAMERA], current[OFFICE]));
 }
 
 static void write_settings_anew(void)
 {
-    char text[PATH_ROOM];
+    char text[TABLE_TEXT];
+    if (settings.by_clock) {
+        put_file("dealer/settings", text, (size_t)table_text(text));
+        return;
+    }
     int size = snprintf(text, sizeof text, "%" PRIu32 " %zu %" PRId32, settings.terms.code,
         settings.terms.n, settings.between ? settings.p : settings.threshold);
     if (settings.between)
@@ -176,6 +175,8 @@ static void draw_settings(enum change change)
 
 static void draw_check(enum change change)
 {
+    if (change != NOTHING && chance(2) == 0)
+        draw_clock();
     if (change > VECTORS)
         draw_settings(change);
     else if (change == VECTORS && chance(2) == 0)
@@ -415,8 +416,7 @@ void undisturbed_check(enum change change)
     expect_ready();
 }
 
-/* The same by the program's own operator, whose exit status tells what the lock said. */
-static void operators_check(enum change change)
+void operators_check(enum change change)
 {
     char *const arguments[] = {"door-host", "check", ".", "picture", NULL};
     start_check(change);
@@ -431,8 +431,7 @@ static void operators_check(enum change change)
     expect_ready();
 }
 
-/* Two vectors of this measure, and what it is. */
-static int64_t draw_pair(uint32_t code)
+int64_t draw_pair(uint32_t code)
 {
     settings.terms = (struct door_terms){.code = code, .n = 128};
     draw_vector(CAMERA);
@@ -440,7 +439,7 @@ static int64_t draw_pair(uint32_t code)
     return measure(settings.terms, current[CAMERA], current[OFFICE]);
 }
 
-static void check_as_set(void)
+void check_as_set(void)
 {
     write_settings_anew();
     undisturbed_check(NOTHING);
@@ -514,8 +513,7 @@ static void checks_at_the_turn(void)
     checks_at_zero();
 }
 
-/* Behind that place in the log a part says so of the set of this check. */
-static void expect_told(long since, enum part part, const char *words)
+void expect_told(long since, enum part part, const char *words)
 {
     char said[SAID_ROOM], line[2 * PATH_ROOM];
     hear_log(since, said);
@@ -542,6 +540,7 @@ static void told_in_words(enum part box)
     since = end_of_log();
     check_as_set();
     expect_told(since, DEALER, "dealt: scalar product, 128 elements, opens from 900 on;");
+    expect_told(since, DEALER, "handed out\n");
 }
 
 static void switch_off_and_on(enum part part)
@@ -561,6 +560,20 @@ static void operator_asks_again(enum part box)
     operators_check(VECTORS);
     EXPECT(tally.failed > failed, "the %s did not miss the set that it had lost",
         PART[box].title);
+}
+
+void operator_without_set(void)
+{
+    char *const arguments[] = {"door-host", "check", ".", "picture", NULL};
+    const int64_t deadline = now_ns() + PATIENCE_NS;
+    memset(&check, 0, sizeof check);
+    write_vector("picture", current[CAMERA]);
+    operator_runs = true;
+    int process = start_program(arguments);
+    while (!check.failed)
+        pump_before(deadline);
+    EXPECT(end_of(process) == EXIT_TROUBLE, "the operator ends well without a set");
+    operator_runs = false;
 }
 
 /* A vector with an element out of range is refused, and another set would not help. */
@@ -625,6 +638,7 @@ static void damaged_numbers(enum part part)
 /* The settings are others than before: the set that was dealt ahead is of no use. */
 static void draw_other_rule(void)
 {
+    settings = in_force(&settings);
     int32_t *first = settings.between ? &settings.p : &settings.threshold;
     *first += *first > 0 ? -1 : 1;
     if (settings.between && settings.q < settings.p)
@@ -676,8 +690,7 @@ static void refuses_shorter_half(enum part box)
         "from another version");
 }
 
-/* Settings that no deal takes: nothing is dealt, and the dealer says why, and what to do. */
-static void refuses_settings(const char *text, uint32_t why, const char *words)
+void refuses_settings(const char *text, uint32_t why, const char *words)
 {
     char said[SAID_ROOM];
     const int64_t deadline = now_ns() + PATIENCE_NS;
@@ -878,7 +891,7 @@ static void refusals(void)
     refuses_sum();
     bad_settings();
     operator_gives_up();
-    for (uint32_t why = DOOR_BAD_NAME; why <= DOOR_BAD_MARKS; why++)
+    for (uint32_t why = DOOR_BAD_NAME; why <= DOOR_MORE_ROWS; why++)
         EXPECT(strcmp(refusal_words(why), refusal_words(why - 1)) != 0, "no words for %" PRIu32,
             why);
     settle();
@@ -938,6 +951,9 @@ static void expect_enough(void)
     EXPECT(tally.to_marks >= CHANGES_OF_RULE && tally.to_threshold >= CHANGES_OF_RULE,
         "from a threshold to marks only %lu times, and back %lu times", tally.to_marks,
         tally.to_threshold);
+    EXPECT(tally.by_clock >= BY_CLOCK && tally.other_row >= OTHER_ROW,
+        "only %lu sets by a table's row, or only %lu of these left unused for another row",
+        tally.by_clock, tally.other_row);
     for (uint32_t code = DOOR_SCALAR; code <= DOOR_HAMMING; code++)
         expect_enough_of(code);
 }
@@ -967,12 +983,15 @@ static void summary(void)
     printf("); asked again %lu times; %lu sets handed out, %lu messages seen, no number used "
            "twice\n",
         asked_again, tally.dealt, tally.messages);
-    printf("c/host/test: from a threshold to two marks %lu times, and back %lu times; "
-           "%lu sets dealt ahead: %lu handed out, %lu left unused by other settings; "
+    printf("c/host/test: from a threshold to two marks %lu times, and back %lu times; %lu sets "
+           "handed out by a table's row; "
+           "%lu sets dealt ahead: %lu handed out, %lu left unused by other settings, %lu by another "
+           "row's time; "
            "killed with a set waiting: %lu boxes, loaded ahead and open: %lu boxes, dealt ahead: "
            "%lu dealers; %lu checks begun anew with another set\n",
-        tally.to_marks, tally.to_threshold, tally.ahead, tally.taken, tally.unused,
-        killed_waiting(), kills_with[CAMERA][READY_AHEAD] + kills_with[OFFICE][READY_AHEAD],
+        tally.to_marks, tally.to_threshold, tally.by_clock, tally.ahead, tally.taken, tally.unused,
+        tally.other_row, killed_waiting(),
+        kills_with[CAMERA][READY_AHEAD] + kills_with[OFFICE][READY_AHEAD],
         kills_with[DEALER][READY_AHEAD], begun_anew);
     printf("c/host/test: upgrades cut short %lu times, %lu of them with a power cut; %lu between "
            "the first part's and the last one's; each was then finished\n",
@@ -1034,8 +1053,7 @@ static void print_times(void)
         TURNS, at_once, at_once_without, quiet, quiet_without);
 }
 
-/* Each of these numbers as an argument of a set-up, which must say so, and make no folder. */
-static void refuses_setup(char *const numbers[], const char *words)
+void refuses_setup(char *const numbers[], const char *words)
 {
     char *arguments[10] = {"door-host", "setup", "refused", "Test door"}, said[SAID_ROOM];
     for (size_t i = 0; numbers[i] != NULL; i++)
@@ -1082,7 +1100,9 @@ static void set_up_door(const char *folder)
     EXPECT(run_to_end(arguments) == EXIT_TROUBLE, "a second setup in one folder is taken");
     setups_refused();
     sets_up_marks();
+    table_setups();
     EXPECT(chdir("door") == 0, "cannot go to %s/door", folder);
+    set_clock(0);
     open_network();
     for (enum part part = CAMERA; part <= LOCK; part++)
         start_child(part);
@@ -1100,6 +1120,7 @@ int main(int count, char **arguments)
     seed_chance(seed);
     /* A timer's slack is 50 microseconds otherwise: kills would come late. */
     EXPECT(prctl(PR_SET_TIMERSLACK, 1) == 0, "no exact timers");
+    EXPECT(setenv("TZ", TEST_ZONE, 1) == 0, "no time zone");
     umask(077);
     speak_as(WATCH);
     name_program(arguments[1]);
@@ -1107,6 +1128,7 @@ int main(int count, char **arguments)
     set_up_door(arguments[2]);
     for (int i = 0; i < 10; i++)
         undisturbed_check(ALL);
+    tables();
     checks_at_the_turn();
     while (!killed_enough() && killed() < KILLS_MOST) {
         disturbed_check();

@@ -82,6 +82,7 @@ struct check {
     unsigned messages;
     bool failed;
     uint32_t why;          /* it failed */
+    uint32_t place;        /* beside that */
     unsigned sets;         /* that were asked for */
     bool told[2];          /* to begin */
     enum part told_later;  /* the box that is told when the other's masked vector has come */
@@ -128,6 +129,9 @@ struct tally {
     unsigned long taken;  /* of these, handed out */
     unsigned long unused; /* and left unused since the settings had changed */
     unsigned long to_marks, to_threshold; /* sets handed out behind one of the other rule */
+    unsigned long by_clock;               /* sets handed out by a table's row */
+    unsigned long other_row;              /* dealt ahead and left unused since another row's time
+                                             had come */
     struct {
         unsigned long open, shut, just; /* just: the measure was the threshold itself */
         unsigned long between;          /* two marks, and of these by place */
@@ -141,6 +145,15 @@ extern struct tally tally;
 extern struct settings settings;
 
 bool same_settings(const struct settings *a, const struct settings *b);
+
+/* The minute that the dealer's local time is at. */
+extern uint32_t minute;
+
+/* The row of the table of these settings in which that minute lies, counted from 1. */
+uint32_t row_now(const struct settings *s);
+
+/* Settings with a threshold in place of a table: that of this row. */
+struct settings in_force(const struct settings *s);
 
 /* What a part has of the set that was dealt ahead last. */
 enum stock { NOTHING_AHEAD, READY_AHEAD, WAITING_AHEAD, STOCKS };
@@ -173,11 +186,68 @@ bool has_to_open(const struct settings *s, const int32_t *x, const int32_t *y);
 
 uint64_t hash_of(const void *at, size_t size);
 
+/* tables.c: tables of the day, and the dealer's clock. The host under test is linked with
+   testclock.c in place of time(). */
+
+/* The test's time zone, ahead of UTC: a host that takes UTC for local time is wrong at every
+   minute. */
+#define TEST_ZONE "HUT-05:30"
+#define AHEAD_OF_UTC 330 /* minutes */
+
+void set_clock(uint32_t to);
+
+/* A minute by chance, often the first or the last one of a row. */
+void draw_clock(void);
+
+/* The settings' text, in place of the program's own. */
+#define TABLE_TEXT 4096 /* more than any table here has */
+int table_text(char text[TABLE_TEXT]);
+
+/* Settings with a table: for each row a threshold that is the measure, or beside it. */
+void draw_table(int64_t found);
+
+/* Set-ups in the folder above the door's, before any part runs. */
+void table_setups(void);
+
+/* All parts run before and after. */
+void tables(void);
+
 /* test.c: checks. */
 
 /* What changes from one check to the next. As long as the settings stay, a set that was dealt ahead
    is handed out. */
 enum change { NOTHING, VECTORS, RULE, CODE, ALL };
+
+struct range {
+    int64_t low, high;
+};
+
+/* The range of a code's thresholds and marks. */
+struct range range_of(uint32_t code);
+
+/* That number, or the end of the range that is nearest to it. */
+int32_t within(struct range r, int64_t number);
+
+/* Two vectors of this measure, and what it is. */
+int64_t draw_pair(uint32_t code);
+
+/* Writes the settings down, and does a check with them. */
+void check_as_set(void);
+
+/* A check by the program's own operator, whose exit status tells what the lock said. */
+void operators_check(enum change change);
+
+/* The program's operator with a dealer that deals nothing. */
+void operator_without_set(void);
+
+/* Behind that place in the log a part says so of the set of this check. */
+void expect_told(long since, enum part part, const char *words);
+
+/* Settings that no deal takes: nothing is dealt, and the dealer says why, and what to do. */
+void refuses_settings(const char *text, uint32_t why, const char *words);
+
+/* Each of these as an argument of a set-up, which must say so, and make no folder. */
+void refuses_setup(char *const numbers[], const char *words);
 
 void undisturbed_check(enum change change);
 

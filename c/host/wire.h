@@ -24,10 +24,12 @@
 enum host_kind {
     HOST_DEAL = 16,    /* to the dealer: deal a set */
     HOST_DEALT = 17,   /* its answer: the halves are on the sticks; code, length, and the
-                          threshold or both marks */
+                          threshold or both marks; by the clock, behind the threshold, the row's
+                          place, counted from 1, its first minute and its last one */
     HOST_BEGIN = 18,   /* to a box: begin with this set; to the camera box with its vector */
     HOST_VERDICT = 19, /* from the lock: 1 open, 0 stay shut */
-    HOST_FAILED = 20,  /* to the operator: this set came to nothing; the refusal, or 0 */
+    HOST_FAILED = 20,  /* to the operator: this set came to nothing; the refusal, or 0, and from
+                          the dealer with refusals 14 to 16 the place */
     HOST_ASK = 21,     /* to any part: are you there */
     HOST_HERE = 22,    /* its answer: its last number; 1 if it has the next set ready, else 0 */
     HOST_AHEAD = 23    /* from the dealer to a box: this set is dealt ahead; the box's party */
@@ -41,6 +43,8 @@ struct message {
     uint32_t words[DOOR_LENGTH_MOST];
     size_t count; /* of words */
 };
+
+#define DEALT_BY_CLOCK 6 /* words of such a HOST_DEALT */
 
 #define HEADER_SIZE 26
 #define DATAGRAM_MOST (HEADER_SIZE + 4 * DOOR_LENGTH_MOST)
