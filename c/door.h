@@ -137,7 +137,7 @@ enum door_refusal {
        a place with them. 14: the three lists have unequal lengths or not 1 to DOOR_ROWS_MOST rows
        (place 0), or else a row's first minute is above its last, or its last is DOOR_DAY or above
        (place: the first such row, counted from 1). */
-    DOOR_BAD_TABLE = 14,
+    DOOR_BAD_ROWS = 14,
     /* Of the minutes from 0 to 1439 that do not lie in just one row, the lowest lies in none
        (place: that minute, 0 to 1439). */
     DOOR_NO_ROW = 15,

@@ -1184,7 +1184,7 @@ static void clock_lists(struct door_dealer dealer)
         c.table.firsts = firsts;
         c.table.lasts = lasts;
         c.table.thresholds = thresholds;
-        clock_says(dealer, &c, DOOR_BAD_TABLE, 0);
+        clock_says(dealer, &c, DOOR_BAD_ROWS, 0);
     }
 }
 
@@ -1194,17 +1194,17 @@ static const struct few_rows {
     uint32_t minutes[3][2]; /* first and last */
     uint32_t why, place;
 } FEW_ROWS[] = {
-    {1, {{0, 1440}}, DOOR_BAD_TABLE, 1}, /* past the day */
-    {1, {{0, UINT32_MAX}}, DOOR_BAD_TABLE, 1},
-    {1, {{1440, 1440}}, DOOR_BAD_TABLE, 1},
-    {1, {{1439, 0}}, DOOR_BAD_TABLE, 1}, /* backwards */
-    {1, {{720, 719}}, DOOR_BAD_TABLE, 1},
-    {2, {{0, 1439}, {UINT32_MAX, UINT32_MAX}}, DOOR_BAD_TABLE, 2},
-    {2, {{0, 1439}, {UINT32_MAX, 0}}, DOOR_BAD_TABLE, 2},
-    {2, {{1, 0}, {0, 1440}}, DOOR_BAD_TABLE, 1}, /* the first such row */
-    {3, {{0, 719}, {0, 1440}, {9, 8}}, DOOR_BAD_TABLE, 2},
-    {3, {{0, 300}, {302, 1439}, {7, 6}}, DOOR_BAD_TABLE, 3}, /* before any minute */
-    {3, {{0, 300}, {300, 1439}, {7, 6}}, DOOR_BAD_TABLE, 3},
+    {1, {{0, 1440}}, DOOR_BAD_ROWS, 1}, /* past the day */
+    {1, {{0, UINT32_MAX}}, DOOR_BAD_ROWS, 1},
+    {1, {{1440, 1440}}, DOOR_BAD_ROWS, 1},
+    {1, {{1439, 0}}, DOOR_BAD_ROWS, 1}, /* backwards */
+    {1, {{720, 719}}, DOOR_BAD_ROWS, 1},
+    {2, {{0, 1439}, {UINT32_MAX, UINT32_MAX}}, DOOR_BAD_ROWS, 2},
+    {2, {{0, 1439}, {UINT32_MAX, 0}}, DOOR_BAD_ROWS, 2},
+    {2, {{1, 0}, {0, 1440}}, DOOR_BAD_ROWS, 1}, /* the first such row */
+    {3, {{0, 719}, {0, 1440}, {9, 8}}, DOOR_BAD_ROWS, 2},
+    {3, {{0, 300}, {302, 1439}, {7, 6}}, DOOR_BAD_ROWS, 3}, /* before any minute */
+    {3, {{0, 300}, {300, 1439}, {7, 6}}, DOOR_BAD_ROWS, 3},
     {1, {{1, 1439}}, DOOR_NO_ROW, 0}, /* gaps */
     {1, {{0, 1438}}, DOOR_NO_ROW, 1439},
     {1, {{700, 700}}, DOOR_NO_ROW, 0},
@@ -1256,11 +1256,11 @@ static uint32_t table_why(const struct table *t, uint32_t *place)
 {
     *place = 0;
     if (t->firsts < 1 || t->firsts > DOOR_ROWS_MOST)
-        return DOOR_BAD_TABLE;
+        return DOOR_BAD_ROWS;
     for (uint32_t row = 0; row < t->firsts; row++)
         if (t->first[row] > t->last[row] || t->last[row] >= DOOR_DAY) {
             *place = row + 1;
-            return DOOR_BAD_TABLE;
+            return DOOR_BAD_ROWS;
         }
     for (uint32_t minute = 0; minute < DOOR_DAY; minute++) {
         const size_t found = rows_with(t, minute, place);
@@ -1299,7 +1299,7 @@ static void clock_drawn_tables(struct door_dealer dealer)
         clock_says(dealer, &c, why, place);
         met[why]++;
     }
-    EXPECT(met[DOOR_ACCEPTED] >= 100 && met[DOOR_BAD_TABLE] >= 100);
+    EXPECT(met[DOOR_ACCEPTED] >= 100 && met[DOOR_BAD_ROWS] >= 100);
     EXPECT(met[DOOR_NO_ROW] >= 100 && met[DOOR_MORE_ROWS] >= 100);
 }
 
@@ -1313,8 +1313,8 @@ enum clock_fault {
 
 /* The table that is spoiled has the rows 0 to 499, 500 to 999 and 1000 to 1439. */
 static const struct { uint32_t why, place; } WHY_CLOCK[CLOCK_FAULTS] = {
-    [CLOCK_LISTS] = {DOOR_BAD_TABLE, 0}, [CLOCK_COUNT] = {DOOR_BAD_TABLE, 0},
-    [CLOCK_ROW] = {DOOR_BAD_TABLE, 3}, [CLOCK_GAP] = {DOOR_NO_ROW, 499},
+    [CLOCK_LISTS] = {DOOR_BAD_ROWS, 0}, [CLOCK_COUNT] = {DOOR_BAD_ROWS, 0},
+    [CLOCK_ROW] = {DOOR_BAD_ROWS, 3}, [CLOCK_GAP] = {DOOR_NO_ROW, 499},
     [CLOCK_OVERLAP] = {DOOR_MORE_ROWS, 999}, [CLOCK_CODE] = {DOOR_BAD_PARTY_OR_CODE, 0},
     [CLOCK_SEED] = {DOOR_WRONG_LENGTH, 0}, [CLOCK_LENGTH] = {DOOR_WRONG_LENGTH, 0},
     [CLOCK_ROOM_0] = {DOOR_SHORT_BUFFER, 0}, [CLOCK_ROOM_1] = {DOOR_SHORT_BUFFER, 0},
@@ -1774,10 +1774,10 @@ static void empty_at_deal_by_clock(uint8_t *none, const uint32_t *no_words)
         clock_refused(door_deal_by_clock(dealer, 41, seed, key, terms,
             firsts ? &zero : no_words, firsts, lasts ? &last : no_words, lasts,
             thresholds ? &zero : no_words, thresholds, 0, out0, room, out1, room),
-            &dealer, DOOR_BAD_TABLE);
+            &dealer, DOOR_BAD_ROWS);
     }
     clock_refused(door_deal_by_clock(dealer, 41, none, 0, terms, no_words, 0, no_words, 0, no_words,
-        0, 0, none, 0, none, 0), &dealer, DOOR_BAD_TABLE);
+        0, 0, none, 0, none, 0), &dealer, DOOR_BAD_ROWS);
     EXPECT(memcmp(&h, &before, sizeof h) == 0);
 }
 

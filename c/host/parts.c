@@ -73,7 +73,7 @@ const char *refusal_words(uint32_t why)
                          "another version",
         [DOOR_BAD_MARKS] = "the second mark is below the first, or they are too far apart: at most "
                            "2,147,483,647",
-        [DOOR_BAD_TABLE] = "the table has no row or above 32, or a row of it runs backwards or past "
+        [DOOR_BAD_ROWS] = "the table has no row or above 32, or a row of it runs backwards or past "
                            "23:59",
         [DOOR_NO_ROW] = "a minute of the day lies in no row of the table",
         [DOOR_MORE_ROWS] = "a minute of the day lies in two rows of the table, or more",

@@ -166,9 +166,9 @@ void place_words(uint32_t why, uint32_t place, char words[TROUBLE_ROOM])
 {
     char at[TIME_ROOM];
     time_words(place, at);
-    if (why == DOOR_BAD_TABLE && place == 0)
+    if (why == DOOR_BAD_ROWS && place == 0)
         snprintf(words, TROUBLE_ROOM, "the table has no row, or above %d", DOOR_ROWS_MOST);
-    else if (why == DOOR_BAD_TABLE)
+    else if (why == DOOR_BAD_ROWS)
         snprintf(words, TROUBLE_ROOM, "row %" PRIu32 " of the table runs backwards or past 23:59",
             place);
     else if (why == DOOR_NO_ROW)
@@ -217,14 +217,14 @@ void table_trouble(const struct table *table, const char *file, uint32_t why, ui
     uint32_t minute, char words[TROUBLE_ROOM])
 {
     char row[PLACED_ROOM], at[TIME_ROOM];
-    const uint32_t used = why == DOOR_BAD_TABLE ? place : next_row_with(table, 0, minute);
+    const uint32_t used = why == DOOR_BAD_ROWS ? place : next_row_with(table, 0, minute);
     time_words(place, at);
     if (used != 0)
         placed_row(table, file, used, row);
-    if (why == DOOR_BAD_TABLE && place == 0)
+    if (why == DOOR_BAD_ROWS && place == 0)
         snprintf(words, TROUBLE_ROOM, "the table in %s has %s: write 1 to %d rows", file,
             table->rows == 0 ? "no row" : "too many rows", DOOR_ROWS_MOST);
-    else if (why == DOOR_BAD_TABLE)
+    else if (why == DOOR_BAD_ROWS)
         snprintf(words, TROUBLE_ROOM, "%s runs backwards: write one that runs over midnight as two "
             "rows", row);
     else if (why == DOOR_NO_ROW)

@@ -303,11 +303,11 @@ static void refuses_by_hand(
 static void bad_tables(void)
 {
     set_clock(721);
-    refuses_by_hand("1 128 table\n", DOOR_BAD_TABLE, 0,
+    refuses_by_hand("1 128 table\n", DOOR_BAD_ROWS, 0,
         "the deal at 12:01 was refused (14): the table in dealer/settings has no row: write 1 to 32 "
         "rows; no set was dealt: put dealer/settings right",
         "came to nothing at the dealer: the table has no row, or above 32");
-    refuses_by_hand("1 128 table # night\n06:00 21:59 5\n22:00 05:59 5\n", DOOR_BAD_TABLE, 2,
+    refuses_by_hand("1 128 table # night\n06:00 21:59 5\n22:00 05:59 5\n", DOOR_BAD_ROWS, 2,
         "(14): row 2 (22:00 to 05:59, line 3 of dealer/settings) runs backwards",
         "came to nothing at the dealer: row 2 of the table runs backwards");
     refuses_by_hand("1\n128\ntable\n00:00 07:59 5\n08:01 23:59 5\n", DOOR_NO_ROW, 480,
