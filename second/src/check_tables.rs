@@ -168,6 +168,15 @@ const LENGTHS: [[usize; 3]; 23] = [
     [MAX_LIST; 3],
 ];
 
+/// A count that is 1 in 8 bits, and the lists that have it.
+const CUT_TO_1: usize = 257;
+const CUT_LENGTHS: [[usize; 3]; 4] = [
+    [CUT_TO_1; 3],
+    [CUT_TO_1, 1, 1],
+    [1, CUT_TO_1, 1],
+    [1, 1, CUT_TO_1],
+];
+
 /// How many minutes of the day each of 32 rows has where all have as many.
 const MINUTES_OF_32: u32 = MINUTES / MAX_ROWS as u32;
 
@@ -369,6 +378,15 @@ impl Cases {
         }
     }
 
+    /// Lists that are a good table if a length is cut to 8 bits: the first row is the day.
+    fn cut_lists(&mut self) {
+        for [firsts, lasts, thresholds] in CUT_LENGTHS {
+            let (firsts, lasts) = (repeated(firsts, 0), repeated(lasts, 1439));
+            let line = format!("table {firsts} {lasts} {} 700", repeated(thresholds, 7));
+            self.add_expecting("02, 5: lists", line, "14 0 0".to_string());
+        }
+    }
+
     /// All of it.
     pub fn tables_of_the_day(&mut self) {
         self.good_tables();
@@ -377,6 +395,7 @@ impl Cases {
         self.lists();
         self.generated_tables();
         self.more_generated_tables();
+        self.cut_lists();
     }
 }
 
@@ -462,6 +481,25 @@ mod tests {
             }
             assert!(asked.contains(&(why, true)) && asked.contains(&(why, false)));
         }
+    }
+
+    /// Three lists of 257 words, and each alone beside lists of 1: they begin with the day and
+    /// are asked for a minute in it.
+    #[test]
+    fn lengths_that_are_cut() {
+        let mut found = Vec::new();
+        for (table, minute, answer) in tables() {
+            let lists = [&table.firsts, &table.lasts, &table.thresholds];
+            let lengths = lists.map(Vec::len);
+            if lengths.contains(&CUT_TO_1) {
+                let [first, last, _] = lists.map(|list| list[0]);
+                assert_eq!((first, last, answer), (0, 1439, [14, 0, 0]));
+                assert!(lengths.iter().all(|length| length % 256 == 1));
+                assert!(minute < MINUTES);
+                found.push(lengths);
+            }
+        }
+        assert_eq!(found, [[257; 3], [257, 1, 1], [1, 257, 1], [1, 1, 257]]);
     }
 
     /// Lists of more words than the script may have, or of parts of words, are none.

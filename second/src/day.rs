@@ -132,6 +132,21 @@ pub mod tests {
         assert_eq!(answer_to(&[]), (14, 0));
     }
 
+    /// 257 rows are not one, nor is any list of 257 words a list of one, where the first row is
+    /// the day.
+    #[test]
+    fn lengths_are_not_cut() {
+        for lengths in [[257; 3], [257, 1, 1], [1, 257, 1], [1, 1, 257], [65_537; 3]] {
+            let [firsts, lasts, thresholds]: [usize; 3] = lengths;
+            let table = Table {
+                firsts: vec![0; firsts],
+                lasts: vec![1439; lasts],
+                thresholds: vec![7; thresholds],
+            };
+            assert_eq!(answer(&table), (14, 0), "{lengths:?}");
+        }
+    }
+
     /// Each list shorter or longer by one, in a good table and in tables that have bad rows,
     /// gaps and overlaps beside it.
     #[test]

@@ -4,6 +4,7 @@ use crate::day::tests::table;
 use crate::day::{Refused, Table, MINUTES};
 use crate::dealer::{Clock, Dealer, Order};
 use crate::measure::Measure;
+use crate::refusal::Refusal;
 use crate::rule::Rule;
 
 const KEYS: [[u8; 32]; 2] = [[1; 32], [2; 32]];
@@ -211,6 +212,41 @@ fn only_the_chosen_threshold_is_tested() {
                 let expected = if good { (0, place) } else { (8, 0) };
                 assert_eq!(answer(&order, [BYTES; 2]), expected, "{order:?}");
             }
+        }
+    }
+}
+
+/// Numbers are compared and dealt in all of their 64 bits, up to the last one.
+#[test]
+fn numbers_of_64_bits() {
+    let day = working_day([1, 2, 3]);
+    let (mut dealer, mut buffers) = (dealer(), [[BEFORE; BYTES]; 2]);
+    // The first is below the dealer's last number in 32 bits; the third is above it so.
+    let high = (1 << 32) + LAST - 1;
+    for (number, taken) in [
+        (high, true),
+        (high, false),
+        (u32::MAX.into(), false),
+        (u64::MAX, true),
+        (u64::MAX, false),
+        (0, false),
+    ] {
+        let order = Order {
+            number,
+            ..order(0, &day, 700)
+        };
+        let [buffer0, buffer1] = &mut buffers;
+        let answer = dealer.deal_by_clock(&order, [buffer0, buffer1]);
+        let refused = Refused {
+            why: Refusal::Number,
+            place: 0,
+        };
+        let expected = if taken { Ok(2) } else { Err(refused) };
+        assert_eq!(answer, expected, "{number}");
+        if taken {
+            let begin = number.to_le_bytes();
+            assert!(buffers.iter().all(|half| half.starts_with(&begin)));
+            assert_eq!(dealer.last, number);
         }
     }
 }

@@ -240,6 +240,7 @@ impl Script {
         self.clock_ahead();
         self.refused_between();
         self.bad_lines_of_the_clock();
+        self.high_numbers();
     }
 }
 
@@ -281,6 +282,25 @@ mod tests {
             .map(|row| [0, row])
             .iter()
             .all(|row| found.contains(row)));
+    }
+
+    /// Numbers of more than 32 bits and the last of all are dealt, and refused where they come
+    /// again; and a table of 257 rows, one in 8 bits, is refused.
+    #[test]
+    fn high_numbers_and_long_lists() {
+        let (high, last) = (((1_u64 << 32) + 5).to_string(), u64::MAX.to_string());
+        let (mut numbers, mut long) = (Vec::new(), Vec::new());
+        for (fields, answer) in deals() {
+            if fields[1] == high || fields[1] == last {
+                numbers.push((fields[1].clone(), answer[0]));
+            }
+            if fields[5..8].iter().all(|list| list.starts_with("~257:")) {
+                long.push(answer);
+            }
+        }
+        let expected = [(&high, 14), (&high, 0), (&high, 7), (&last, 0), (&last, 7)];
+        assert_eq!(numbers, expected.map(|(number, why)| (number.clone(), why)));
+        assert_eq!(long, [[14, 0]]);
     }
 
     /// Every code is dealt at every length of the edges, at both ends of every row, and by the

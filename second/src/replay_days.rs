@@ -224,6 +224,26 @@ impl Script {
         assert_eq!(self.show_all(), before);
     }
 
+    /// Numbers above 2^32 and the last one of all, dealt and refused. The first is below the
+    /// dealer's last number in 32 bits, and the one behind it that is lower is above it so.
+    /// Before them a table of 257 rows, one in 8 bits, whose first row is the day.
+    pub fn high_numbers(&mut self) {
+        let (high, low) = ((1 << 32) + 5, u32::MAX.into());
+        assert!((6..low).contains(&self.replay.dealer.last));
+        let day = "~257:0:0:0 ~257:0:1439:0 ~257:0:5:0";
+        self.answered(format!("clock {high} @32:1 0 1 {day} 0 1536 1536"), "14 0");
+        for (number, refused) in [(high, &[high, low][..]), (u64::MAX, &[u64::MAX])] {
+            let mut deal = self.good_deal(Measure::Scalar, 1);
+            deal.number = number;
+            self.dealt_by_row(&deal, 2);
+            for number in refused {
+                deal.number = *number;
+                self.answered(&deal, "7 0");
+            }
+        }
+        self.show("dealer");
+    }
+
     /// Every refusal of a deal by the clock, and what is next to one.
     pub fn refused_by_the_clock(&mut self) {
         self.wrong_clocks();
