@@ -404,7 +404,7 @@ module _ (t : Table) (minute : ℕ) where
   unfolding choose
   bad-chosen n = rw (ne-eqb (whyNotTable t .why) 0 n) refl
 
--- ---- tables worked out
+-- ---- there is a good table (others are worked out in `claims_cases`)
 
 -- one row of the whole day, whatever its threshold: so there is a good table
 abbrev pub wholeDay : ℕ → Table
@@ -419,37 +419,3 @@ pub whole-day-row : (threshold minute : ℕ) → minute < day
 unfolding choose rowAt holds least
 whole-day-row threshold minute h =
     rw (whole-day threshold, lt-ltb minute day h, le-leb 0 minute (omega arith), le-leb minute 1439 (omega arith)) refl
-
--- minute 300 in two rows and minute 900 in none: the lower one decides
-lower-first :
-    whyNotTable (tableOf (901 ∷ 0 ∷ 300 ∷ []) (1439 ∷ 300 ∷ 899 ∷ []) (7 ∷ 7 ∷ 7 ∷ [])) ≡ fault moreRows 300
-unfolding whyNotTable shaped firstBadRow firstBadMinute rowsWith badRow badMinute holds least count
-lower-first = refl
-
--- lists of unequal length, in each place, and no rows
-lists-differ :
-    (whyNotTable (tableOf (0 ∷ []) (1439 ∷ []) []) ≡ fault badRows 0)
-    × (whyNotTable (tableOf (0 ∷ []) [] (7 ∷ [])) ≡ fault badRows 0)
-    × (whyNotTable (tableOf [] (1439 ∷ []) (7 ∷ [])) ≡ fault badRows 0)
-    × (whyNotTable (tableOf [] [] []) ≡ fault badRows 0)
-unfolding whyNotTable shaped
-lists-differ = (refl, refl, refl, refl)
-
--- minute 0 in no row, and minute 1,439
-gaps :
-    (whyNotTable (tableOf (1 ∷ []) (1439 ∷ []) (7 ∷ [])) ≡ fault noRow 0)
-    × (whyNotTable (tableOf (0 ∷ []) (1438 ∷ []) (7 ∷ [])) ≡ fault noRow 1439)
-unfolding whyNotTable shaped firstBadRow firstBadMinute rowsWith badRow badMinute holds least count
-gaps = (refl, refl)
-
--- three bad rows: the first is told
-first-of-three : whyNotTable (tableOf (0 ∷ 700 ∷ 9 ∷ []) (1440 ∷ 600 ∷ 8 ∷ []) (7 ∷ 7 ∷ 7 ∷ [])) ≡ fault badRows 1
-unfolding whyNotTable shaped firstBadRow firstBadMinute rowsWith badRow badMinute holds least count
-first-of-three = refl
-
--- rows of night, work and evening, in another order: at minute 480 work's row is used, the third
-work-row :
-    choose (tableOf (0 ∷ 1020 ∷ 480 ∷ []) (479 ∷ 1439 ∷ 1019 ∷ []) (5 ∷ 6 ∷ 900 ∷ [])) 480
-    ≡ record { why = 0; place = 3; threshold = 900 }
-unfolding choose whyNotTable shaped firstBadRow firstBadMinute rowsWith badRow badMinute holds least count rowAt
-work-row = refl

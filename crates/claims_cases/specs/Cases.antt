@@ -1,5 +1,5 @@
 -- 01, "The proved cases": the lines marked *, as one table with one theorem; and those of 02, §2, "Distances mean
--- close", and §4, "Between two marks". Assumes nothing. [SPEC 30.1]
+-- close", §4, "Between two marks", and §5, "Strictness by the clock". Assumes nothing. [SPEC 30.1]
 use mathlib.Core.Path.{_≡_, refl}
 use mathlib.Core.Bool.{Bool, true, false, _&&_, Bool·beq}
 use mathlib.Core.List.{List, [], _∷_, map}
@@ -19,7 +19,13 @@ use Rattle.measure_table.specs.declared.Rule.the-variants.{Between}
 use Rattle.measure_table.specs.Measure.{sign, difference, reached, within, thresholdFits, meets, ruleFits, inOrder}
 use Rattle.measure_table.specs.Measure.{word, ordinaryWidth}
 use Rattle.share_vectors.specs.Share.{plus, idealGate}
+use Rattle.base_messages.specs.Messages.{badRows, noRow, moreRows}
 use Rattle.half_content.specs.Content.{widths, sumFirst, size, blockCount}
+use Rattle.call_day.specs.Search.{least, count}
+use Rattle.call_day.specs.declared.Fault.{Fault}
+use Rattle.call_day.specs.declared.Choice.{Choice}
+use Rattle.call_day.specs.Table.{tableOf, holds as inRow, badRow, rowsWith, badMinute, firstBadRow, firstBadMinute}
+use Rattle.call_day.specs.Table.{rowAt, shaped, whyNotTable, choose}
 
 -- a line: what is given, and what it comes to
 pub data Line : Type 0 where
@@ -39,6 +45,10 @@ pub data Line : Type 0 where
   gated : ℕ → ℕ → ℤ → ℕ → ℕ → Line
   -- L: how many blocks
   filled : ℕ → ℕ → Line
+  -- a table's first minutes, last minutes and thresholds: why it is turned down, and where
+  turnedDown : List ℕ → List ℕ → List ℕ → ℕ → ℕ → Line
+  -- a table and a minute: the row's place, counted from 1, and its threshold
+  looked : List ℕ → List ℕ → List ℕ → ℕ → ℕ → ℕ → Line
 
 unfoldable pub sameℤ : ℤ → ℤ → Bool
 sameℤ a b = leZ a b && leZ b a
@@ -68,6 +78,11 @@ holds (ordered p q b) = Bool·beq (inOrder (Between (word p) (word q))) b
 holds (masked x m r) = same (plus 1 (word x ∷ []) (m ∷ [])) (r ∷ [])
 holds (gated w r d z g) = eqb (add (word d) r) z && eqb (idealGate w r z) g
 holds (filled n b) = eqb (blockCount n) b
+holds (turnedDown firsts lasts thresholds why place) =
+    let f : Fault = whyNotTable (tableOf firsts lasts thresholds) in eqb (f .why) why && eqb (f .place) place
+holds (looked firsts lasts thresholds minute place threshold) =
+    let c : Choice = choose (tableOf firsts lasts thresholds) minute in
+    eqb (c .why) 0 && eqb (c .place) place && eqb (c .threshold) threshold
 
 -- 512 elements that are all the same
 abbrev allOf : ℤ → List ℤ
@@ -151,6 +166,26 @@ table =
     ∷ filled 17 4
     ∷ filled 18 4
     ∷ filled 512 16
+    -- 02, §5: three rows in another order than the day's, at minutes 479, 480, 1,019 and 1,020 [SPEC 30.31]
+    ∷ looked (0 ∷ 1020 ∷ 480 ∷ []) (479 ∷ 1439 ∷ 1019 ∷ []) (5 ∷ 6 ∷ 900 ∷ []) 479 1 5
+    ∷ looked (0 ∷ 1020 ∷ 480 ∷ []) (479 ∷ 1439 ∷ 1019 ∷ []) (5 ∷ 6 ∷ 900 ∷ []) 480 3 900
+    ∷ looked (0 ∷ 1020 ∷ 480 ∷ []) (479 ∷ 1439 ∷ 1019 ∷ []) (5 ∷ 6 ∷ 900 ∷ []) 1019 3 900
+    ∷ looked (0 ∷ 1020 ∷ 480 ∷ []) (479 ∷ 1439 ∷ 1019 ∷ []) (5 ∷ 6 ∷ 900 ∷ []) 1020 2 6
+    -- minute 300 in two rows and minute 900 in none: the lower one decides; and the other way about [SPEC 30.32]
+    ∷ turnedDown (901 ∷ 0 ∷ 300 ∷ []) (1439 ∷ 300 ∷ 899 ∷ []) (7 ∷ 7 ∷ 7 ∷ []) moreRows 300
+    ∷ turnedDown (900 ∷ 0 ∷ 301 ∷ []) (1439 ∷ 299 ∷ 900 ∷ []) (7 ∷ 7 ∷ 7 ∷ []) noRow 300
+    -- one row that leaves out minute 0, one that leaves out 1,439, and one that runs past the day [SPEC 30.33]
+    ∷ turnedDown (1 ∷ []) (1439 ∷ []) (7 ∷ []) noRow 0
+    ∷ turnedDown (0 ∷ []) (1438 ∷ []) (7 ∷ []) noRow 1439
+    ∷ turnedDown (0 ∷ []) (1440 ∷ []) (7 ∷ []) badRows 1
+    -- of three rows the second and third run backwards [SPEC 30.34]
+    ∷ turnedDown (0 ∷ 700 ∷ 9 ∷ []) (1439 ∷ 699 ∷ 8 ∷ []) (7 ∷ 7 ∷ 7 ∷ []) badRows 2
+    -- no row, 33 rows, and lists of unequal length [SPEC 30.35]
+    ∷ turnedDown [] [] [] badRows 0
+    ∷ turnedDown (replicate 33 0) (replicate 33 1439) (replicate 33 7) badRows 0
+    ∷ turnedDown (0 ∷ []) (1439 ∷ []) [] badRows 0
+    ∷ turnedDown (0 ∷ []) [] (7 ∷ []) badRows 0
+    ∷ turnedDown [] (1439 ∷ []) (7 ∷ []) badRows 0
     ∷ []
 
 unfoldable pub all : List Line → Bool
@@ -160,5 +195,6 @@ all (l ∷ t) = holds l && all t
 pub the-cases : all table ≡ true
 unfolding all table holds termsOf sameℤ crossed widths sumFirst size blockCount idealGate measure own cross element
     sign difference reached within thresholdFits meets ruleFits inOrder row scalarProduct squaredEuclid hamming word
-    plus tab same sum sumℤ add sub W.neg W.signed only less
+    plus tab same sum sumℤ add sub W.neg W.signed only less choose whyNotTable shaped firstBadRow firstBadMinute
+    rowsWith badRow badMinute inRow rowAt least count
 the-cases = refl
