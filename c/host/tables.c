@@ -214,7 +214,7 @@ static void thresholds_refused(void)
         "-1073741824 to 1073741824; nothing");
     refuses_setup((char *[]){"2", "128", "table", TABLE_FILE, NULL},
         "which is outside its measure's range: Hamming takes 0 to 513; nothing");
-    refuses_setup((char *[]){"2", "128", "514", NULL},
+    refuses_setup((char *[]){"2", "128", "600", NULL},
         "(8): the threshold is outside its measure's range: Hamming takes 0 to 513; nothing");
     refuses_setup((char *[]){"1", "128", "5", "-1", NULL},
         "(8): a mark is outside its measure's range: squared Euclid takes 0 to 2147483647; nothing");

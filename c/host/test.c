@@ -725,7 +725,7 @@ static void bad_settings(void)
     refuses_settings("2 128 5 514\n", DOOR_OUT_OF_RANGE,
         "the deal was refused (8): a mark is outside its measure's range: Hamming takes 0 to 513; "
         "no set was dealt");
-    refuses_settings("2 128 514\n", DOOR_OUT_OF_RANGE,
+    refuses_settings("2 128 600\n", DOOR_OUT_OF_RANGE,
         "(8): the threshold is outside its measure's range: Hamming takes 0 to 513; no set");
     lose_stock(DEALER); /* a set dealt ahead is given up where the settings are others */
     write_settings_anew();
