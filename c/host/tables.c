@@ -143,8 +143,8 @@ static const struct bad_table BAD_TABLES[] = {
 /* The threshold of each row is looked at, whatever time it is. */
 static const struct bad_table BAD_THRESHOLDS[] = {
     {"00:00 07:59 -1\n08:00 23:59 5\n",
-        "(8): row 1 (00:00 to 07:59, line 1 of night.table) has the threshold -1, which is outside its "
-        "measure's range: squared Euclid takes 0 to 2147483647; nothing was set up"},
+        "(8): row 1 (00:00 to 07:59, line 1 of night.table) has the threshold -1, which is outside "
+        "its measure's range: squared Euclid takes 0 to 2147483647; nothing was set up"},
     {"00:00 07:59 5\n# day\n08:00 23:59 -7\n",
         "(8): row 2 (08:00 to 23:59, line 3 of night.table) has the threshold -7, which is outside"},
     {"08:00 16:59 5\n17:00 23:59 -1\n00:00 07:59 -2\n", "(8): row 2 (17:00 to 23:59, line 2 of"},
