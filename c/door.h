@@ -320,9 +320,11 @@ struct door_dealer_answer door_deal_between(
  * The minute is 0 to 1439, and the host says which one it is: no call has a clock. `place` in the
  * answer is the row that was used, counted from 1 in the order of the lists; of a refusal, see
  * struct door_clock_answer. Only the threshold of that row is tested. A table with a threshold in
- * another row that the measure does not take is taken, until a minute of that row comes: try each
- * row once when a table is set up. Refusals, in this order: 14, 15 or 16, 2, 4, 5, 7, 8 (the
- * minute, or the row's threshold).
+ * another row that the measure does not take is taken, until a minute of that row comes: try a deal
+ * at each row when a table is set up, with a dealer that is started for this alone, under keys of
+ * its own, and throw its halves away. Never with the door's dealer: its next number would come with
+ * several sets, sealed under one key and nonce. Refusals, in this order: 14, 15 or 16, 2, 4, 5, 7,
+ * 8 (the minute, or the row's threshold).
  */
 struct door_clock_answer door_deal_by_clock(
     struct door_dealer dealer,

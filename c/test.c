@@ -1146,10 +1146,37 @@ static void clock_thresholds(struct door_dealer dealer, struct clock_order c)
     }
 }
 
+/* The ends of each measure's thresholds, and what lies just outside: in the row that is used, and
+   in another one, where it is not looked at. */
+static void clock_ends(struct door_dealer dealer, struct clock_order c)
+{
+    static const long ends[][2] = {[DOOR_SCALAR] = {-PRODUCT_END, PRODUCT_END},
+        [DOOR_EUCLID] = {0, 0x7fffffff}, [DOOR_HAMMING] = {0, 513}};
+    const struct table good = c.table;
+    for (int end = 0; end < 2; end++) {
+        const long inside = ends[c.o.terms.code][end], outside = inside + (end == 0 ? -1 : 1);
+        for (uint32_t row = 0; row < good.firsts; row++) {
+            const uint32_t used = row, other = (row + 1) % (uint32_t)good.firsts;
+            c.minute = good.last[used];
+            c.table = good;
+            c.table.t[used] = word(inside);
+            clock_says(dealer, &c, DOOR_ACCEPTED, used + 1);
+            c.table.t[used] = word(outside);
+            clock_says(dealer, &c, DOOR_OUT_OF_RANGE, 0);
+            if (other == used)
+                continue;
+            c.table.t[other] = word(inside);
+            clock_says(dealer, &c, DOOR_OUT_OF_RANGE, 0);
+            exchange(&c.table.t[used], &c.table.t[other]);
+            clock_says(dealer, &c, DOOR_ACCEPTED, used + 1);
+        }
+    }
+}
+
 static void clock_minutes(struct door_dealer dealer, struct clock_order c)
 {
-    static const uint32_t none[] = {
-        DOOR_DAY, DOOR_DAY + 1, 2 * DOOR_DAY, 65536, 0x7fffffff, 0x80000000, UINT32_MAX};
+    static const uint32_t none[] = {DOOR_DAY, DOOR_DAY + 1, 2 * DOOR_DAY, 65536, 65536 + DOOR_DAY,
+        0x7fffffff, 0x80000000, UINT32_MAX};
     for (size_t i = 0; i < sizeof none / sizeof *none; i++) {
         c.minute = none[i];
         clock_says(dealer, &c, DOOR_OUT_OF_RANGE, 0);
@@ -1164,6 +1191,7 @@ static void clock_good_tables(struct door_dealer dealer)
             const struct clock_order c = clock_order(dealer, code, rows[i]);
             clock_each_row(dealer, c);
             clock_thresholds(dealer, c);
+            clock_ends(dealer, c);
             clock_minutes(dealer, c);
         }
 }
@@ -1188,6 +1216,32 @@ static void clock_lists(struct door_dealer dealer)
     }
 }
 
+/* Longer lists, which a count cut to 8 or to 16 bits would take for one row. That row is the whole
+   day; and each list is long alone too. */
+static void clock_long_lists(struct door_dealer dealer)
+{
+    static const size_t lengths[] = {1, DOOR_ROWS_MOST + 1, 257, 65537};
+    static uint32_t list[3][65537] = {[1] = {DOOR_DAY - 1}, [2] = {5}};
+    static struct halves h, before;
+    const size_t count = sizeof lengths / sizeof *lengths;
+    const struct door_terms terms = {DOOR_HAMMING, 18};
+    for (size_t i = 0; i < count * count * count; i++) {
+        const size_t firsts = lengths[i % count], lasts = lengths[i / count % count];
+        const size_t thresholds = lengths[i / count / count];
+        before = h;
+        struct door_clock_answer a = door_deal_by_clock(dealer, dealer.last + 1, seed, DOOR_KEY,
+            terms, list[0], firsts, list[1], lasts, list[2], thresholds, 700, h.half[0],
+            sizeof h.half[0], h.half[1], sizeof h.half[1]);
+        if (i == 0) { /* all three have one row */
+            EXPECT(a.why == DOOR_ACCEPTED && a.place == 1);
+            continue;
+        }
+        EXPECT(a.why == DOOR_BAD_ROWS && a.place == 0);
+        EXPECT(same_dealer(&a.dealer, &dealer) && memcmp(&h, &before, sizeof h) == 0);
+        EXPECT(list[0][0] == 0 && list[1][0] == DOOR_DAY - 1 && list[2][0] == 5);
+    }
+}
+
 /* What a table of this few rows is answered by, where it does not depend on the minute. */
 static const struct few_rows {
     size_t rows;
@@ -1196,6 +1250,9 @@ static const struct few_rows {
 } FEW_ROWS[] = {
     {1, {{0, 1440}}, DOOR_BAD_ROWS, 1}, /* past the day */
     {1, {{0, UINT32_MAX}}, DOOR_BAD_ROWS, 1},
+    {1, {{0, 65536 + 1439}}, DOOR_BAD_ROWS, 1}, /* good if cut to 16 bits, as the next two */
+    {1, {{65536, 1439}}, DOOR_BAD_ROWS, 1},
+    {1, {{65536, 65536 + 1439}}, DOOR_BAD_ROWS, 1},
     {1, {{1440, 1440}}, DOOR_BAD_ROWS, 1},
     {1, {{1439, 0}}, DOOR_BAD_ROWS, 1}, /* backwards */
     {1, {{720, 719}}, DOOR_BAD_ROWS, 1},
@@ -1368,13 +1425,101 @@ static void clock_with_faults(struct door_dealer dealer)
     clock_says(dealer, &good, DOOR_WRONG_LENGTH, 0);
 }
 
+/* Every length, with just the room that a half has, with a byte less, and with more, of which the
+   rest stays. */
+static void clock_lengths(struct door_dealer dealer)
+{
+    for (size_t n = 1; n <= MOST; n++) {
+        const size_t size = half_size(n);
+        struct clock_order c = clock_order(dealer, n % 3, 1 + n % 4);
+        uint32_t place;
+        EXPECT(rows_with(&c.table, c.minute, &place) == 1);
+        c.o.terms.n = n;
+        c.o.room[0] = c.o.room[1] = size;
+        clock_says(dealer, &c, DOOR_ACCEPTED, place);
+        c.o.room[n % 2]--;
+        clock_says(dealer, &c, DOOR_SHORT_BUFFER, 0);
+        c.o.room[n % 2] = DOOR_HALF_MOST + n % BEYOND;
+        clock_says(dealer, &c, DOOR_ACCEPTED, place);
+        c.o.room[0] = c.o.room[1] = DOOR_HALF_MOST;
+        clock_says(dealer, &c, DOOR_ACCEPTED, place);
+    }
+}
+
+/* Lengths and codes out of their ranges, which a cut to fewer bits would bring into them. */
+static void clock_terms(struct door_dealer dealer, const struct clock_order *good)
+{
+    static const size_t lengths[] = {0, 513, 65536, 65537, (size_t)1 << 32, ((size_t)1 << 32) + 1,
+        ((size_t)1 << 63) + 1, SIZE_MAX};
+    static const uint32_t codes[] = {
+        3, 4, 256, 257, 258, 65536, 65538, 0x80000000, 0x80000001, UINT32_MAX - 1, UINT32_MAX};
+    struct clock_order c = *good;
+    for (uint32_t code = 0; code < 3; code++) {
+        c.o.terms.code = code;
+        clock_says(dealer, &c, DOOR_ACCEPTED, 1);
+    }
+    for (size_t i = 0; i < sizeof lengths / sizeof *lengths; i++) {
+        c = *good;
+        c.o.terms.n = lengths[i];
+        clock_says(dealer, &c, DOOR_WRONG_LENGTH, 0);
+    }
+    for (size_t i = 0; i < sizeof codes / sizeof *codes; i++) {
+        c = *good;
+        c.o.terms.code = codes[i];
+        clock_says(dealer, &c, DOOR_BAD_PARTY_OR_CODE, 0);
+    }
+    static const size_t seeds[] = {0, 31, 33};
+    for (size_t i = 0; i < sizeof seeds / sizeof *seeds; i++) {
+        c = *good;
+        c.o.seed_size = seeds[i];
+        clock_says(dealer, &c, DOOR_WRONG_LENGTH, 0);
+    }
+}
+
+/* A number is compared in all of its 64 bits, and not as a signed one. */
+static const struct { uint64_t last, number; bool above; } NUMBERS[] = {
+    {40, UINT64_MAX, true}, {UINT64_MAX - 1, UINT64_MAX, true}, {UINT64_MAX, UINT64_MAX, false},
+    {UINT64_MAX, UINT64_MAX - 1, false}, {UINT64_MAX, 0, false}, {UINT64_MAX, 1, false},
+    {0, 0, false}, {0, 1, true}, {UINT32_MAX, (uint64_t)1 << 32, true},
+    {9, ((uint64_t)1 << 32) + 1, true}, {9, ((uint64_t)1 << 32) + 9, true},
+    {((uint64_t)1 << 32) + 7, ((uint64_t)1 << 32) + 8, true},
+    {((uint64_t)1 << 32) + 7, ((uint64_t)1 << 32) + 7, false},
+    {((uint64_t)1 << 32) + 7, ((uint64_t)1 << 32) + 6, false},
+    {((uint64_t)1 << 32) + 7, 9, false}, {((uint64_t)3 << 32) + 7, ((uint64_t)2 << 32) + 8, false},
+    {INT64_MAX, (uint64_t)INT64_MAX + 1, true}, {(uint64_t)INT64_MAX + 1, INT64_MAX, false},
+};
+
+static void clock_numbers(struct door_dealer dealer, struct clock_order c)
+{
+    for (size_t i = 0; i < sizeof NUMBERS / sizeof *NUMBERS; i++) {
+        dealer.last = NUMBERS[i].last;
+        c.o.number = NUMBERS[i].number;
+        clock_says(dealer, &c, NUMBERS[i].above ? DOOR_ACCEPTED : DOOR_WRONG_NUMBER,
+            NUMBERS[i].above ? 1 : 0);
+    }
+}
+
+/* Each input alone, with more room than a half has. */
+static void clock_alone(struct door_dealer dealer)
+{
+    struct clock_order good = clock_order(dealer, DOOR_HAMMING, 1);
+    good.o.terms.n = 18;
+    good.o.room[0] = good.o.room[1] = DOOR_HALF_MOST;
+    clock_says(dealer, &good, DOOR_ACCEPTED, 1);
+    clock_terms(dealer, &good);
+    clock_numbers(dealer, good);
+}
+
 static void deals_by_clock(struct door_dealer dealer)
 {
     clock_good_tables(dealer);
     clock_lists(dealer);
+    clock_long_lists(dealer);
     clock_few_rows(dealer);
     clock_drawn_tables(dealer);
     clock_with_faults(dealer);
+    clock_lengths(dealer);
+    clock_alone(dealer);
 }
 
 /* What is handed to calls 3 and 4. */

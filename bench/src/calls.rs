@@ -5,7 +5,7 @@ use crate::door::Day;
 use crate::foreign::door::PartyAnswer;
 use crate::foreign::Key;
 use crate::measure::Who;
-use second::dealer::{Dealer, Order};
+use second::dealer::{Clock, Dealer, Order};
 use second::lock::{self, Answer};
 use second::message::Label;
 use second::party::Party;
@@ -37,8 +37,7 @@ pub trait Calls: Copy {
     fn start_dealer(self, name: &[u8], floor: u64, keys: &[Key; 2]) -> Self::Dealer;
     /// Writes both halves, and answers why not; the dealer's next state is not wanted.
     fn deal(self, dealer: &Self::Dealer, order: &Order, out: [&mut [u8]; 2]) -> u32;
-    /// The same by the clock, in place of the order's rule: that is the threshold of the day's row. The
-    /// word is the row's place.
+    /// The same by the clock, in place of the order's rule. The word is the place.
     fn deal_by_clock(
         self,
         dealer: &Self::Dealer,
@@ -77,12 +76,24 @@ impl Calls for Second {
         refusal::number(&dealer.clone().deal(order, out))
     }
 
-    /// Only its deal by the row's threshold, which the deal by the clock is to equal.
     fn deal_by_clock(self, dealer: &Dealer, order: &Order, day: &Day, out: [&mut [u8]; 2]) -> Said {
-        let why = self.deal(dealer, order, out);
-        Said {
-            why,
-            word: day.place,
+        let Day { table, minute } = day;
+        let order = Order {
+            code: order.code,
+            length: order.length,
+            rule: Clock {
+                table,
+                minute: *minute,
+            },
+            number: order.number,
+            seed: order.seed,
+        };
+        match dealer.clone().deal_by_clock(&order, out) {
+            Ok(word) => Said { why: 0, word },
+            Err(refused) => Said {
+                why: refused.why as u32,
+                word: refused.place,
+            },
         }
     }
 

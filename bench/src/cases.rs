@@ -105,9 +105,14 @@ pub const ACCEPTED: [Case; 10] = [
 ];
 
 /// A refusal of each call, where it can be had one that comes late among its tests.
-pub const REFUSED: [Case; 10] = [
+pub const REFUSED: [Case; 11] = [
     deal("deal, threshold out of range", 8, Rule::Threshold(i32::MIN)),
     deal("deal, marks out of order", 13, Rule::Between(1, 0)),
+    Case {
+        name: "deal by the clock, last minute in no row of 32",
+        why: 15,
+        call: Call::DealByClock { day: 2 },
+    },
     on_box("load, a set waits", 3, FULL, |known, _| {
         Step::Load(&known.ahead)
     }),

@@ -4,6 +4,7 @@ use crate::calls::{Calls, Second, States, Step};
 use crate::foreign::ours::Ours;
 use crate::foreign::Key;
 use second::content;
+use second::day::{Table, MAX_ROWS, MINUTES};
 use second::dealer::Order;
 use second::lock::Answer;
 use second::measure::Measure;
@@ -179,20 +180,14 @@ fn check<C: Calls>(
 pub const THRESHOLD: Rule = Rule::Threshold(500);
 pub const MARKS: Rule = Rule::Between(500, 510);
 
-/// A table of the day, and a minute of the row that is looked for.
+/// A table of the day, and the minute whose row is looked for.
 pub struct Day {
-    pub firsts: Vec<u32>,
-    pub lasts: Vec<u32>,
-    pub thresholds: Vec<u32>,
+    pub table: Table,
     pub minute: u32,
-    /// That row's, counted from 1.
-    pub place: u32,
 }
 
-const MINUTES: u32 = 1440;
-
-/// The rows of the days that are known.
-const ROWS: [u32; 2] = [1, 32];
+/// As many rows as there can be.
+const ROWS: u32 = MAX_ROWS as u32;
 
 impl Day {
     /// So many rows, each as long as the others. The last one has `THRESHOLD`, and is looked for.
@@ -201,15 +196,23 @@ impl Day {
             unreachable!("it is a threshold")
         };
         let long = MINUTES / rows;
-        Day {
+        let table = Table {
             firsts: (0..rows).map(|row| row * long).collect(),
             lasts: (1..=rows).map(|row| row * long - 1).collect(),
             thresholds: (1..=rows)
                 .map(|row| threshold as u32 + rows - row)
                 .collect(),
-            minute: MINUTES - 1,
-            place: rows,
-        }
+        };
+        let minute = MINUTES - 1;
+        Day { table, minute }
+    }
+
+    /// As many rows as there can be, and the day's last minute in none of them: all of it is looked
+    /// at before it is refused.
+    fn short() -> Day {
+        let mut day = Day::new(ROWS);
+        *day.table.lasts.last_mut().expect("a table has rows") -= 1;
+        day
     }
 }
 
@@ -223,7 +226,8 @@ pub struct Known {
     pub spent: Vec<u8>,
     pub broken: Vec<u8>,
     pub wide: Vec<u32>,
-    pub days: [Day; 2],
+    /// With one row, with as many as there can be, and one that is refused.
+    pub days: [Day; 3],
 }
 
 impl Known {
@@ -244,7 +248,7 @@ impl Known {
             spent,
             broken,
             wide,
-            days: black_box(ROWS.map(Day::new)),
+            days: black_box([Day::new(1), Day::new(ROWS), Day::short()]),
         }
     }
 

@@ -76,14 +76,11 @@ static void say_not_dealt(uint64_t number, const struct request *r)
     char words[TROUBLE_ROOM], at[TIME_ROOM];
     const char *done = r->why == DOOR_WRONG_NUMBER
         ? "no set was dealt" : "no set was dealt: put " SETTINGS_FILE " right";
-    if (!r->settings.by_clock) {
-        say_refused("the deal", number, r->why, done);
-        return;
-    }
-    table_trouble(&r->settings.table, SETTINGS_FILE, r->why, r->place, r->minute, words);
+    bool by_clock = r->settings.by_clock;
+    deal_trouble(&r->settings, SETTINGS_FILE, r->why, r->place, r->minute, words);
     time_words(r->minute, at);
-    say("set %" PRIu64 ": the deal at %s was refused (%" PRIu32 "): %s; %s", number, at, r->why,
-        words, done);
+    say("set %" PRIu64 ": the deal%s%s was refused (%" PRIu32 "): %s; %s", number,
+        by_clock ? " at " : "", by_clock ? at : "", r->why, words, done);
 }
 
 /* Deals the next set into memory, and says whether the proved call took it. */
@@ -243,6 +240,14 @@ static void try_rows(struct dealer *dealer, const struct settings *s)
         "no set will be dealt in that row's time: put " SETTINGS_FILE " right");
 }
 
+/* What the operator is told beside the refusal. The call has no place for a bad threshold, but the
+   person at the door is to learn that it is the table's, and of which row. */
+static uint32_t place_of_failure(const struct request *r)
+{
+    bool bad_threshold = r->settings.by_clock && r->why == DOOR_OUT_OF_RANGE;
+    return bad_threshold ? row_with(&r->settings.table, r->minute) : r->place;
+}
+
 static void handle(void *state, const struct link *link, const struct message *message)
 {
     struct dealer *dealer = state;
@@ -254,7 +259,7 @@ static void handle(void *state, const struct link *link, const struct message *m
     }
     if (!read_settings(&r.settings) || (r.settings.by_clock && !minute_now(&r.minute))
         || !find_set(dealer, &r, &number)) {
-        send_failed_at(link, dealer->state.last, r.why, r.place);
+        send_failed_at(link, dealer->state.last, r.why, place_of_failure(&r));
         return;
     }
     say_handed_out(number, &r);

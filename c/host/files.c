@@ -256,6 +256,24 @@ const char *parse_table_head(const char *text, struct settings *settings)
     return text + size;
 }
 
+static unsigned line_of(const char *text, const char *at)
+{
+    unsigned line = 1;
+    for (; text < at; text++)
+        line += *text == '\n';
+    return line;
+}
+
+/* Of a file that is no plain one, no more is known than what was read. */
+static void say_too_long(const char *path, size_t size)
+{
+    struct stat found;
+    if (stat(path, &found) == 0 && found.st_size > (off_t)size)
+        size = (size_t)found.st_size;
+    say("%s has %zu bytes, and may have at most %d: nothing of it is used", path, size,
+        TABLE_TEXT_MOST - 1);
+}
+
 /* A file that is too long, or has a zero byte, would lose rows without a word. */
 static bool read_text(const char *path, char text[TABLE_TEXT_MOST + 1])
 {
@@ -263,24 +281,21 @@ static bool read_text(const char *path, char text[TABLE_TEXT_MOST + 1])
     if (!read_file(path, text, TABLE_TEXT_MOST, &size))
         return false;
     text[size] = '\0';
-    if (size < TABLE_TEXT_MOST && strlen(text) == size)
-        return true;
-    say("%s is no text of below %d bytes", path, TABLE_TEXT_MOST);
-    return false;
+    const size_t before_zero = strlen(text);
+    bool fits = size < TABLE_TEXT_MOST;
+    bool is_text = before_zero == size;
+    if (!fits)
+        say_too_long(path, size);
+    else if (!is_text)
+        say("%s: line %u has a zero byte, byte %zu of the file: a text has none", path,
+            line_of(text, text + before_zero), before_zero + 1);
+    return fits && is_text;
 }
 
 bool read_table(const char *path, struct table *table)
 {
     static char text[TABLE_TEXT_MOST + 1];
     return read_text(path, text) && parse_table(text, path, 1, table);
-}
-
-static unsigned line_of(const char *text, const char *at)
-{
-    unsigned line = 1;
-    for (; text < at; text++)
-        line += *text == '\n';
-    return line;
 }
 
 bool read_settings(struct settings *settings)

@@ -56,6 +56,11 @@ struct halves {
 struct door_clock_answer deal_for(const struct door_dealer *dealer, uint64_t number,
     const uint8_t seed[DOOR_KEY], const struct settings *s, uint32_t minute, struct halves *h);
 
+/* Why the proved call refused a deal with these settings, at this minute, in words; the file is where
+   they were read. */
+void deal_trouble(const struct settings *s, const char *file, uint32_t why, uint32_t place,
+    uint32_t minute, char words[TROUBLE_ROOM]);
+
 /* Whether a dealer like this one would deal with these settings, at each row of a table. Says of
    each trial that is refused why, and what was done; the file is where the table was read. */
 bool trial_deals(const struct door_dealer *like, const struct settings *s, const char *file,
@@ -64,7 +69,8 @@ bool trial_deals(const struct door_dealer *like, const struct settings *s, const
 /* The minute of the day by this machine's local time. */
 bool minute_now(uint32_t *minute);
 
-/* Tells the operator that this set came to nothing here, and with refusals 14 to 16 the place. */
+/* Tells the operator that this set came to nothing here, and with refusals 14 to 16, and with 8 by a
+   table's row, the place. */
 void send_failed(const struct link *link, uint64_t number, uint32_t why);
 void send_failed_at(const struct link *link, uint64_t number, uint32_t why, uint32_t place);
 

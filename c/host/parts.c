@@ -81,17 +81,32 @@ const char *refusal_words(uint32_t why)
     return why < sizeof words / sizeof *words ? words[why] : "a number that no call answers";
 }
 
+/* A measure by its code, and the range of its thresholds and marks. */
+struct measure_words {
+    const char *name, *range;
+};
+
+static struct measure_words measure_words(uint32_t code)
+{
+    static const struct measure_words measures[] = {
+        [DOOR_SCALAR] = {"scalar product", "-1073741824 to 1073741824"},
+        [DOOR_EUCLID] = {"squared Euclid", "0 to 2147483647"},
+        [DOOR_HAMMING] = {"Hamming", "0 to 513"},
+    };
+    static const struct measure_words none = {"a measure of no known code", "no threshold"};
+    return code < sizeof measures / sizeof *measures ? measures[code] : none;
+}
+
 void terms_words(struct door_terms terms, char words[TERMS_ROOM])
 {
-    static const char *const measures[] = {
-        [DOOR_SCALAR] = "scalar product",
-        [DOOR_EUCLID] = "squared Euclid",
-        [DOOR_HAMMING] = "Hamming",
-    };
-    bool is_known = terms.code < sizeof measures / sizeof *measures;
-    snprintf(words, TERMS_ROOM, "%s, %zu element%s",
-        is_known ? measures[terms.code] : "a measure of no known code", terms.n,
+    snprintf(words, TERMS_ROOM, "%s, %zu element%s", measure_words(terms.code).name, terms.n,
         terms.n == 1 ? "" : "s");
+}
+
+void range_words(uint32_t code, char words[RANGE_ROOM])
+{
+    const struct measure_words measure = measure_words(code);
+    snprintf(words, RANGE_ROOM, "%s takes %s", measure.name, measure.range);
 }
 
 void say_refused(const char *call, uint64_t number, uint32_t why, const char *done)

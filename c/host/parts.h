@@ -43,6 +43,10 @@ const char *refusal_words(uint32_t why);
 #define TERMS_ROOM 64
 void terms_words(struct door_terms terms, char words[TERMS_ROOM]);
 
+/* Which thresholds and marks a measure takes: 'Hamming takes 0 to 513'. */
+#define RANGE_ROOM 64
+void range_words(uint32_t code, char words[RANGE_ROOM]);
+
 /* Says which call was refused for which set, why, and what this host did about it. */
 void say_refused(const char *call, uint64_t number, uint32_t why, const char *done);
 

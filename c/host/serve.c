@@ -43,7 +43,8 @@ bool start_part(enum part self, struct door_name *name, uint64_t *last)
 
 void send_failed_at(const struct link *link, uint64_t number, uint32_t why, uint32_t place)
 {
-    bool has_place = why >= DOOR_BAD_ROWS && why <= DOOR_MORE_ROWS;
+    bool has_place = (why >= DOOR_BAD_ROWS && why <= DOOR_MORE_ROWS)
+        || (why == DOOR_OUT_OF_RANGE && place != 0);
     const struct message failed = {.kind = HOST_FAILED, .sender = link->self, .number = number,
         .words = {why, place}, .count = has_place ? 2 : 1};
     send_to(link, OPERATOR, &failed);

@@ -68,7 +68,7 @@ static bool plan_settings(struct plan *plan, const char *settings_text)
         if (parse_settings(settings_text, &plan->settings))
             return true;
         say("a set-up needs three or four whole numbers: measure code, length, and a threshold or "
-            "two marks; nothing was set up");
+            "two marks; or code, length, the word " TABLE_WORD " and its file; nothing was set up");
     } else if (parse_table_head(settings_text, &plan->settings) == NULL) {
         say("a set-up with a table needs two whole numbers before it: measure code and length; "
             "nothing was set up");

@@ -66,7 +66,7 @@ static bool parse_time(struct word word, uint32_t *minute)
     return minutes < HOUR && *minute < DOOR_DAY;
 }
 
-/* Nothing is cut to a word here that the deal has not tested. */
+/* A number that does not fit 32 bits is no threshold: nothing is cut. */
 static bool parse_threshold(struct word word, uint32_t *threshold)
 {
     char text[SHOWN + 1], *end;
@@ -91,6 +91,7 @@ static bool parse_row(const struct line *line, const struct word words[WORDS_OF_
     if (!parse_threshold(words[2], &threshold))
         return say_found(line, words[2],
             "the row's threshold, a whole number from -2147483648 to 2147483647");
+    table->found++;
     if (table->rows == ROWS_ROOM)
         return true; /* there are too many already */
     const size_t row = table->rows++;
@@ -122,9 +123,24 @@ static bool parse_line(const char *text, const struct line *line, struct table *
     return false;
 }
 
+/* A file that was cut off may end in '500000' cut to '5', which is a threshold too. */
+static bool is_whole(const char *text, const char *file, unsigned line)
+{
+    const size_t size = strlen(text);
+    if (size == 0 || text[size - 1] == '\n')
+        return true;
+    for (; *text != '\0'; text++)
+        line += *text == '\n';
+    say("%s: line %u, the last one, has no line end: the file may have been cut off; end each line, "
+        "the last one too", file, line);
+    return false;
+}
+
 bool parse_table(const char *text, const char *file, unsigned line, struct table *table)
 {
     *table = (struct table){0};
+    if (!is_whole(text, file, line))
+        return false;
     for (;; line++) {
         if (!parse_line(text, &(struct line){.file = file, .number = line}, table))
             return false;
@@ -175,6 +191,9 @@ void place_words(uint32_t why, uint32_t place, char words[TROUBLE_ROOM])
         snprintf(words, TROUBLE_ROOM, "%s lies in no row of the table", at);
     else if (why == DOOR_MORE_ROWS)
         snprintf(words, TROUBLE_ROOM, "%s lies in two rows of the table, or more", at);
+    else if (why == DOOR_OUT_OF_RANGE && place != 0)
+        snprintf(words, TROUBLE_ROOM, "the threshold of row %" PRIu32 " of the table is outside its "
+            "measure's range", place);
     else
         snprintf(words, TROUBLE_ROOM, "%s", refusal_words(why));
 }
@@ -186,6 +205,11 @@ static uint32_t next_row_with(const struct table *table, uint32_t behind, uint32
         if (row_holds(table, place, minute))
             return place;
     return 0;
+}
+
+uint32_t row_with(const struct table *table, uint32_t minute)
+{
+    return next_row_with(table, 0, minute);
 }
 
 /* 'row 2 (08:00 to 16:59, line 3 of night.table)' */
@@ -204,7 +228,7 @@ static void say_rows_with(
     const struct table *table, const char *file, uint32_t minute, char words[TROUBLE_ROOM])
 {
     char at[TIME_ROOM], one[PLACED_ROOM], other[PLACED_ROOM];
-    const uint32_t first = next_row_with(table, 0, minute);
+    const uint32_t first = row_with(table, minute);
     const uint32_t second = next_row_with(table, first, minute);
     time_words(minute, at);
     placed_row(table, file, first, one);
@@ -213,17 +237,21 @@ static void say_rows_with(
         "%s lies in %s and in %s: let each minute lie in one row and no more", at, one, other);
 }
 
-void table_trouble(const struct table *table, const char *file, uint32_t why, uint32_t place,
-    uint32_t minute, char words[TROUBLE_ROOM])
+void table_trouble(const struct table *table, const char *file, uint32_t code, uint32_t why,
+    uint32_t place, uint32_t minute, char words[TROUBLE_ROOM])
 {
-    char row[PLACED_ROOM], at[TIME_ROOM];
-    const uint32_t used = why == DOOR_BAD_ROWS ? place : next_row_with(table, 0, minute);
+    char row[PLACED_ROOM], at[TIME_ROOM], range[RANGE_ROOM];
+    const uint32_t used = why == DOOR_BAD_ROWS ? place : row_with(table, minute);
     time_words(place, at);
+    range_words(code, range);
     if (used != 0)
         placed_row(table, file, used, row);
-    if (why == DOOR_BAD_ROWS && place == 0)
-        snprintf(words, TROUBLE_ROOM, "the table in %s has %s: write 1 to %d rows", file,
-            table->rows == 0 ? "no row" : "too many rows", DOOR_ROWS_MOST);
+    if (why == DOOR_BAD_ROWS && place == 0 && table->found == 0)
+        snprintf(words, TROUBLE_ROOM, "the table in %s has no row: write 1 to %d rows", file,
+            DOOR_ROWS_MOST);
+    else if (why == DOOR_BAD_ROWS && place == 0)
+        snprintf(words, TROUBLE_ROOM, "the table in %s has too many rows, %zu: write 1 to %d rows",
+            file, table->found, DOOR_ROWS_MOST);
     else if (why == DOOR_BAD_ROWS)
         snprintf(words, TROUBLE_ROOM, "%s runs backwards: write one that runs over midnight as two "
             "rows", row);
@@ -234,7 +262,7 @@ void table_trouble(const struct table *table, const char *file, uint32_t why, ui
         say_rows_with(table, file, place, words);
     else if (why == DOOR_OUT_OF_RANGE && used != 0)
         snprintf(words, TROUBLE_ROOM, "%s has the threshold %" PRId32 ", which is outside its "
-            "measure's range", row, (int32_t)table->thresholds[used - 1]);
+            "measure's range: %s", row, (int32_t)table->thresholds[used - 1], range);
     else
         snprintf(words, TROUBLE_ROOM, "%s", refusal_words(why));
 }

@@ -105,7 +105,7 @@ static const struct bad_table BAD_LINES[] = {
     {"00:00 24:00 5\n",
         ": line 1: found \"24:00\", expected is the row's last minute, which belongs to the row"},
     {"00:00 23.59 5\n", ": line 1: found \"23.59\", expected is the row's last minute"},
-    {"00:00 23:59x 5", ": line 1: found \"23:59x\", expected is the row's last minute"},
+    {"00:00 23:59x 5\n", ": line 1: found \"23:59x\", expected is the row's last minute"},
     {"00:00 23:59 5x\n", ": line 1: found \"5x\", expected is the row's threshold, a whole number"},
     {"00:00 23:59 2147483648\n", ": line 1: found \"2147483648\", expected is the row's threshold"},
     {"00:00 23:59 4294967301\n", ": line 1: found \"4294967301\", expected is the row's threshold"},
@@ -116,6 +116,10 @@ static const struct bad_table BAD_LINES[] = {
     {"00:00 23:59\n", ": line 1: found 2 of three words, expected is a row's first minute"},
     {"00:00 11:59 5\n12:00 # 23:59 5\n", ": line 2: found 1 of three words, expected is"},
     {"00:00 23:59 5 6\n", ": line 1: found \"6\", expected is the line's end, or a comment"},
+    {"00:00 23:59 5", ": line 1, the last one, has no line end: the file may have been cut off"},
+    {"00:00 11:59 5\n12:00 23:59 5 ", ": line 2, the last one, has no line end"},
+    {"00:00 11:59 5\n\n12:00 23:", ": line 3, the last one, has no line end"},
+    {"00:00 23:59 5\n# no", ": line 2, the last one, has no line end"},
 };
 
 static const struct bad_table BAD_TABLES[] = {
@@ -139,7 +143,8 @@ static const struct bad_table BAD_TABLES[] = {
 /* The threshold of each row is looked at, whatever time it is. */
 static const struct bad_table BAD_THRESHOLDS[] = {
     {"00:00 07:59 -1\n08:00 23:59 5\n",
-        "(8): row 1 (00:00 to 07:59, line 1 of night.table) has the threshold -1, which is outside"},
+        "(8): row 1 (00:00 to 07:59, line 1 of night.table) has the threshold -1, which is outside "
+        "its measure's range: squared Euclid takes 0 to 2147483647; nothing was set up"},
     {"00:00 07:59 5\n# day\n08:00 23:59 -7\n",
         "(8): row 2 (08:00 to 23:59, line 3 of night.table) has the threshold -7, which is outside"},
     {"08:00 16:59 5\n17:00 23:59 -1\n00:00 07:59 -2\n", "(8): row 2 (17:00 to 23:59, line 2 of"},
@@ -184,27 +189,67 @@ static void sets_up_table(const char *folder, const char *text, const char *righ
         "a set-up with a table writes other settings");
 }
 
+/* A table whose file has so many bytes: a row, and comments of one line each. */
+#define LONGEST 16383 /* bytes that a table's file may have */
+
+static void put_long_table(size_t size)
+{
+    static const char row[] = "00:00 23:59 5\n";
+    static char text[3 * LONGEST + 1];
+    memset(text, '#', size);
+    memcpy(text, row, strlen(row));
+    for (size_t at = 99; at < size; at += 100)
+        text[at] = '\n';
+    text[size - 1] = '\n';
+    text[size] = '\0';
+    put_table(text);
+}
+
+/* A set-up says which thresholds and marks a measure takes, by its code. */
+static void thresholds_refused(void)
+{
+    put_table("00:00 23:59 -2000000000\n");
+    refuses_setup((char *[]){"0", "128", "table", TABLE_FILE, NULL},
+        "has the threshold -2000000000, which is outside its measure's range: scalar product takes "
+        "-1073741824 to 1073741824; nothing");
+    refuses_setup((char *[]){"2", "128", "table", TABLE_FILE, NULL},
+        "which is outside its measure's range: Hamming takes 0 to 513; nothing");
+    refuses_setup((char *[]){"2", "128", "600", NULL},
+        "(8): the threshold is outside its measure's range: Hamming takes 0 to 513; nothing");
+    refuses_setup((char *[]){"1", "128", "5", "-1", NULL},
+        "(8): a mark is outside its measure's range: squared Euclid takes 0 to 2147483647; nothing");
+}
+
 void table_setups(void)
 {
     REFUSED(BAD_LINES);
     REFUSED(BAD_TABLES);
     REFUSED(BAD_THRESHOLDS);
     put_short_rows(DOOR_ROWS_MOST + 1);
-    refuses_setup(WITH_TABLE, "(14): the table in night.table has too many rows: write 1 to 32");
+    refuses_setup(WITH_TABLE, "(14): the table in night.table has too many rows, 33: write 1 to 32");
     put_short_rows(DOOR_ROWS_MOST + 8);
-    refuses_setup(WITH_TABLE, "(14): the table in night.table has too many rows: write 1 to 32");
+    refuses_setup(WITH_TABLE, "(14): the table in night.table has too many rows, 40: write 1 to 32");
     put_short_rows(DOOR_ROWS_MOST);
     refuses_setup((char *[]){"1", "x", "table", TABLE_FILE, NULL}, "two whole numbers before it");
-    refuses_setup((char *[]){"1", "128", "table", NULL}, "three or four whole numbers");
+    refuses_setup((char *[]){"1", "128", "table", NULL},
+        "three or four whole numbers: measure code, length, and a threshold or two marks; or code, "
+        "length, the word table and its file; nothing was set up");
     refuses_setup((char *[]){"1", "128", "tables", TABLE_FILE, NULL}, "three or four whole");
     refuses_setup((char *[]){"1", "128", "table", "no.table", NULL}, "cannot open no.table");
     refuses_setup((char *[]){"3", "128", "table", TABLE_FILE, NULL}, "was refused (2): ");
     refuses_setup((char *[]){"1", "513", "table", TABLE_FILE, NULL}, "was refused (4): ");
     sets_up_table("rows", NULL, NULL);
     sets_up_table("table", "# night\r\n17:00 23:59 300 # strict\r\n\n\t00:00  07:59\t-0\n"
-        "08:00 16:59 500", "1 128 table\n17:00 23:59 300\n00:00 07:59 0\n08:00 16:59 500\n");
+        "08:00 16:59 500\n", "1 128 table\n17:00 23:59 300\n00:00 07:59 0\n08:00 16:59 500\n");
     put_file(TABLE_FILE, "00:00 23:59 5\n\0 5", 17);
-    refuses_setup(WITH_TABLE, "night.table is no text of below 16384 bytes");
+    refuses_setup(WITH_TABLE, "night.table: line 2 has a zero byte, byte 15 of the file");
+    put_long_table(LONGEST);
+    sets_up_table("long", NULL, "1 128 table\n00:00 23:59 5\n");
+    put_long_table(LONGEST + 1);
+    refuses_setup(WITH_TABLE, "night.table has 16384 bytes, and may have at most 16383");
+    put_long_table(3 * LONGEST);
+    refuses_setup(WITH_TABLE, "night.table has 49149 bytes, and may have at most 16383");
+    thresholds_refused();
 }
 
 /* Checks. */
@@ -316,10 +361,15 @@ static void bad_tables(void)
     refuses_by_hand("1 128 table\n00:00 08:00 5\n08:00 23:59 5\n", DOOR_MORE_ROWS, 480,
         "(16): 08:00 lies in row 1 (00:00 to 08:00, line 2 of dealer/settings) and in row 2 (",
         "came to nothing at the dealer: 08:00 lies in two rows of the table, or more");
-    refuses_by_hand("2 128 table\n00:00 11:59 5\n12:00 23:59 514\n", DOOR_OUT_OF_RANGE, 0,
+    refuses_by_hand("2 128 table\n00:00 11:59 5\n12:00 23:59 514\n", DOOR_OUT_OF_RANGE, 2,
         "the deal at 12:01 was refused (8): row 2 (12:00 to 23:59, line 3 of dealer/settings) has "
-        "the threshold 514, which is outside its measure's range; no set was dealt",
-        "came to nothing at the dealer: an element, the threshold or a mark is outside");
+        "the threshold 514, which is outside its measure's range: Hamming takes 0 to 513; no set "
+        "was dealt",
+        "came to nothing at the dealer: the threshold of row 2 of the table is outside its "
+        "measure's range");
+    refuses_by_hand("1 128 table\n00:00 11:59 300000\n12:00 23:59 5", DOOR_ACCEPTED, 0,
+        "dealer/settings: line 3, the last one, has no line end: the file may have been cut off",
+        "its log says why");
     refuses_by_hand("2 128 table\n00:00 23:59 5\n12:00\n", DOOR_ACCEPTED, 0,
         "dealer/settings: line 3: found 1 of three words", "its log says why");
     refuses_by_hand("2 128 table00:00 23:59 5\n", DOOR_ACCEPTED, 0,
@@ -332,8 +382,8 @@ static void bad_tables(void)
 static void row_that_no_deal_takes(void)
 {
     static const char words[] = "(8): row 3 (00:00 to 07:59, line 4 of dealer/settings) has the "
-        "threshold 514, which is outside its measure's range; no set will be dealt in that row's "
-        "time";
+        "threshold 514, which is outside its measure's range: Hamming takes 0 to 513; no set will "
+        "be dealt in that row's time";
     char said[SAID_ROOM];
     draw_pair(DOOR_HAMMING);
     set_day_and_night(60, 70);
@@ -349,8 +399,22 @@ static void row_that_no_deal_takes(void)
     EXPECT(strstr(said, words) == NULL, "the dealer tries a table again: %s", said);
 }
 
+/* Of a set three words are told, four or six: the threshold, two marks, or the threshold and a row. */
+static void dealt_sizes(void)
+{
+    uint8_t bytes[DATAGRAM_MOST];
+    struct message m = {.kind = HOST_DEALT, .sender = DEALER, .number = 1}, found;
+    for (m.count = 0; m.count < 10; m.count++) {
+        const char *why = decode(bytes, encode(&m, bytes), &found);
+        bool is_one = m.count == 3 || m.count == 4 || m.count == DEALT_BY_CLOCK;
+        EXPECT((why == NULL) == is_one, "told of a set: %zu words, and that is %s", m.count,
+            why == NULL ? "taken" : why);
+    }
+}
+
 void tables(void)
 {
+    dealt_sizes();
     for (uint32_t code = DOOR_SCALAR; code <= DOOR_HAMMING; code++)
         checks_around_rows(code);
     checks_with_other_tables();

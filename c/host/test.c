@@ -552,12 +552,12 @@ static void switch_off_and_on(enum part part)
 }
 
 /* A box that has lost the set that was dealt ahead fails the check, and the operator gets it
-   answered with another set. */
+   answered with another set. The clock stays too: at another row's time that set is not used. */
 static void operator_asks_again(enum part box)
 {
     switch_off_and_on(box);
     unsigned long failed = tally.failed;
-    operators_check(VECTORS);
+    operators_check(NOTHING);
     EXPECT(tally.failed > failed, "the %s did not miss the set that it had lost",
         PART[box].title);
 }
@@ -723,7 +723,10 @@ static void bad_settings(void)
     refuses_settings("1 128 900 899\n", DOOR_BAD_MARKS, in_order);
     refuses_settings("0 128 -1073741824 1073741824\n", DOOR_BAD_MARKS, in_order);
     refuses_settings("2 128 5 514\n", DOOR_OUT_OF_RANGE,
-        "(8): an element, the threshold or a mark is outside its measure's range");
+        "the deal was refused (8): a mark is outside its measure's range: Hamming takes 0 to 513; "
+        "no set was dealt");
+    refuses_settings("2 128 600\n", DOOR_OUT_OF_RANGE,
+        "(8): the threshold is outside its measure's range: Hamming takes 0 to 513; no set");
     lose_stock(DEALER); /* a set dealt ahead is given up where the settings are others */
     write_settings_anew();
     undisturbed_check(VECTORS);
@@ -1066,7 +1069,7 @@ void refuses_setup(char *const numbers[], const char *words)
 
 static void setups_refused(void)
 {
-    static const char nothing[] = "two marks; nothing was set up";
+    static const char nothing[] = "the word table and its file; nothing was set up";
     refuses_setup((char *[]){"1", "128", NULL}, "usage: ");
     refuses_setup((char *[]){"1", "128", "5", "900", "7", NULL}, "usage: ");
     refuses_setup((char *[]){"1", "128", "5", "", NULL}, "usage: ");

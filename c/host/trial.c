@@ -7,6 +7,7 @@
 #include "random.h"
 
 #include <inttypes.h>
+#include <stdio.h>
 #include <string.h>
 
 /* The trial's keys are its own, and its sets are wiped: none of it can be taken for the door's. */
@@ -19,14 +20,25 @@ static bool draw_trial(
         && draw_random(trial->key1, DOOR_KEY);
 }
 
+void deal_trouble(const struct settings *s, const char *file, uint32_t why, uint32_t place,
+    uint32_t minute, char words[TROUBLE_ROOM])
+{
+    char range[RANGE_ROOM];
+    range_words(s->terms.code, range);
+    if (s->by_clock)
+        table_trouble(&s->table, file, s->terms.code, why, place, minute, words);
+    else if (why == DOOR_OUT_OF_RANGE)
+        snprintf(words, TROUBLE_ROOM, "%s is outside its measure's range: %s",
+            s->between ? "a mark" : "the threshold", range);
+    else
+        place_words(why, place, words);
+}
+
 static void say_trial_refused(const struct settings *s, const char *file, uint32_t minute,
     uint32_t why, uint32_t place, const char *done)
 {
     char words[TROUBLE_ROOM];
-    if (s->by_clock)
-        table_trouble(&s->table, file, why, place, minute, words);
-    else
-        place_words(why, place, words);
+    deal_trouble(s, file, why, place, minute, words);
     say("a trial deal with these settings was refused (%" PRIu32 "): %s; %s", why, words, done);
 }
 

@@ -86,6 +86,14 @@ size_t encode(const struct message *message, uint8_t bytes[DATAGRAM_MOST])
     return HEADER_SIZE + 4 * message->count;
 }
 
+/* A set is dealt by a threshold, by two marks or by a row: no dealer sends one word less than the row
+   has. */
+static bool has_its_size(const struct content *content, size_t count)
+{
+    bool is_no_rule = content->kind == HOST_DEALT && count == DEALT_BY_CLOCK - 1;
+    return count >= content->least && count <= content->most && !is_no_rule;
+}
+
 const char *decode(const uint8_t *bytes, size_t size, struct message *message)
 {
     if (size < HEADER_SIZE)
@@ -103,7 +111,7 @@ const char *decode(const uint8_t *bytes, size_t size, struct message *message)
     const struct content *content = content_of(message->kind);
     if (content == NULL)
         return "of a kind that no part sends";
-    if (message->count < content->least || message->count > content->most)
+    if (!has_its_size(content, message->count))
         return "of a size that its kind does not have";
     return NULL;
 }

@@ -29,7 +29,7 @@ enum host_kind {
     HOST_BEGIN = 18,   /* to a box: begin with this set; to the camera box with its vector */
     HOST_VERDICT = 19, /* from the lock: 1 open, 0 stay shut */
     HOST_FAILED = 20,  /* to the operator: this set came to nothing; the refusal, or 0, and from
-                          the dealer with refusals 14 to 16 the place */
+                          the dealer with refusals 14 to 16 the place, with 8 by a table the row */
     HOST_ASK = 21,     /* to any part: are you there */
     HOST_HERE = 22,    /* its answer: its last number; 1 if it has the next set ready, else 0 */
     HOST_AHEAD = 23    /* from the dealer to a box: this set is dealt ahead; the box's party */
