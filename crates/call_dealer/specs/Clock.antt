@@ -5,7 +5,7 @@ use mathlib.Core.Bool.{_&&_}
 use mathlib.Core.List.{List}
 use Prim.Native.Nat.{ℕ}
 use lib.Dec.{ltb}
-use lib.ListN.{length}
+use lib.ListN.{length, getD}
 use Rattle.measure_table.specs.declared.Terms.{Terms}
 use Rattle.measure_table.specs.declared.Rule.the-variants.{Threshold}
 use Rattle.measure_table.specs.Measure.{ruleFits}
@@ -29,7 +29,11 @@ abbrev pub clockFrom : ℕ → List ℕ → Terms → Table → ℕ → ClockDea
 clockFrom number seed terms table minute =
     record { number = number; seed = seed; terms = terms; table = table; minute = minute }
 
--- "For a given minute the dealer uses that row's threshold": the deal that it is [SPEC 14.5]
+-- the plain deal by row i of its table, counted from 0
+abbrev pub rowDeal : ClockDeal → ℕ → Deal
+rowDeal k i = dealFrom (k .number) (k .seed) (k .terms) (Threshold (getD (k .table .thresholds) i 0))
+
+-- "For a given minute the dealer uses that row's threshold": the deal that it is (ClockLaws.`row-used`) [SPEC 14.5]
 abbrev pub dealAt : ClockDeal → Deal
 dealAt k = dealFrom (k .number) (k .seed) (k .terms) (Threshold (choose (k .table) (k .minute) .threshold))
 

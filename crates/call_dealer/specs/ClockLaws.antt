@@ -20,10 +20,11 @@ use Rattle.call_day.specs.declared.Choice.{Choice}
 use Rattle.call_day.specs.Table.{day, noThreshold, whyNotTable, choose}
 use Rattle.call_day.specs.Claims.{Says, good, lists, row, none, more, told, Good, taken-good, good-taken, Chosen}
 use Rattle.call_day.specs.Claims.{chosen, InRow, past-day}
-use Rattle.half_deal.specs.Dealing.{Deal, dealFrom}
+use Rattle.half_deal.specs.Dealing.{dealFrom}
 use Rattle.call_dealer.specs.Dealer.{halfSize, untilRule, whyNotDeal, deal, dealOut}
 use Rattle.call_dealer.specs.Laws.{deal-tells}
-use Rattle.call_dealer.specs.Clock.{ClockDeal, dealAt, whyNotByClock, placeByClock, dealByClock, clockOut}
+use Rattle.call_dealer.specs.Clock.{ClockDeal, rowDeal, dealAt, whyNotByClock, placeByClock, dealByClock}
+use Rattle.call_dealer.specs.Clock.{clockOut}
 use Rattle.call_dealer.specs.declared.Dealer.{Dealer}
 
 -- the threshold of no row, under every code
@@ -35,10 +36,6 @@ nobody-takes terms = by-code (terms .code)
     by-code zero = refl
     by-code (suc zero) = refl
     by-code (suc (suc code)) = refl
-
--- the deal by row i, counted from 0
-abbrev pub rowDeal : ClockDeal → ℕ → Deal
-rowDeal k i = dealFrom (k .number) (k .seed) (k .terms) (Threshold (getD (k .table .thresholds) i 0))
 
 -- "For a given minute the dealer uses that row's threshold"
 pub row-used : (k : ClockDeal) → Good (k .table) → k .minute < day

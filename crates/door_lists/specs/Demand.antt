@@ -20,8 +20,7 @@ use Rattle.half_deal.specs.Dealing.{Deal}
 use Rattle.call_day.specs.Table.{day}
 use Rattle.call_day.specs.Claims.{Good, InRow}
 use Rattle.call_dealer.specs.Dealer.{halfSize}
-use Rattle.call_dealer.specs.Clock.{ClockDeal}
-use Rattle.call_dealer.specs.ClockLaws.{rowDeal}
+use Rattle.call_dealer.specs.Clock.{ClockDeal, rowDeal}
 use Rattle.call_party.specs.Party.{closed}
 use Rattle.door_lists.specs.Lists.{Box, camera, office, partyOf, other, sameBox, put, World, Starts, Started}
 use Rattle.door_lists.specs.Lists.{beginning, Message, Call, deal, dealByClock, load, mask, take, finish, drop}
