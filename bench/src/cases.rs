@@ -60,11 +60,22 @@ pub const WHOLE_CHECK: Case = Case {
     call: Call::WholeCheck,
 };
 
-/// The same at a door of that measure.
+/// The same at a door of squared Euclid.
 pub const WHOLE_CHECK_EUCLID: Case = Case {
     name: "whole check, squared Euclid",
     ..WHOLE_CHECK
 };
+
+const MASK: Case = on_box("mask", 0, 1, |known, out| known.step(1, out));
+
+/// What computes a vector's own term, at a door of squared Euclid.
+pub const EUCLID: [Case; 2] = [
+    Case {
+        name: "mask, squared Euclid",
+        ..MASK
+    },
+    WHOLE_CHECK_EUCLID,
+];
 
 /// No call, but in the time of every call on a box: once and more in ours, once in the second
 /// implementation's.
@@ -96,7 +107,7 @@ pub const ACCEPTED: [Case; 10] = [
     deal("deal between two marks", 0, MARKS),
     on_box("load", 0, 0, |known, out| known.step(0, out)),
     on_box("load ahead", 0, 1, |known, _| Step::Load(&known.ahead)),
-    on_box("mask", 0, 1, |known, out| known.step(1, out)),
+    MASK,
     on_box("take", 0, 2, |known, out| known.step(2, out)),
     on_box("finish", 0, 3, |known, out| known.step(3, out)),
     on_box("drop", 0, 3, |_, _| Step::Drop),

@@ -1,6 +1,6 @@
 //! How many instructions a call takes, as valgrind counts them.
 
-use crate::cases::{Case, ACCEPTED, BY_CLOCK, REFUSED};
+use crate::cases::{Case, ACCEPTED, BY_CLOCK, EUCLID, REFUSED};
 use crate::door::Door;
 use crate::level::{Level, LACKING};
 use crate::measure::Who;
@@ -53,7 +53,7 @@ pub fn table(level: &str) -> Result<Table, String> {
         .push("second/ours: 2.00 is half as many of ours".to_string());
     table.notes.push(
         "counted by valgrind's callgrind; the copy by which a box's state is handed over by value \
-         is 1,203 of ours (a repeated move of 8 bytes)"
+         is 2,142 of ours (a repeated move of 8 bytes)"
             .to_string(),
     );
     Ok(table)
@@ -85,9 +85,11 @@ fn of_run(call: &str, length: usize, who: &str, calls: u32) -> Result<u64, Strin
 
 /// One call some times, and nothing else that depends on how often: what valgrind runs.
 pub fn once(call: &str, length: &str, who: &str, calls: &str) -> Result<(), String> {
-    let found = |case: &&Case| case.name == call;
-    let mut cases = ACCEPTED.iter().chain(&REFUSED).chain(&BY_CLOCK);
-    let case = cases.find(found).ok_or("no such call")?;
+    let found = |(case, _): &(&Case, Measure)| case.name == call;
+    let scalar = ACCEPTED.iter().chain(&REFUSED).chain(&BY_CLOCK);
+    let scalar = scalar.map(|case| (case, Measure::Scalar));
+    let euclid = EUCLID.iter().map(|case| (case, Measure::Euclid));
+    let (case, measure) = scalar.chain(euclid).find(found).ok_or("no such call")?;
     let length: usize = length.parse().map_err(|_| "L is a number")?;
     let calls: u32 = calls.parse().map_err(|_| "a count is a number")?;
     let asked = |(name, _): &(&str, Who)| *name == who;
@@ -96,7 +98,7 @@ pub fn once(call: &str, length: &str, who: &str, calls: &str) -> Result<(), Stri
     if matches!(who, Who::Ours(level) if !level.fits()) {
         return Err(LACKING.to_string());
     }
-    let door = Door::new(Measure::Scalar, length);
+    let door = Door::new(measure, length);
     let mut row = case.row(&door);
     let way = row.way(who);
     row.time(way, calls);

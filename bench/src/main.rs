@@ -17,7 +17,7 @@ mod report;
 mod rows;
 mod table;
 
-use cases::{Case, ACCEPTED, BY_CLOCK, COPY_STATE, REFUSED, WHOLE_CHECK_EUCLID};
+use cases::{Case, ACCEPTED, BY_CLOCK, COPY_STATE, EUCLID, REFUSED};
 use door::Door;
 use level::Level;
 use measure::Row;
@@ -80,7 +80,7 @@ fn times() -> Result<Vec<Table>, String> {
     let mut rows = rows::rows(&input);
     let operations = rows.len();
     rows.extend(ACCEPTED.iter().flat_map(|case| of_case(case, &scalar)));
-    rows.extend(of_case(&WHOLE_CHECK_EUCLID, &euclid));
+    rows.extend(EUCLID.iter().flat_map(|case| of_case(case, &euclid)));
     rows.extend(of_case(&COPY_STATE, &scalar));
     let calls = rows.len();
     rows.extend(REFUSED.iter().flat_map(|case| of_case(case, &scalar)));

@@ -1,6 +1,6 @@
 //! The tables of times, and the lines below them that say how they came to be.
 
-use crate::cases::{Case, ACCEPTED, BY_CLOCK, COPY_STATE, DEAL, REFUSED};
+use crate::cases::{Case, ACCEPTED, BY_CLOCK, COPY_STATE, DEAL, EUCLID, REFUSED};
 use crate::cases::{WHOLE_CHECK, WHOLE_CHECK_EUCLID};
 use crate::foreign::{openssl, sodium};
 use crate::level::Level;
@@ -251,17 +251,17 @@ fn pairs(names: &[String], timings: &[Timing], level: Level) -> Vec<Line> {
         .collect()
 }
 
-/// The accepted calls, then the whole check under another measure, and what a copy takes.
+/// The accepted calls, then those that differ under another measure, and what a copy takes.
 pub fn accepted(timings: &[Timing]) -> Vec<Table> {
-    let cases = ACCEPTED.iter().chain([&WHOLE_CHECK_EUCLID, &COPY_STATE]);
+    let cases = ACCEPTED.iter().chain(&EUCLID).chain([&COPY_STATE]);
     let names: Vec<String> = cases.map(|case| case.name.to_string()).collect();
     let table = |level: Level| {
         let title = format!("Calls, {}", level.name());
         by_length(title, TIME_AND_RATIO, &pairs(&names, timings, level))
     };
     let notes = [
-        "whole check: the deal, four calls of each box, the join; scalar product where nothing is \
-         said",
+        "whole check: the deal, four calls of each box, the join",
+        "scalar product where nothing is said",
         "a box's state of 17,136 bytes goes in and comes out by value: these copies are in ours, \
          and in a whole check also the one by which a host puts the next state in the place of the \
          last",

@@ -21,7 +21,8 @@ static const uint8_t KEY[2][DOOR_KEY] = {{1}, {2}};
 static const uint8_t SEED[DOOR_KEY] = {3};
 
 /* All that the calls read and write, in room that is lent: so the calls of two archives have it at
-   the same addresses. States are as a check leaves them, each ready for the next call. */
+   the same addresses, if what is new stands last. States are as a check leaves them, each ready for
+   the next call. */
 static struct scene {
     struct door_terms terms;
     struct door_dealer dealer;
@@ -30,6 +31,7 @@ static struct scene {
     uint32_t vector[2][DOOR_LENGTH_MOST], sent[2][DOOR_LENGTH_MOST], word[2], answer[2];
     uint32_t first[DOOR_ROWS_MOST], last[DOOR_ROWS_MOST], threshold[DOOR_ROWS_MOST];
     uint32_t last_of_day;
+    struct door_party loaded_euclid; /* the office box, with a set of squared Euclid */
 } *at;
 
 static volatile uint32_t heard; /* so that the compiler leaves no call out */
@@ -81,10 +83,10 @@ static struct door_party_answer load(const struct door_party *box, const uint8_t
     return door_load(*box, half, DOOR_HALF(at->terms.n));
 }
 
-static struct door_party_answer mask(uint32_t party)
+static struct door_party_answer mask(const struct door_party *box, uint32_t party)
 {
     const size_t n = at->terms.n;
-    return door_mask(at->loaded[party], at->vector[party], n, at->sent[party], n);
+    return door_mask(*box, at->vector[party], n, at->sent[party], n);
 }
 
 static struct door_party_answer take(uint32_t party)
@@ -112,7 +114,7 @@ static void begin(uint32_t party)
     struct door_party_answer a = load(&at->idle[party], at->half[party]);
     expect(a.why, "load");
     at->loaded[party] = a.party;
-    a = mask(party);
+    a = mask(&at->loaded[party], party);
     expect(a.why, "mask");
     at->masked[party] = a.party;
 }
@@ -145,7 +147,8 @@ static void make_deal_by_32_rows(void) { heard = deal_by_clock(DOOR_ROWS_MOST, a
 static void make_refused_by_clock(void) { heard = refuse_by_clock(); }
 static void make_load(void) { heard = load(&at->idle[1], at->half[1]).why; }
 static void make_load_ahead(void) { heard = load(&at->loaded[1], at->next_half[1]).why; }
-static void make_mask(void) { heard = mask(1).why; }
+static void make_mask(void) { heard = mask(&at->loaded[1], 1).why; }
+static void make_mask_euclid(void) { heard = mask(&at->loaded_euclid, 1).why; }
 static void make_take(void) { heard = take(1).word; }
 static void make_finish(void) { heard = finish(1).word; }
 static void make_drop(void) { heard = door_drop(at->taken[1]).why; }
@@ -161,6 +164,18 @@ static void prepare_table(void)
     at->last_of_day = DOOR_DAY - 1;
 }
 
+/* Under this measure the mask has squares to work out. */
+static void prepare_euclid(void)
+{
+    at->terms.code = DOOR_EUCLID;
+    expect(deal(NUMBER, at->half), "deal");
+    const struct door_party_answer a = load(&at->idle[1], at->half[1]);
+    expect(a.why, "load");
+    at->loaded_euclid = a.party;
+    expect(mask(&at->loaded_euclid, 1).why, "mask");
+    at->terms.code = DOOR_SCALAR;
+}
+
 static void prepare(size_t n)
 {
     memset(at, 0, sizeof *at);
@@ -173,6 +188,7 @@ static void prepare(size_t n)
         for (size_t i = 0; i < n; i++)
             at->vector[party][i] = (uint32_t)(i % (5 + 2 * party));
     }
+    prepare_euclid();
     expect(deal_between(NUMBER, at->half), "deal between");
     expect(deal_by_clock(1, at->half), "deal by the clock");
     expect(deal_by_clock(DOOR_ROWS_MOST, at->half), "deal by the clock");
@@ -204,6 +220,7 @@ struct calls calls_for(size_t n, void *room, size_t room_size)
         {"load", make_load},
         {"load ahead", make_load_ahead},
         {"mask", make_mask},
+        {"mask, Euclid", make_mask_euclid},
         {"take", make_take},
         {"finish", make_finish},
         {"drop", make_drop},
