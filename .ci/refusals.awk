@@ -1,6 +1,6 @@
 # An edit, and then what the prover said of its crate: see .ci/refusals.
 
-NR == FNR && $1 == "wrong:" { name[++count] = $2; place[count] = $4; need[count] = $6 }
+NR == FNR && $1 == "wrong:" { name[++count] = $2; place[count] = $4 }
 NR == FNR && $1 == "file:" && $2 !~ /^src\// { definition = 1 }
 NR == FNR { next }
 
@@ -31,7 +31,7 @@ match($0, /\.antt:[0-9]+:[0-9]+: error: `[^`]*`: /) {
 
 # A law is a claim, and so is what a function promises at a return, and of a loop. What else breaks is
 # asked of the code on its way, by a callee (F-requires) or by a sum, an index or a slice: a program that
-# breaks nothing more shows little, unless the edit says that it is the claim.
+# breaks nothing more shows little.
 function note(at, declaration, of_function) {
     if (!of_function || declaration ~ /^(returns|loop)(-|$)/) broken[at] = 1
     else asked[at] = asked[at] " " declaration
@@ -48,7 +48,7 @@ END {
     for (i = 1; i <= count; i++) {
         if (place[i] in seen) fail("has two wrong programs at " place[i])
         seen[place[i]] = 1
-        if (need[i] != "" ? !index(asked[place[i]] " ", " " need[i] " ") : !(place[i] in broken))
+        if (!(place[i] in broken))
             fail(name[i] " breaks no claim at " place[i] " (else broken:" asked[place[i]] ")")
         if (place[i] in misshapen) fail(name[i] ": the proof at " place[i] " has another shape than the code")
     }

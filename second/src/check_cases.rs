@@ -1,6 +1,6 @@
 //! The cases of the program `test_checks`: keys, values and whole checks at the edges
 //! of every range and at inputs without a pattern. Checks between two marks are in
-//! `check_marks`, tables of the day in `check_tables`.
+//! `check_marks`, tables of the day in `check_tables`, own terms in `check_own`.
 
 use crate::cases::Cases;
 use crate::checks::{edges, run, vector};
@@ -14,9 +14,6 @@ use crate::script::Case;
 pub const EDGES: [u32; 5] = [0, 1, (1 << 31) - 1, 1 << 31, u32::MAX];
 
 const LENGTHS: [usize; 5] = [1, 2, 128, MAX_LENGTH - 1, MAX_LENGTH];
-
-/// How many more pairs of vectors it takes until every element has been squared.
-const MORE_SQUARES: usize = 8;
 
 const ZERO_SEED: &str = "0000000000000000000000000000000000000000000000000000000000000000";
 const FULL_SEED: &str = "ffffffffffffffffffffffffffffffffffffffffffffffffffffffffffffffff";
@@ -296,16 +293,13 @@ pub fn cases() -> Vec<Case> {
             }
         }
     }
-    for _ in 0..MORE_SQUARES {
-        let thresholds = [Threshold::Measure];
-        cases.checks(Measure::Euclid, MAX_LENGTH, Vectors::Generated, &thresholds);
-    }
     cases.distances();
     for point in [0, u32::MAX, cases.number(), cases.number()] {
         cases.every_level(point);
     }
     cases.checks_between_marks();
     cases.tables_of_the_day();
+    cases.own_terms();
     cases.list
 }
 
@@ -323,22 +317,17 @@ mod tests {
         assert!(size <= MAX_STDIN);
     }
 
-    /// Every code meets every edge of r with both answers, every length both answers, and
-    /// every element's absolute value has been squared.
+    /// Every code meets every edge of r with both answers, and every length both answers.
     #[test]
     fn checks_cover_what_they_should() {
         let cases = cases();
         let (mut code_and_answer, mut length_and_answer) = (HashSet::new(), HashSet::new());
-        let mut squared = HashSet::new();
         for case in cases.iter().filter(|case| case.line.starts_with("run ")) {
             let fields: Vec<&str> = case.line.split(' ').collect();
-            let elements = [vector(fields[3]).unwrap(), vector(fields[4]).unwrap()];
+            let length = vector(fields[3]).unwrap().len();
             let reached = case.expected.ends_with(" 1");
             code_and_answer.insert((fields[1], fields[7], reached));
-            length_and_answer.insert((elements[0].len(), reached));
-            if fields[1] == "1" {
-                squared.extend(elements.concat().iter().map(|x| x.unsigned_abs()));
-            }
+            length_and_answer.insert((length, reached));
         }
         for r in EDGES.map(|r| r.to_string()) {
             for code in ["0", "1", "2"] {
@@ -350,7 +339,6 @@ mod tests {
             assert!(length_and_answer.contains(&(length, false)));
             assert!(length_and_answer.contains(&(length, true)));
         }
-        assert!((0..=1024).all(|element| squared.contains(&element)));
     }
 
     /// Four keys, one for each end of the points and two without a pattern, are asked by both

@@ -16,6 +16,8 @@
 //!   dealer draws. The answer is ten numbers: the first and the last word of X masked,
 //!   the same of Y, word 0 and 1, Z, answer 0 and 1, and their sum. A wrong masked word
 //!   in between shows in words 0 and 1.
+//! - `own CODE V`: the own term of a vector of 1 to 512 words in any of the formats. They may
+//!   be any words, in the measure's range or not. The answer is a number.
 //! - `table FIRSTS LASTS THRESHOLDS MINUTE`: the table of the day of these three lists and
 //!   the row of a minute. A list has any of the formats, `-` for none, and at most 512
 //!   words; the three may differ in length. The answer is three numbers: for a bad table
@@ -59,6 +61,10 @@ pub fn run(line: &str) -> Result<String, String> {
             check_ranges(measure, &x, &y)?;
             let draws = parse_draws(draws, x.len())?;
             run_check(measure, rule, &x, &y, &draws).map(|run| format_run(&run))
+        }
+        ["own", code, vector_field] => {
+            let measure = Measure::from_code(number(code)?).ok_or("no such code")?;
+            own_word(measure, &vector(vector_field)?)
         }
         ["table", firsts, lasts, thresholds, minute] => {
             let table = Table {
@@ -126,6 +132,15 @@ fn format_run(run: &Run) -> String {
     .concat();
     let numbers: Vec<String> = numbers.iter().map(u32::to_string).collect();
     numbers.join(" ")
+}
+
+/// The own term of any elements. The sum of their squares may be above 2^63, so it is one of words.
+fn own_word(measure: Measure, vector: &[i32]) -> Result<String, String> {
+    if !(1..=MAX_LENGTH).contains(&vector.len()) {
+        return Err("1 to 512 words wanted".to_string());
+    }
+    let terms = vector.iter().map(|&element| measure.own(&[element]) as u32);
+    Ok(terms.fold(0, u32::wrapping_add).to_string())
 }
 
 fn format_table(table: &Table, minute: u32) -> String {

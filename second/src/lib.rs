@@ -9,6 +9,7 @@ pub mod cases;
 pub mod chacha20;
 pub mod check_cases;
 pub mod check_marks;
+pub mod check_own;
 pub mod check_tables;
 pub mod check_tilings;
 pub mod checks;

@@ -27,8 +27,7 @@ impl Measure {
         self as u32
     }
 
-    /// A party's own term. Squares are multiplied out, not looked up: the table
-    /// of 01 then has something else to agree with.
+    /// A party's own term.
     pub fn own(self, vector: &[i32]) -> i64 {
         match self {
             Measure::Scalar => 0,

@@ -86,5 +86,5 @@ pub extern "C" fn check_word(
     }
     let terms = Terms { code, n };
     let s = share_vectors::share_of(party, n, c, mx, my, sx, sy);
-    share_answers::word(terms, ORDINARY_MARK, s, measure_own::own(terms, v), r)
+    share_answers::word(terms, ORDINARY_MARK, s, share_vectors::own(terms, v), r)
 }

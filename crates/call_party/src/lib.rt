@@ -376,7 +376,7 @@ impl Party {
             let kept = masked_array(terms.n, v, &mask);
             check.phase = MASKED;
             check.masked = kept;
-            check.own = measure_own::own(terms, v);
+            check.own = share_vectors::own(terms, v);
             check.word = 0;
         }
         PartyAnswer {

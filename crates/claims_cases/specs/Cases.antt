@@ -1,5 +1,6 @@
 -- 01, "The proved cases": the lines marked *, as one table with one theorem; and those of 02, §2, "Distances mean
--- close", §4, "Between two marks", and §5, "Strictness by the clock". Assumes nothing. [SPEC 30.1]
+-- close", §4, "Between two marks", §5, "Strictness by the clock", and §6, "Squares worked out". Assumes nothing.
+-- [SPEC 30.1]
 use mathlib.Core.Path.{_≡_, refl}
 use mathlib.Core.Bool.{Bool, true, false, _&&_, Bool·beq}
 use mathlib.Core.List.{List, [], _∷_, map}
@@ -17,7 +18,7 @@ use Rattle.measure_table.specs.declared.Terms.{Terms}
 use Rattle.measure_table.specs.Measure.{row, scalarProduct, squaredEuclid, hamming, element, own, cross, measure}
 use Rattle.measure_table.specs.declared.Rule.the-variants.{Between}
 use Rattle.measure_table.specs.Measure.{sign, difference, reached, within, thresholdFits, meets, ruleFits, inOrder}
-use Rattle.measure_table.specs.Measure.{word, ordinaryWidth}
+use Rattle.measure_table.specs.Measure.{word, ordinaryWidth, ownWord}
 use Rattle.share_vectors.specs.Share.{plus, idealGate}
 use Rattle.base_messages.specs.Messages.{badRows, noRow, moreRows}
 use Rattle.half_content.specs.Content.{widths, sumFirst, size, blockCount}
@@ -31,6 +32,8 @@ use Rattle.call_day.specs.Table.{rowAt, shaped, whyNotTable, choose}
 pub data Line : Type 0 where
   -- code, X, Y: the three summands own(X), own(Y) and k × (sum of X_i × Y_i), and the measure
   measured : ℕ → List ℤ → List ℤ → ℤ → ℤ → ℤ → ℤ → Line
+  -- an element: its square as a box works it out
+  squared : ℤ → ℕ → Line
   -- code, X, Y, T: whether it is reached
   reaches : ℕ → List ℤ → List ℤ → ℤ → Bool → Line
   -- code, X, Y, P, Q: whether the measure lies from P to Q
@@ -67,6 +70,7 @@ holds (measured code x y ownX ownY cross m) =
     let terms : Terms = termsOf code x in
     sameℤ (own terms (map word x)) ownX && sameℤ (own terms (map word y)) ownY
     && sameℤ (crossed terms (map word x) (map word y)) cross && sameℤ (measure terms (map word x) (map word y)) m
+holds (squared x s) = eqb (ownWord (termsOf 1 (x ∷ [])) (word x ∷ [])) s
 holds (reaches code x y t b) =
     let terms : Terms = termsOf code x in
     Bool·beq (reached terms (measure terms (map word x) (map word y)) t) b
@@ -99,6 +103,10 @@ table =
     -- Hamming (1,0,1,1) with (1,1,0,1): 3 + 3 - 4 = 2 [SPEC 30.6]
     ∷ measured 2 (pos 1 ∷ pos 0 ∷ pos 1 ∷ pos 1 ∷ [])
     (pos 1 ∷ pos 1 ∷ pos 0 ∷ pos 1 ∷ []) (pos 3) (pos 3) (negℤ (pos 4)) (pos 2)
+    -- 02, §6: the squares of -1,024, of 1,023 and of -1 [SPEC 30.36]
+    ∷ squared (negℤ (pos 1024)) (2 ^ 20)
+    ∷ squared (pos 1023) 1046529
+    ∷ squared (negℤ (pos 1)) 1
     -- the last two against T, by 02, §2: T = 82, 81 and 83; T = 2, 1 and 3 [SPEC 30.19, 30.20]
     ∷ reaches 1 (pos 3 ∷ negℤ (pos 4) ∷ []) (pos 2 ∷ pos 5 ∷ []) (pos 82) true
     ∷ reaches 1 (pos 3 ∷ negℤ (pos 4) ∷ []) (pos 2 ∷ pos 5 ∷ []) (pos 81) false
@@ -195,6 +203,6 @@ all (l ∷ t) = holds l && all t
 pub the-cases : all table ≡ true
 unfolding all table holds termsOf sameℤ crossed widths sumFirst size blockCount idealGate measure own cross element
     sign difference reached within thresholdFits meets ruleFits inOrder row scalarProduct squaredEuclid hamming word
-    plus tab same sum sumℤ add sub W.neg W.signed only less choose whyNotTable shaped firstBadRow firstBadMinute
+    ownWord plus tab same sum sumℤ add sub W.mul W.neg W.signed only less choose whyNotTable shaped firstBadRow firstBadMinute
     rowsWith badRow badMinute inRow rowAt least count
 the-cases = refl

@@ -4,7 +4,7 @@
 -- terms are what a set's measure is of: its code, and L as `n`. Assumes nothing. [SPEC 2.3, 2.4, 3.1 to 3.3, 3.6, 3.13]
 use mathlib.Core.Bool.{Bool, true, false, cond, _&&_}
 use mathlib.Core.List.{List, [], _∷_}
-use Prim.Native.Nat.{ℕ, zero, suc, _*_, _-_, _%_, _^_}
+use Prim.Native.Nat.{ℕ, zero, suc, _-_, _%_, _^_}
 use lib.Dec.{eqb, ltb, leb}
 use lib.IntN.{ℤ, pos, negsuc, negℤ, _+ℤ_, _-ℤ_, _*ℤ_}
 use lib.ListN.{getD}
@@ -184,9 +184,3 @@ ownWord terms v = cond (row (terms .code) .squares) (sum (λ i. mul (getD v i 0)
 -- products of what the two carry is `cross` (Laws.`cross≈`). Terms, party, vector
 unfoldable pub carried : Terms → ℕ → List ℕ → List ℕ
 carried terms party v = v
-
--- the table of squares: n of them, from that of i on. The checker computes this list and holds the constant to it,
--- entry by entry [SPEC 3.8]
-unfoldable pub squaresFrom : ℕ → ℕ → List ℕ
-squaresFrom i zero = []
-squaresFrom i (suc n) = i * i ∷ squaresFrom (suc i) n

@@ -1,7 +1,7 @@
 // The three measures (01, "Measures"; 02, §2 and §4): what the table says of each code, as words, and
 // the rule that a set is dealt by. Elements, thresholds and marks are words; a negative number stands
 // for itself plus 2^32. No public function asks anything of its caller. (1073741824 is 2^30, and
-// 2147483648 is 2^31.) `measure_own` has the own term. [SPEC 2.3, 2.4, 3.3, 3.7, 3.13]
+// 2147483648 is 2^31.) `share_vectors` has the own term. [SPEC 2.3, 2.4, 3.3, 3.7, 3.13]
 ghost use mathlib.Core.Path.{_≡_};
 ghost use Rattle.base_algebra.specs.Word.{signed};
 ghost use Rattle.measure_table.specs.Measure.{row, isCode, lengthFits, inRange, allInRange, thresholdFits};

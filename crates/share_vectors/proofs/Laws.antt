@@ -1,6 +1,6 @@
 -- What the functions of this crate come to, over plain numbers and lists. Assumes nothing.
 use mathlib.Core.Path.{_≡_, refl, sym, _∙_, ap, ap₂}
-use mathlib.Core.Bool.{Bool, true, false}
+use mathlib.Core.Bool.{Bool, true, false, cond}
 use mathlib.Core.List.{List, [], _∷_}
 use Prim.Native.Nat.{ℕ, _+_, _-_, _^_, _<_}
 use native.Mathlib.Omega.{arith}
@@ -10,6 +10,8 @@ use Rattle.base_algebra.specs.Bit.{only, odd}
 use Rattle.base_algebra.specs.Ring.{ring}
 use Rattle.base_algebra.specs.Sum.{sum, sum-more}
 use Rattle.base_words.specs.List.{over, tab, over-tab}
+use Rattle.measure_table.specs.declared.Terms.{Terms}
+use Rattle.measure_table.specs.Measure.{row, ownWord}
 use Rattle.share_vectors.specs.Share.{inner, share}
 
 -- a share of no places, and one place more
@@ -56,3 +58,14 @@ pub inner-more : (a b : List ℕ) (i t p s : ℕ) → t ≡ inner i a b → p �
     → s ≡ inner (i + 1) a b
 unfolding inner
 inner-more a b i t p s et ep es = es ∙ ap₂ add et ep ∙ sym (sum-more (λ j. mul (getD a j 0) (getD b j 0)) i)
+
+-- a measure's own term: a vector's product with itself, or none
+module _ (terms : Terms) (v : List ℕ) where
+  pub own-squares : (b : Bool) (r : ℕ) → b ≡ true → b ≡ row (terms .code) .squares → r ≡ inner (terms .n) v v
+      → r ≡ ownWord terms v
+  unfolding ownWord inner
+  own-squares b r t e h = h ∙ ap (λ (c : Bool). cond c (inner (terms .n) v v) 0) (sym t ∙ e)
+
+  pub own-none : (b : Bool) → b ≡ false → b ≡ row (terms .code) .squares → 0 ≡ ownWord terms v
+  unfolding ownWord inner
+  own-none b f e = ap (λ (c : Bool). cond c (inner (terms .n) v v) 0) (sym f ∙ e)

@@ -1,10 +1,11 @@
 // What a box computes of vectors in one check (01, "One check at a box"), and what the dealer computes
-// for it: the masked vector and the share of the product. `share_answers` has the word and the answer.
-// [SPEC 5.5 to 5.8, 16.2, 17.3]
+// for it: the own term, the masked vector and the share of the product. `share_answers` has the word and
+// the answer. [SPEC 3.4, 3.8, 5.5 to 5.8, 16.2, 17.3]
 ghost use mathlib.Core.Path.{_≡_};
 ghost use lib.ListN.{length};
 ghost use Prim.Native.Nat.{_≤_};
 ghost use Rattle.base_words.specs.List.{over};
+ghost use Rattle.measure_table.specs.Measure.{ownWord};
 ghost use Rattle.share_vectors.specs.Share.{plus, inner as innerOf, otherC, otherR, share as shareOf};
 use measure_table::Terms;
 
@@ -33,6 +34,17 @@ pub fn inner(n: usize, a: &[u32], b: &[u32]) -> u32
         i += 1;
     }
     total
+}
+
+// The own term of the vector whose elements stand at the start of v. The squares are worked out as words:
+// those of a number and of its negation are the same, so no sign is looked at.
+pub fn own(terms: Terms, v: &[u32]) -> u32
+    requires { ⌜ terms .n ≤ length (now v) ⌝ }
+    ensures { λ r. ⌜ r ≡ ownWord terms (now (v .entry)) ⌝ }
+{
+    let n = terms.n;
+    let row = measure_table::row_of(terms.code);
+    if row.squares { inner(n, v, v) } else { 0 }
 }
 
 // Party 1's c word, from the two masks and party 0's.

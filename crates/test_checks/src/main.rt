@@ -1,5 +1,5 @@
-// Answers a script of keys, values, whole checks and tables of the day, a line for each line. A second implementation
-// made it, and the output is compared with that implementation's.
+// Answers a script of keys, values, whole checks, own terms and tables of the day, a line for each line. A second
+// implementation made it, and the output is compared with that implementation's.
 mod run;
 mod table;
 
@@ -90,6 +90,9 @@ fn answer(line: &[u8], out: &mut [u8; ROOM], at: usize) -> usize {
     }
     if test_script::is_command(line, b"run", 11) {
         return run::check(line, out, at);
+    }
+    if test_script::is_command(line, b"own", 3) {
+        return run::own(line, out, at);
     }
     if test_script::is_command(line, b"table", 5) {
         return table::choose(line, out, at);

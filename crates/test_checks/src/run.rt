@@ -1,5 +1,5 @@
-// A whole check: what the dealer computes, and both boxes' words and answers. A vector of n words
-// stands at the start of an array.
+// A whole check: what the dealer computes, and both boxes' words and answers; and the own term of a vector
+// by itself. A vector of n words stands at the start of an array.
 ghost use Prim.Native.Nat.{_*_, _<_, _≤_};
 ghost use lib.ListN.{length};
 use crate::Dealt;
@@ -135,7 +135,7 @@ fn two_words(
     let ey = mask(n, y, &masks[y0..], &mut y_mask, &mut my);
     let c1 = other_c(n, &x_mask, &y_mask, d.c0);
     let terms = Terms { code: d.code, n };
-    let own = Two(measure_own::own(terms, x), measure_own::own(terms, y));
+    let own = Two(share_vectors::own(terms, x), share_vectors::own(terms, y));
     let w = words_of(d, terms, own, c1, masks, &mx, &my);
     [ex.0, ex.1, ey.0, ey.1, w.0, w.1]
 }
@@ -176,6 +176,23 @@ pub fn check(line: &[u8], out: &mut [u8; ROOM], at: usize) -> usize {
                 let width = measure_table::width_of(rule);
                 return put_run(line, width, out, at, two_words(d, n, &x, &y, &masks));
             }
+        }
+    }
+    bad_line(out, at)
+}
+
+// own CODE V
+pub fn own(line: &[u8], out: &mut [u8; ROOM], at: usize) -> usize {
+    let mut v = [0u32; MOST_ELEMENTS];
+    let n = read_vector(line, 2, &mut v);
+    let code = word_at(line, 1);
+    if n <= MOST_ELEMENTS {
+        if code.ok & (0 < n) {
+            let terms = Terms {
+                code: code.value,
+                n,
+            };
+            return test_script::put_numbers(out, at, &[share_vectors::own(terms, &v)]);
         }
     }
     bad_line(out, at)
