@@ -203,6 +203,6 @@ all (l ∷ t) = holds l && all t
 pub the-cases : all table ≡ true
 unfolding all table holds termsOf sameℤ crossed widths sumFirst size blockCount idealGate measure own cross element
     sign difference reached within thresholdFits meets ruleFits inOrder row scalarProduct squaredEuclid hamming word
-    ownWord plus tab same sum sumℤ add sub W.mul W.neg W.signed only less choose whyNotTable shaped firstBadRow firstBadMinute
-    rowsWith badRow badMinute inRow rowAt least count
+    ownWord plus tab same sum sumℤ add sub W.mul W.neg W.signed only less choose whyNotTable shaped firstBadRow
+    firstBadMinute rowsWith badRow badMinute inRow rowAt least count
 the-cases = refl
