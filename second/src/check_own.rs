@@ -65,7 +65,7 @@ mod tests {
     use crate::check_cases::cases;
     use std::collections::HashMap;
 
-    /// Squares modulo 2^32, by hand: the sign does not count, and 2^16 and 2^31 have none left.
+    /// Squares modulo 2^32, worked out by hand. The sign does not count.
     #[test]
     fn squares_at_the_edges() {
         let answers: HashMap<String, String> = cases()

@@ -1,4 +1,4 @@
--- 01, "The proved cases": the lines marked *, as one table with one theorem; and those of 02, §2, "Distances mean
+-- 01, "The proved cases": the lines marked *, as one table with one theorem; and lines on 02, §2, "Distances mean
 -- close", §4, "Between two marks", §5, "Strictness by the clock", and §6, "Squares worked out". Assumes nothing.
 -- [SPEC 30.1]
 use mathlib.Core.Path.{_≡_, refl}
@@ -32,8 +32,8 @@ use Rattle.call_day.specs.Table.{rowAt, shaped, whyNotTable, choose}
 pub data Line : Type 0 where
   -- code, X, Y: the three summands own(X), own(Y) and k × (sum of X_i × Y_i), and the measure
   measured : ℕ → List ℤ → List ℤ → ℤ → ℤ → ℤ → ℤ → Line
-  -- an element: its square as a box works it out
-  squared : ℤ → ℕ → Line
+  -- code, L, vector: the own term of its first L elements, as a word
+  ownTerm : ℕ → ℕ → List ℤ → ℕ → Line
   -- code, X, Y, T: whether it is reached
   reaches : ℕ → List ℤ → List ℤ → ℤ → Bool → Line
   -- code, X, Y, P, Q: whether the measure lies from P to Q
@@ -69,8 +69,9 @@ unfoldable pub holds : Line → Bool
 holds (measured code x y ownX ownY cross m) =
     let terms : Terms = termsOf code x in
     sameℤ (own terms (map word x)) ownX && sameℤ (own terms (map word y)) ownY
+    && eqb (ownWord terms (map word x)) (word ownX) && eqb (ownWord terms (map word y)) (word ownY)
     && sameℤ (crossed terms (map word x) (map word y)) cross && sameℤ (measure terms (map word x) (map word y)) m
-holds (squared x s) = eqb (ownWord (termsOf 1 (x ∷ [])) (word x ∷ [])) s
+holds (ownTerm code n v w) = eqb (ownWord (record { code = code; n = n }) (map word v)) w
 holds (reaches code x y t b) =
     let terms : Terms = termsOf code x in
     Bool·beq (reached terms (measure terms (map word x) (map word y)) t) b
@@ -103,10 +104,6 @@ table =
     -- Hamming (1,0,1,1) with (1,1,0,1): 3 + 3 - 4 = 2 [SPEC 30.6]
     ∷ measured 2 (pos 1 ∷ pos 0 ∷ pos 1 ∷ pos 1 ∷ [])
     (pos 1 ∷ pos 1 ∷ pos 0 ∷ pos 1 ∷ []) (pos 3) (pos 3) (negℤ (pos 4)) (pos 2)
-    -- 02, §6: the squares of -1,024, of 1,023 and of -1 [SPEC 30.36]
-    ∷ squared (negℤ (pos 1024)) (2 ^ 20)
-    ∷ squared (pos 1023) 1046529
-    ∷ squared (negℤ (pos 1)) 1
     -- the last two against T, by 02, §2: T = 82, 81 and 83; T = 2, 1 and 3 [SPEC 30.19, 30.20]
     ∷ reaches 1 (pos 3 ∷ negℤ (pos 4) ∷ []) (pos 2 ∷ pos 5 ∷ []) (pos 82) true
     ∷ reaches 1 (pos 3 ∷ negℤ (pos 4) ∷ []) (pos 2 ∷ pos 5 ∷ []) (pos 81) false
@@ -121,6 +118,17 @@ table =
     ∷ reaches 1 (allOf (negℤ (pos 1024))) (allOf (pos 1023)) (pos 2145387008) true
     ∷ reaches 1 (allOf (negℤ (pos 1024))) (allOf (pos 1023)) (pos 2145387007) false
     ∷ reaches 1 (allOf (negℤ (pos 1024))) (allOf (pos 1023)) (pos 2145387009) true
+    -- on 02, §6: squares of words, also of ones that no measure takes; and the first two of (3, -4, 9), under each code
+    -- [SPEC 30.36, 30.37]
+    ∷ ownTerm 1 1 (negℤ (pos 1024) ∷ []) (2 ^ 20)
+    ∷ ownTerm 1 1 (pos 1023 ∷ []) 1046529
+    ∷ ownTerm 1 1 (negℤ (pos 1) ∷ []) 1
+    ∷ ownTerm 1 1 (pos 1025 ∷ []) 1050625
+    ∷ ownTerm 1 1 (pos 65535 ∷ []) 4294836225
+    ∷ ownTerm 1 1 (pos 65536 ∷ []) 0
+    ∷ ownTerm 0 2 (pos 3 ∷ negℤ (pos 4) ∷ pos 9 ∷ []) 0
+    ∷ ownTerm 1 2 (pos 3 ∷ negℤ (pos 4) ∷ pos 9 ∷ []) 25
+    ∷ ownTerm 2 2 (pos 3 ∷ negℤ (pos 4) ∷ pos 9 ∷ []) 25
     -- Hamming of equal vectors against T = 0; of vectors that differ at all 512 places, against T = 511, 512 and 513
     -- [SPEC 30.21, 30.22]
     ∷ reaches 2 (pos 1 ∷ pos 0 ∷ pos 1 ∷ pos 1 ∷ []) (pos 1 ∷ pos 0 ∷ pos 1 ∷ pos 1 ∷ []) (pos 0) true

@@ -152,6 +152,11 @@ ownWord-lt terms v = go (row (terms .code) .squares)
     go true = sum-lt (λ i. mul (getD v i 0) (getD v i 0)) (terms .n)
     go false = omega arith
 
+-- what a box works out is the own term as a word, whatever the words of its vector [SPEC 3.7, 3.9]
+pub own-word : (terms : Terms) (v : List ℕ) → ownWord terms v ≡ word (own terms v)
+own-word terms v =
+    same-word (m-trans (own≈ terms v) (m-sym (word≈ (own terms v)))) (ownWord-lt terms v) (word-lt (own terms v))
+
 -- call 2: "Mask its own vector", as it is
 pub carried-whole : (terms : Terms) (party : ℕ) (v : List ℕ) → carried terms party v ≡ v
 unfolding carried

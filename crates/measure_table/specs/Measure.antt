@@ -1,7 +1,8 @@
--- The three measures (01, "Measures"; 02, §2, "Distances mean close", and §4, "Between two marks"): the table, the
--- whole number that a set's terms and two vectors have, when that number meets the rule that was dealt, and the words
--- that a box computes. Elements, thresholds and marks are words: a negative number stands for itself plus 2^32. The
--- terms are what a set's measure is of: its code, and L as `n`. Assumes nothing. [SPEC 2.3, 2.4, 3.1 to 3.3, 3.6, 3.13]
+-- The three measures (01, "Measures"; 02, §2, "Distances mean close", §4, "Between two marks", and §6, "Squares worked
+-- out"): the table, the whole number that a set's terms and two vectors have, when that number meets the rule that was
+-- dealt, and the words that a box computes. Elements, thresholds and marks are words: a negative number stands for
+-- itself plus 2^32. The terms are what a set's measure is of: its code, and L as `n`. Assumes nothing.
+-- [SPEC 2.3, 2.4, 3.1 to 3.4, 3.6, 3.8, 3.13]
 use mathlib.Core.Bool.{Bool, true, false, cond, _&&_}
 use mathlib.Core.List.{List, [], _∷_}
 use Prim.Native.Nat.{ℕ, zero, suc, _-_, _%_, _^_}
@@ -177,6 +178,7 @@ kWord terms = word (row (terms .code) .k)
 unfoldable pub signWord : Terms → ℕ → ℕ
 signWord terms mark = word (sign terms mark)
 
+-- 01's table, column "own": a square is a word times itself [SPEC 3.4, 3.8]
 unfoldable pub ownWord : Terms → List ℕ → ℕ
 ownWord terms v = cond (row (terms .code) .squares) (sum (λ i. mul (getD v i 0) (getD v i 0)) (terms .n)) 0
 

@@ -1,6 +1,6 @@
-// What a box computes of vectors in one check (01, "One check at a box"), and what the dealer computes
-// for it: the own term, the masked vector and the share of the product. `share_answers` has the word and
-// the answer. [SPEC 3.4, 3.8, 5.5 to 5.8, 16.2, 17.3]
+// What a box computes of vectors in one check (01, "One check at a box"; 02, §6), and what the dealer
+// computes for it: the own term, the masked vector and the share of the product. `share_answers` has the
+// word and the answer. [SPEC 3.4, 3.8, 5.5 to 5.8, 16.2, 17.3]
 ghost use mathlib.Core.Path.{_≡_};
 ghost use lib.ListN.{length};
 ghost use Prim.Native.Nat.{_≤_};
@@ -36,8 +36,8 @@ pub fn inner(n: usize, a: &[u32], b: &[u32]) -> u32
     total
 }
 
-// The own term of the vector whose elements stand at the start of v. The squares are worked out as words:
-// those of a number and of its negation are the same, so no sign is looked at.
+// The own term of the vector whose elements stand at the start of v. A negative element's word has the
+// square of the element, so a word is multiplied as it is. [SPEC 3.9]
 pub fn own(terms: Terms, v: &[u32]) -> u32
     requires { ⌜ terms .n ≤ length (now v) ⌝ }
     ensures { λ r. ⌜ r ≡ ownWord terms (now (v .entry)) ⌝ }
