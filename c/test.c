@@ -594,6 +594,16 @@ static void whole_checks(void)
     }
 }
 
+/* A loop over several elements at once leaves each rest. */
+static void every_length(void)
+{
+    struct door d = open_door(0);
+    for (size_t n = 1; n <= MOST; n++) {
+        const struct check k = drawn_check(DOOR_EUCLID, n);
+        whole(&d, d.last + 1, &k);
+    }
+}
+
 /* A whole check under the next number, with this threshold, of which the answer is written out. */
 static void says(struct door *d, struct check k, long t, uint32_t said)
 {
@@ -2589,6 +2599,7 @@ int main(int count, char **arguments)
     draw_bytes(keys[0], sizeof keys);
     draw_bytes(seed, sizeof seed);
     whole_checks();
+    every_length();
     short_ones();
     short_ones_between();
     ends();

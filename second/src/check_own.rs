@@ -7,7 +7,7 @@ use crate::measure::{Measure, MAX_LENGTH};
 
 /// Numbers where a square turns over: the ends of the elements' ranges, the roots of 2^31 and
 /// of 2^32, the ends of the numbers that a word stands for, and the neighbours of all of these.
-const EDGES: [i32; 24] = [
+const EDGES: [i32; 26] = [
     0,
     1,
     2,
@@ -20,6 +20,7 @@ const EDGES: [i32; 24] = [
     65_535,
     65_536,
     65_537,
+    i32::MAX - 1,
     i32::MAX,
     i32::MIN,
     i32::MIN + 1,
@@ -31,14 +32,24 @@ const EDGES: [i32; 24] = [
     -1025,
     -1024,
     -1023,
+    -2,
     -1,
 ];
 
 /// Every length up to this has a case: a loop over several elements at once leaves each rest.
 const SHORT: usize = 66;
 
+/// How many of all elements a line has: as hex no more than half a line.
+const IN_A_LINE: usize = 256;
+
 /// The bytes of a word.
 const WORD: usize = 4;
+
+/// A field of these elements.
+fn field_of(elements: &[i32]) -> String {
+    let bytes: Vec<u8> = elements.iter().flat_map(|x| x.to_le_bytes()).collect();
+    field::format(&bytes)
+}
 
 impl Cases {
     fn own(&mut self, measure: Measure, vector: &str) {
@@ -46,12 +57,15 @@ impl Cases {
     }
 
     pub fn own_terms(&mut self) {
-        let fields = EDGES.map(|number| field::format(&number.to_le_bytes()));
         for measure in Measure::ALL {
-            for field in &fields {
-                self.own(measure, field);
+            for number in EDGES {
+                self.own(measure, &field_of(&[number]));
             }
-            self.own(measure, &fields.concat());
+            self.own(measure, &field_of(&EDGES));
+        }
+        let all: Vec<i32> = Measure::Euclid.elements().collect();
+        for elements in all.chunks(IN_A_LINE) {
+            self.own(Measure::Euclid, &field_of(elements));
         }
         for length in (1..=SHORT).chain([MAX_LENGTH - 1, MAX_LENGTH]) {
             let vector = self.bytes(WORD * length);
@@ -62,19 +76,24 @@ impl Cases {
 
 #[cfg(test)]
 mod tests {
+    use super::field_of;
     use crate::check_cases::cases;
     use std::collections::HashMap;
+
+    /// The answer to each line.
+    fn answers() -> HashMap<String, String> {
+        let cases = cases().into_iter();
+        cases.map(|case| (case.line, case.expected)).collect()
+    }
 
     /// Squares modulo 2^32, worked out by hand. The sign does not count.
     #[test]
     fn squares_at_the_edges() {
-        let answers: HashMap<String, String> = cases()
-            .into_iter()
-            .map(|case| (case.line, case.expected))
-            .collect();
+        let answers = answers();
         for (number, square) in [
             (0_i32, "0"),
             (-1, "1"),
+            (-2, "4"),
             (1023, "1046529"),
             (-1024, "1048576"),
             (1025, "1050625"),
@@ -84,10 +103,29 @@ mod tests {
             (-65_536, "0"),
             (65_537, "131073"),
             (i32::MAX, "1"),
+            (i32::MAX - 1, "4"),
             (i32::MIN, "0"),
         ] {
-            let own = |code| &answers[&format!("own {code} {:08x}", number.swap_bytes())];
+            let own = |code| &answers[&format!("own {code} {}", field_of(&[number]))];
             assert_eq!([own(0), own(1), own(2)], ["0", square, square], "{number}");
+        }
+    }
+
+    /// Every element that squared Euclid takes is in a line. The squares of 1 to n sum to
+    /// n (n + 1) (2 n + 1) / 6.
+    #[test]
+    fn every_element_is_squared() {
+        let answers = answers();
+        let squares = |n: i64| n * (n + 1) * (2 * n + 1) / 6;
+        let sum = |first: i64, last: i64| match last < 0 {
+            true => squares(-first) - squares(-last - 1),
+            false => squares(last) - squares(first - 1),
+        };
+        for first in (-1024..1024).step_by(256) {
+            let last = first + 255;
+            let elements: Vec<i32> = (first..=last).collect();
+            let own = &answers[&format!("own 1 {}", field_of(&elements))];
+            assert_eq!(*own, sum(first.into(), last.into()).to_string());
         }
     }
 }

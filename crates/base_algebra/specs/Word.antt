@@ -73,10 +73,6 @@ pub neg-lt : (a : ℕ) → neg a < 2 ^ 32
 unfolding neg
 neg-lt a = omega arith
 
-pub mul-lt : (a b : ℕ) → mul a b < 2 ^ 32
-unfolding mul
-mul-lt a b = omega arith
-
 -- words that are congruent are equal
 pub same-word : {a b : ℕ} → a ≈ b → a < 2 ^ 32 → b < 2 ^ 32 → a ≡ b
 same-word h k l = m-words h k l

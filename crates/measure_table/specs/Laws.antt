@@ -1,7 +1,8 @@
--- What a caller uses of the measures: how long a vector may be; their words are the residues of the whole numbers; the
--- difference of measure and threshold fits a signed word (01, "Measures"), with either sign, and whether that word is
--- at most the rule's width says whether the rule is met; and that this is the papers' rule for each code and between
--- two marks. Assumes nothing. [SPEC 2.3, 2.4, 3.5, 3.6, 3.11 to 3.15]
+-- What a caller uses of the measures: how long a vector may be; their words are the residues of the whole numbers, and
+-- the own term that a box works out is the own term's word; the difference of measure and threshold fits a signed word
+-- (01, "Measures"), with either sign, and whether that word is at most the rule's width says whether the rule is met;
+-- and that this is the papers' rule for each code and between two marks. Assumes nothing.
+-- [SPEC 2.3, 2.4, 3.5 to 3.7, 3.9, 3.11 to 3.15]
 use mathlib.Core.Path.{_≡_, refl, sym, ap, ap₂, _∙_, subst}
 use mathlib.Core.Bool.{Bool, true, false, cond, _&&_, and-true}
 use mathlib.Core.List.{List, [], _∷_}
@@ -134,23 +135,24 @@ product≈ x y i =
     (m-trans (m-mul (m-sym (signed≈ (getD x i 0))) (m-sym (signed≈ (getD y i 0))))
     (m-sym (residue-mul (2 ^ 32) refl (signed (getD x i 0)) (signed (getD y i 0)))))
 
+cond≈ : (b : Bool) (w z : ℕ) (i j : ℤ) → w ≈ residue (2 ^ 32) i → z ≈ residue (2 ^ 32) j
+    → cond b w z ≈ residue (2 ^ 32) (cond b i j)
+cond≈ true w z i j h k = h
+cond≈ false w z i j h k = k
+
+cond-lt : (b : Bool) (w z : ℕ) → w < 2 ^ 32 → z < 2 ^ 32 → cond b w z < 2 ^ 32
+cond-lt true w z h k = h
+cond-lt false w z h k = k
+
 pub own≈ : (terms : Terms) (v : List ℕ) → ownWord terms v ≈ residue (2 ^ 32) (own terms v)
 unfolding ownWord own
-own≈ terms v = go (row (terms .code) .squares)
-  where
-    go : (b : Bool)
-        → cond b (sum (λ i. mul (getD v i 0) (getD v i 0)) (terms .n)) 0
-        ≈ residue (2 ^ 32) (cond b (sumℤ (λ i. element v i *ℤ element v i) (terms .n)) (pos 0))
-    go true = sum≈ _ (λ i. element v i *ℤ element v i) (terms .n) (product≈ v v)
-    go false = m-eq (residue-pos (2 ^ 32) 0)
+own≈ terms v =
+    cond≈ (row (terms .code) .squares) _ _ _ _
+    (sum≈ _ (λ i. element v i *ℤ element v i) (terms .n) (product≈ v v)) (m-eq (residue-pos (2 ^ 32) 0))
 
 pub ownWord-lt : (terms : Terms) (v : List ℕ) → ownWord terms v < 2 ^ 32
 unfolding ownWord
-ownWord-lt terms v = go (row (terms .code) .squares)
-  where
-    go : (b : Bool) → cond b (sum (λ i. mul (getD v i 0) (getD v i 0)) (terms .n)) 0 < 2 ^ 32
-    go true = sum-lt (λ i. mul (getD v i 0) (getD v i 0)) (terms .n)
-    go false = omega arith
+ownWord-lt terms v = cond-lt (row (terms .code) .squares) _ _ (sum-lt _ (terms .n)) (omega arith)
 
 -- what a box works out is the own term as a word, whatever the words of its vector [SPEC 3.7, 3.9]
 pub own-word : (terms : Terms) (v : List ℕ) → ownWord terms v ≡ word (own terms v)

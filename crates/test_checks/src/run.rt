@@ -181,9 +181,9 @@ pub fn check(line: &[u8], out: &mut [u8; ROOM], at: usize) -> usize {
     bad_line(out, at)
 }
 
-// own CODE V
+// own CODE V. What stands past the vector is not 0, and must not count.
 pub fn own(line: &[u8], out: &mut [u8; ROOM], at: usize) -> usize {
-    let mut v = [0u32; MOST_ELEMENTS];
+    let mut v = [1u32; MOST_ELEMENTS];
     let n = read_vector(line, 2, &mut v);
     let code = word_at(line, 1);
     if n <= MOST_ELEMENTS {
