@@ -6,7 +6,7 @@ ghost use Rattle.half_deal.specs.Dealing.{dealFrom};
 ghost use Rattle.call_day.specs.Table.{tableOf};
 ghost use Rattle.call_dealer.specs.Dealer.{startDealer, deal, dealOut};
 ghost use Rattle.call_dealer.specs.Clock.{clockFrom, dealByClock, clockOut};
-ghost use Rattle.call_party.specs.Party.{startParty, load, mask, maskOut, takeVector, finish, dropSet};
+ghost use Rattle.call_party.specs.Party.{startParty, load, trial, mask, maskOut, takeVector, finish, dropSet};
 ghost use Rattle.call_lock.specs.Lock.{startLock, join};
 use base_messages::Label;
 use call_dealer::ClockAnswer;
@@ -16,6 +16,7 @@ use call_lock::Lock;
 use call_lock::LockAnswer;
 use call_party::Party;
 use call_party::PartyAnswer;
+use call_party::TrialAnswer;
 use measure_table::Rule;
 use measure_table::Terms;
 
@@ -126,6 +127,15 @@ pub extern "C" fn door_load(party: Party, half: &[u8]) -> PartyAnswer
     ensures { λ r. ⌜ r ≡ load party (now (half .entry)) ⌝ }
 {
     party.load(half)
+}
+
+// What a load of this half would say, with the door's name, measure code and L if it would be taken. No
+// state comes back.
+#[no_mangle]
+pub extern "C" fn door_trial(party: Party, half: &[u8]) -> TrialAnswer
+    ensures { λ r. ⌜ r ≡ trial party (now (half .entry)) ⌝ }
+{
+    party.trial(half)
 }
 
 // Call 2. The masked vector goes to the start of out.

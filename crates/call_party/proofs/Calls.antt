@@ -4,7 +4,7 @@ use mathlib.Core.Bool.{Bool, true, false, not, _&&_}
 use mathlib.Core.List.{List}
 use Prim.Native.Nat.{ℕ, suc, _-_, _≤_}
 use native.Mathlib.Omega.{arith}
-use borrow.Author.Tests.{leb-true, eqb-true, ne-eqb}
+use borrow.Author.Tests.{leb-true, eqb-true, ne-eqb, not-true, not-false}
 use lib.Dec.{eqb, leb}
 use lib.ListN.{length, replicate}
 use Rattle.base_algebra.specs.Bit.{both}
@@ -20,20 +20,23 @@ use Rattle.base_messages.specs.Messages.{vectorKind, wordKind, officeParty, unl
 use Rattle.base_messages.specs.Laws as Refusals
 use Rattle.base_messages.specs.Laws.{turned-down, goes-on, passed, fits-short}
 use Rattle.half_content.specs.declared.Set.{Set}
-use Rattle.half_content.specs.Content.{fill, noSet}
+use Rattle.half_content.specs.Content.{fill, noTerms, noSet}
 use Rattle.half_content.specs.Laws.{fill-over}
 use Rattle.half_open.specs.declared.Examined.{Examined}
-use Rattle.half_seal.specs.Half.{openedSet}
-use Rattle.half_open.specs.Examined.{answerFor, examined}
+use Rattle.half_open.specs.declared.Told.{Told}
+use Rattle.half_seal.specs.Half.{whyNot, openedSet, openedName}
+use Rattle.half_open.specs.Examined as Half
 use Rattle.call_party.specs.declared.Check.{Check}
 use Rattle.call_party.specs.declared.Party.{Party}
 use Rattle.call_party.specs.declared.PartyAnswer.{PartyAnswer}
+use Rattle.call_party.specs.declared.TrialAnswer.{TrialAnswer}
 use Rattle.call_party.specs.Party as P
 use Rattle.call_party.specs.Party.{idlePhase, loadedPhase, maskedPhase, takenPhase, idle, nobody, noParty}
 use Rattle.call_party.specs.Party.{answered, whyNotParty, startParty, stateFits, sound, inTurn, whyNotLoad}
 use Rattle.call_party.specs.Party.{opened, loaded, whyNotMask, masked, maskedVector, maskOut, whyNotMessage}
 use Rattle.call_party.specs.Party.{whyNotTake, boxShare, wordOf, worded, whyNotFinish, answerOf, closed}
-use Rattle.call_party.specs.Party.{whyNotDrop, waits, highWater, nextCheck}
+use Rattle.call_party.specs.Party.{whyNotDrop, loadTurn, highWater, nextCheck, noName}
+use Rattle.call_party.specs.Laws.{opened-name}
 
 -- ---- an answer that refuses, and one that does not
 
@@ -71,43 +74,81 @@ open-most k s e =
     rw (ne-eqb phase 0 some) at (both (leb (s .who .party) 1) _ fits .1) in
     length-fits (set .terms) (both (isCode (set .terms .code)) _ (both (leb phase 3) _ state .1) .1) .1
 
--- ---- load
+-- ---- load and trial
 
-module _ (s : Party) (t : Bool) (et : t ≡ sound s) (h : List ℕ) where
-  -- whether it is its turn, as `load` asks it
-  abbrev loadTurn : Bool
-  loadTurn = not (waits s) && t
+-- `t`: whether it is their turn; `above`: what the half's number has to be above
+module _ (s : Party) (t : Bool) (et : t ≡ loadTurn s) (h : List ℕ) where
+  out-of-turn : t ≡ false → outOfTurn ≡ whyNotLoad s h
+  unfolding whyNotLoad
+  out-of-turn e = turned-down _ outOfTurn _ (ap not (sym et ∙ e))
 
-  turn-is : loadTurn ≡ not (waits s) && sound s
-  turn-is = ap (λ (b : Bool). not (waits s) && b) et
+  pub load-3 : t ≡ false → told outOfTurn s 0 ≡ P.load s h
+  unfolding P.load
+  load-3 e = keeps outOfTurn _ _ s 0 (out-of-turn e) (λ z. omega arith)
 
-  pub load-3 : loadTurn ≡ false → told outOfTurn s 0 ≡ P.load s h
-  unfolding P.load whyNotLoad
-  load-3 e =
-      keeps outOfTurn _ _ s 0
-      (turned-down _ outOfTurn _ (ap not (sym turn-is ∙ e)))
-      (λ z. omega arith)
+  -- what a trial says of a half that would be turned down
+  trial-turned : (k : ℕ) (r : TrialAnswer) → k ≡ whyNotLoad s h → (k ≡ 0 → ⊥)
+      → r ≡ record { why = k; name = noName; terms = noTerms } → r ≡ P.trial s h
+  unfolding P.trial
+  trial-turned k r e some er =
+      er
+      ∙ (λ i.
+      record {
+        why = e i;
+        name = Refusals.refused (openedName (s .who .key) h) noName e some i;
+        terms = Refusals.refused (openedSet (s .who .key) h .terms) noTerms e some i;
+      })
 
-  module _ (now : loadTurn ≡ true) (above : ℕ)
+  pub trial-3 : (r : TrialAnswer) → not t ≡ true → r ≡ record { why = outOfTurn; name = noName; terms = noTerms }
+      → r ≡ P.trial s h
+  trial-3 r e er = trial-turned outOfTurn r (out-of-turn (not-true t e)) (λ z. omega arith) er
+
+  module _ (now : t ≡ true) (above : ℕ)
+      (ea : above ≡ highWater (s .check .phase) (s .check .set .number) (s .last)) where
+    why-by : (k : ℕ) → k ≡ whyNot (s .who .key) (s .who .name) (s .who .party) above h → k ≡ whyNotLoad s h
+    unfolding whyNotLoad
+    why-by k e =
+        goes-on _ outOfTurn _ (ap not (sym et ∙ now))
+        (e ∙ ap (λ (n : ℕ). whyNot (s .who .key) (s .who .name) (s .who .party) n h) ea)
+
+  module _ (now : not t ≡ false) (above : ℕ)
+      (ea : above ≡ highWater (s .check .phase) (s .check .set .number) (s .last)) (x : Told)
+      (ex : x ≡ Half.told (s .who .key) (s .who .name) (s .who .party) above h) where
+    why-trial : x .why ≡ whyNotLoad s h
+    unfolding Half.told
+    why-trial = why-by (not-false t now) above ea (x .why) (ap (λ z. z .why) ex)
+
+    pub trial-refused : (r : TrialAnswer) → (x .why ≡ 0 → ⊥)
+        → r ≡ record { why = x .why; name = noName; terms = noTerms } → r ≡ P.trial s h
+    trial-refused r some er = trial-turned (x .why) r why-trial some er
+
+    -- the name that stands in the half is the box's own
+    pub trial-taken : x .why ≡ 0 → record { why = 0; name = s .who .name; terms = x .terms } ≡ P.trial s h
+    unfolding P.trial Half.told
+    trial-taken none =
+        let why : 0 ≡ whyNotLoad s h = sym none ∙ why-trial in
+        let terms = ap (λ z. z .terms) ex ∙ sym (Refusals.taken _ _ (ap (λ z. z .why) ex) none) in
+        λ i.
+        record {
+          why = why i;
+          name = (sym (opened-name s h (sym why)) ∙ Refusals.taken (openedName (s .who .key) h) noName why refl) i;
+          terms = (terms ∙ Refusals.taken (openedSet (s .who .key) h .terms) noTerms why refl) i;
+        }
+
+  module _ (now : t ≡ true) (above : ℕ)
       (ea : above ≡ highWater (s .check .phase) (s .check .set .number) (s .last)) (x : Examined)
-      (ex : x ≡ examined (s .who .key) (s .who .name) (s .who .party) above h) where
-    ex-above : x
-        ≡ examined (s .who .key) (s .who .name) (s .who .party)
-        (highWater (s .check .phase) (s .check .set .number) (s .last)) h
-    ex-above = ex ∙ ap (λ (n : ℕ). examined (s .who .key) (s .who .name) (s .who .party) n h) ea
-
+      (ex : x ≡ Half.examined (s .who .key) (s .who .name) (s .who .party) above h) where
     why-load : x .why ≡ whyNotLoad s h
-    unfolding whyNotLoad examined answerFor
-    why-load =
-        goes-on _ outOfTurn _ (ap not (sym turn-is ∙ now)) (ap (λ z. z .why) ex-above)
+    unfolding Half.examined
+    why-load = why-by now above ea (x .why) (ap (λ z. z .why) ex)
 
     pub load-refused : (x .why ≡ 0 → ⊥) → told (x .why) s 0 ≡ P.load s h
     unfolding P.load
     load-refused some = keeps (x .why) _ _ s 0 why-load some
 
     opens : x .why ≡ 0 → x .set ≡ openedSet (s .who .key) h
-    unfolding examined answerFor
-    opens none = ap (λ z. z .set) ex-above ∙ sym (Refusals.taken _ _ (ap (λ z. z .why) ex-above) none)
+    unfolding Half.examined
+    opens none = ap (λ z. z .set) ex ∙ sym (Refusals.taken _ _ (ap (λ z. z .why) ex) none)
 
     -- what an accepted load leaves, with no set open and with one
     opened-at : s .check .phase ≡ 0 → (y : Set)

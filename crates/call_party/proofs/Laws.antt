@@ -18,7 +18,7 @@ use Rattle.base_messages.specs.Messages.{expected}
 use Rattle.call_party.specs.declared.Check.{Check}
 use Rattle.call_party.specs.declared.Party.{Party}
 use Rattle.call_party.specs.Party.{idlePhase, noCheck, idle, stateFits, waitingFits, highWater, opened, nextCheck}
-use Rattle.call_party.specs.Party.{sound, inTurn, boxShare}
+use Rattle.call_party.specs.Party.{sound, inTurn, waits, loadTurn, boxShare}
 
 -- ---- the tests of a state
 
@@ -53,6 +53,9 @@ module _ (s : Party) where
       → a && b ≡ sound s
   unfolding sound
   sound-law a b ea eb = ap₂ _&&_ ea eb
+
+  pub load-turn-law : (b : Bool) → b ≡ sound s → not (waits s) && b ≡ loadTurn s
+  load-turn-law b e = ap (λ (t : Bool). not (waits s) && t) e
 
   pub turn-law : (phase : ℕ) (b : Bool) → b ≡ sound s → eqb (s .check .phase) phase && b ≡ inTurn phase s
   unfolding inTurn

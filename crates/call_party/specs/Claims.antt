@@ -1,8 +1,9 @@
 -- What a box may rely on when it loads ahead (02, §1): when the open set ends the waiting one is open, just as if it
 -- had been loaded then; and a message for a set that waits is refused. And an ordinary set answers as before (02, §4).
+-- And what a trial says is what a load would say (02, §7).
 -- Assumes nothing. [SPEC 15.7, 18.4, 18.5, 19.2, 27.8]
 use mathlib.Core.Path.{_≡_, refl, sym, ap, _∙_, subst}
-use mathlib.Core.Bool.{Bool, true, false, not}
+use mathlib.Core.Bool.{Bool, true, false, not, cond}
 use mathlib.Core.List.{List}
 use Prim.Native.Nat.{ℕ, suc, _-_, _^_, _<_, _≤_}
 use native.Mathlib.Omega.{arith}
@@ -19,17 +20,19 @@ use Rattle.share_vectors.specs.Claims.{word-plain, word-close, answer-ordinary}
 use Rattle.base_messages.specs.declared.Label.{Label}
 use Rattle.base_messages.specs.Messages.{outOfTurn, wrongLength, wrongMessage, wrongNumber, officeParty, unless}
 use Rattle.base_messages.specs.Messages.{expected}
-use Rattle.base_messages.specs.Laws.{passed, taken}
+use Rattle.base_messages.specs.Laws.{passed, taken, refused}
 use Rattle.half_content.specs.declared.Set.{Set}
-use Rattle.half_content.specs.Content.{noSet, widthFits}
+use Rattle.half_content.specs.Content.{noTerms, noSet, widthFits}
 use Rattle.half_content.specs.Laws.{ordinary-width}
-use Rattle.half_seal.specs.Half.{wholeBlocks, whyNot, whyNotOpened, setNumber, openedSet}
+use Rattle.half_seal.specs.Half.{wholeBlocks, whyNot, whyNotOpened, setNumber, openedSet, openedName}
 use Rattle.call_party.specs.declared.Check.{Check}
 use Rattle.call_party.specs.declared.Party.{Party}
+use Rattle.call_party.specs.declared.TrialAnswer.{TrialAnswer}
 use Rattle.call_party.specs.Party.{idlePhase, noCheck, idle, isOpen, waits, stateFits, waitingFits, sound, inTurn}
+use Rattle.call_party.specs.Party.{noName, trial}
 use Rattle.call_party.specs.Party.{highWater, whyNotLoad, opened, loaded, load, nextCheck, closed, whyNotMessage}
 use Rattle.call_party.specs.Party.{whyNotFinish, boxShare, wordOf, answerOf, finish, whyNotDrop, dropSet}
-use Rattle.call_party.specs.Laws.{waterOf, load-tells, opened-long, opened-width}
+use Rattle.call_party.specs.Laws.{waterOf, load-tells, opened-long, opened-width, opened-name}
 
 -- ---- the open set ends
 
@@ -190,3 +193,65 @@ module _ (set : Set) (party : ℕ) (ownMasked : List ℕ) (own : ℕ) (other : L
   marked-word m =
       let plain = marked-sign (set .terms) (set .mark) (λ e. absurd (omega (arith, m, e))) in
       word-plain (set .terms) (set .mark) plain _ own (set .r)
+
+-- ---- trial (02, §7) [SPEC 34.1 to 34.5]
+
+-- "It must agree with a load done on a copy of the state", for every state and every half: the same number, ..
+pub trial-agrees : (s : Party) (h : List ℕ) → trial s h .why ≡ load s h .why
+unfolding trial load
+trial-agrees s h = refl
+
+-- the set that a load brings: the open one, or with one open before the one that waits
+abbrev pub brought : Party → Party → Set
+brought before after = cond (isOpen before) (after .waiting) (after .check .set)
+
+brought-is : (s : Party) (set : Set) → brought s (loaded s set) ≡ set
+unfolding loaded opened
+brought-is s set = go (isOpen s)
+  where
+    go : (b : Bool) → cond b (cond b set noSet) (cond b (s .check) (opened set) .set) ≡ set
+    go true = refl
+    go false = refl
+
+loaded-name : (s : Party) (set : Set) → loaded s set .who .name ≡ s .who .name
+unfolding loaded
+loaded-name s set = refl
+
+-- .. "with the door, measure code and L if it would be taken": those of the set that the load brings, at a box of that
+-- door, ..
+pub record TrialTells (s : Party) (h : List ℕ) : Type 0 where
+  pub door : trial s h .name ≡ load s h .party .who .name
+  pub own-door : trial s h .name ≡ s .who .name
+  pub terms : trial s h .terms ≡ brought s (load s h .party) .terms
+
+pub trial-tells : (s : Party) (h : List ℕ) → load s h .why ≡ 0 → TrialTells s h
+unfolding trial load
+trial-tells s h e =
+    let set : Set = openedSet (s .who .key) h in
+    let next : load s h .party ≡ loaded s set = sym (taken (loaded s set) s refl e) in
+    let name : trial s h .name ≡ s .who .name =
+    sym (taken (openedName (s .who .key) h) noName refl e) ∙ opened-name s h e in
+    record {
+      door = name ∙ sym (ap (λ (p : Party). p .who .name) next ∙ loaded-name s set);
+      own-door = name;
+      terms =
+          sym (taken (set .terms) noTerms refl e)
+          ∙ sym (ap (λ (p : Party). brought s p .terms) next ∙ ap (λ (t : Set). t .terms) (brought-is s set));
+    }
+
+-- .. and else the number alone
+pub trial-refused : (s : Party) (h : List ℕ) → (load s h .why ≡ 0 → ⊥)
+    → trial s h ≡ record { why = load s h .why; name = noName; terms = noTerms }
+unfolding trial load
+trial-refused s h some =
+    λ i.
+    record {
+      why = whyNotLoad s h;
+      name = sym (refused (openedName (s .who .key) h) noName refl some) i;
+      terms = sym (refused (openedSet (s .who .key) h .terms) noTerms refl some) i;
+    }
+
+-- with a set open and none waiting "it speaks of a load ahead", with one waiting it is 3 whatever the half is
+pub waiting-refused : (s : Party) (h : List ℕ) → waits s ≡ true → trial s h .why ≡ outOfTurn
+unfolding trial whyNotLoad unless
+waiting-refused s h w = rw w refl

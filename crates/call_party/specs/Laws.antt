@@ -8,13 +8,14 @@ use borrow.Author.Tests.{leb-true, leb-false, ltb-true, eqb-true, ne-eqb, not-tr
 use lib.Dec.{eqb, leb}
 use lib.ListN.{length}
 use Rattle.base_algebra.specs.Bit.{both}
+use Rattle.base_words.specs.List.{same, same-eq}
 use Rattle.measure_table.specs.Measure.{isCode, lengthFits}
 use Rattle.measure_table.specs.Laws.{length-fits}
 use Rattle.base_messages.specs.Laws.{passed}
 use Rattle.half_content.specs.declared.Set.{Set}
-use Rattle.half_content.specs.Content.{blockBytes, setIn, widthFits}
+use Rattle.half_content.specs.Content.{blockBytes, nameField, field, setIn, widthFits, contentFits}
 use Rattle.half_content.specs.Laws.{Tells, fits-tells}
-use Rattle.half_seal.specs.Half.{openedBlocks, whyNot, whyNotOpened, setNumber, openedSet}
+use Rattle.half_seal.specs.Half.{openedContent, whyNot, whyNotOpened, setNumber, openedSet, openedName}
 use Rattle.call_party.specs.declared.Party.{Party}
 use Rattle.call_party.specs.Party.{waits, sound, highWater, whyNotLoad}
 
@@ -73,12 +74,16 @@ load-tells s h e =
     }
 
 -- what a load takes: its content's tests, ..
-opened-tells : (key name : List ℕ) (party last : ℕ) (x : List ℕ) → whyNot key name party last x ≡ 0
-    → (let count : ℕ = length x / blockBytes in Tells count (openedBlocks key x count))
+content-fits : (key name : List ℕ) (party last : ℕ) (x : List ℕ) → whyNot key name party last x ≡ 0
+    → contentFits name party (length x / blockBytes) (openedContent key x) ≡ true
 unfolding whyNot whyNotOpened
-opened-tells key name party last x e =
+content-fits key name party last x e =
     let blocks = passed _ (passed _ (passed _ e .1) .1) in
-    fits-tells name party _ _ (passed _ (blocks .1) .0)
+    passed _ (blocks .1) .0
+
+opened-tells : (key name : List ℕ) (party last : ℕ) (x : List ℕ) → whyNot key name party last x ≡ 0
+    → Tells (length x / blockBytes) (openedContent key x)
+opened-tells key name party last x e = fits-tells name party _ _ (content-fits key name party last x e)
 
 -- .. so that code and length fit, ..
 pub opened-fits : (key name : List ℕ) (party last : ℕ) (x : List ℕ) → whyNot key name party last x ≡ 0
@@ -94,9 +99,16 @@ opened-long s h e =
     let fits = opened-fits (s .who .key) (s .who .name) (s .who .party) (waterOf s) h (load-tells s h e .examined) in
     length-fits _ (both (isCode (openedSet (s .who .key) h .terms .code)) _ fits .1) .0
 
--- .. and width and mark fit each other
+-- .. width and mark fit each other, ..
 pub opened-width : (s : Party) (h : List ℕ) → whyNotLoad s h ≡ 0
     → (let set : Set = openedSet (s .who .key) h in widthFits (set .width) (set .mark) ≡ true)
 unfolding openedSet setIn
 opened-width s h e =
     opened-tells (s .who .key) (s .who .name) (s .who .party) (waterOf s) h (load-tells s h e .examined) .width-fits
+
+-- .. and its name is the box's
+pub opened-name : (s : Party) (h : List ℕ) → whyNotLoad s h ≡ 0 → openedName (s .who .key) h ≡ s .who .name
+unfolding openedName contentFits
+opened-name s h e =
+    let fits = content-fits (s .who .key) (s .who .name) (s .who .party) (waterOf s) h (load-tells s h e .examined) in
+    same-eq _ _ (both (same (field (openedContent (s .who .key) h) nameField) (s .who .name)) _ fits .0)

@@ -1,4 +1,4 @@
--- A box (01, "One check at a box" and "When a call is turned down"; 02, §1 and §4): for each call why it is turned
+-- A box (01, "One check at a box" and "When a call is turned down"; 02, §1, §4 and §7): for each call why it is turned
 -- down, the next state, what it sends, and what it leaves in a lent buffer, for any state and anything handed in.
 -- Assumes nothing.
 -- [SPEC 12.5, 13.3, 15.3, 16.3, 17.5, 18.5, 19.2, 24.2, 24.5 to 24.9]
@@ -19,11 +19,12 @@ use Rattle.base_messages.specs.Messages.{badName, badPartyOrCode, outOfTurn, wr
 use Rattle.base_messages.specs.Messages.{wrongNumber, outOfRange, vectorKind, wordKind, cameraParty, officeParty}
 use Rattle.base_messages.specs.Messages.{unless, ifTaken, nameFits, padded, isKey, isName, expected}
 use Rattle.half_content.specs.declared.Set.{Set}
-use Rattle.half_content.specs.Content.{fill, noSet}
-use Rattle.half_seal.specs.Half.{whyNot, openedSet}
+use Rattle.half_content.specs.Content.{fill, noTerms, noSet}
+use Rattle.half_seal.specs.Half.{whyNot, openedSet, openedName}
 use Rattle.call_party.specs.declared.Check.{Check}
 use Rattle.call_party.specs.declared.Party.{Party}
 use Rattle.call_party.specs.declared.PartyAnswer.{PartyAnswer}
+use Rattle.call_party.specs.declared.TrialAnswer.{TrialAnswer}
 
 -- ---- phases: with no set open, and after calls 1, 2 and 3
 
@@ -60,8 +61,11 @@ isOpen s = not (eqb (s .check .phase) idlePhase)
 abbrev pub waits : Party → Bool
 waits s = not (eqb (s .waiting .terms .n) 0)
 
+abbrev pub noName : List ℕ
+noName = replicate 16 0
+
 abbrev pub nobody : Identity
-nobody = record { name = replicate 16 0; party = 0; key = replicate 32 0 }
+nobody = record { name = noName; party = 0; key = replicate 32 0 }
 
 unfoldable pub noParty : Party
 noParty = idle nobody 0
@@ -117,9 +121,12 @@ highWater phase number last = cond (not (eqb phase idlePhase) && leb last number
 
 -- 02, §1: "A box may load one further set while another is still open. .. A load with a set already waiting is out of
 -- turn" [SPEC 15.1, 24.5]
+abbrev pub loadTurn : Party → Bool
+loadTurn s = not (waits s) && sound s
+
 unfoldable pub whyNotLoad : Party → List ℕ → ℕ
 whyNotLoad s h =
-    unless (not (waits s) && sound s) outOfTurn
+    unless (loadTurn s) outOfTurn
     (whyNot (s .who .key) (s .who .name) (s .who .party)
     (highWater (s .check .phase) (s .check .set .number) (s .last)) h)
 
@@ -138,6 +145,20 @@ loaded s set = record {
 
 unfoldable pub load : Party → List ℕ → PartyAnswer
 load s h = answered (whyNotLoad s h) (loaded s (openedSet (s .who .key) h)) s 0
+
+-- ---- trial (02, §7)
+
+-- "says what a load would say, with the door, measure code and L if it would be taken": the name and the terms that
+-- stand in the half; of one that is turned down the number alone. There is no next state: "The box's own state and last
+-- number are untouched" [SPEC 34.1 to 34.3]
+unfoldable pub trial : Party → List ℕ → TrialAnswer
+trial s h =
+    let why : ℕ = whyNotLoad s h in
+    record {
+      why = why;
+      name = ifTaken why (openedName (s .who .key) h) noName;
+      terms = ifTaken why (openedSet (s .who .key) h .terms) noTerms;
+    }
 
 -- ---- call 2
 

@@ -11,11 +11,12 @@ ghost use Rattle.measure_table.specs.Measure.{mostElements, allInRange};
 ghost use Rattle.share_vectors.specs.Share.{plus};
 ghost use Rattle.base_messages.specs.Messages.{outOfTurn, wrongLength, shortBuffer, wrongMessage, wrongNumber};
 ghost use Rattle.base_messages.specs.Messages.{outOfRange, officeParty, unless, expected};
-ghost use Rattle.half_content.specs.Content.{fill, noSet};
+ghost use Rattle.half_content.specs.Content.{fill, noTerms, noSet};
 ghost use Rattle.call_party.specs.Party.{noCheck, opened as openedCheck, idle as idleOf, whyNotParty, startParty};
 ghost use Rattle.call_party.specs.Party.{nextCheck, highWater, stateFits, waitingFits, sound as soundOf, inTurn};
-ghost use Rattle.call_party.specs.Party.{load as loadOf, mask as maskOf, maskOut, takeVector as takeOf, boxShare};
-ghost use Rattle.call_party.specs.Party.{finish as finishOf, dropSet as dropOf};
+ghost use Rattle.call_party.specs.Party.{loadTurn, load as loadOf, noName, trial as trialOf, mask as maskOf};
+ghost use Rattle.call_party.specs.Party.{maskOut, takeVector as takeOf, boxShare, finish as finishOf};
+ghost use Rattle.call_party.specs.Party.{dropSet as dropOf};
 use base_messages::Identity;
 use base_messages::KEY;
 use base_messages::Label;
@@ -62,6 +63,15 @@ pub struct PartyAnswer {
     pub word: u32,
 }
 
+// What a trial says: why a load would be refused (0 if it would not), and of a half that it would take
+// the door's name, and measure code and L, as they stand in the half. Else these are zero.
+#[repr(C)]
+pub struct TrialAnswer {
+    pub why: u32,
+    pub name: [u8; NAME],
+    pub terms: Terms,
+}
+
 // Whether a call could have left this party, phase, code and length in a state.
 fn state_fits(party: u32, phase: u32, terms: Terms) -> bool
     ensures { λ r. ⌜ r ≡ stateFits party phase terms ⌝ }
@@ -103,6 +113,14 @@ fn in_turn(wanted: u32, s: Party) -> bool
     ensures { λ r. ⌜ r ≡ inTurn wanted s ⌝ }
 {
     (s.check.phase == wanted) & sound(s)
+}
+
+// Whether it is the turn of a load: a set more may be loaded if none waits.
+fn load_turn(s: Party) -> bool
+    ensures { λ r. ⌜ r ≡ loadTurn s ⌝ }
+{
+    let waits = s.waiting.terms.n != 0;
+    !waits & sound(s)
 }
 
 // What a half's number has to be above.
@@ -183,6 +201,17 @@ fn refused(why: u32, party: Party) -> PartyAnswer
         why,
         party,
         word: 0,
+    }
+}
+
+// What a trial says of a half that would be turned down: the number alone.
+fn not_taken(why: u32) -> TrialAnswer
+    ensures { λ r. ⌜ r ≡ record { why = why; name = noName; terms = noTerms } ⌝ }
+{
+    TrialAnswer {
+        why,
+        name: [0; NAME],
+        terms: Terms { code: 0, n: 0 },
     }
 }
 
@@ -331,11 +360,10 @@ impl Party {
         ensures { λ r. ⌜ r ≡ loadOf self (now (h .entry)) ⌝ }
     {
         let phase = self.check.phase;
-        let waits = self.waiting.terms.n != 0;
-        let sound = sound(self);
+        let turn = load_turn(self);
         let mut next = self;
         let mut why = base_messages::OUT_OF_TURN;
-        if !waits & sound {
+        if turn {
             let who = self.who;
             let name = who.name;
             let above = high_water(phase, self.check.set.number, self.last);
@@ -356,6 +384,28 @@ impl Party {
             why,
             party: next,
             word: 0,
+        }
+    }
+
+    // What a load of this half would say. No state comes back: nothing is committed, and no number spent.
+    pub fn trial(self, h: &[u8]) -> TrialAnswer
+        ensures { λ r. ⌜ r ≡ trialOf self (now (h .entry)) ⌝ }
+    {
+        if !load_turn(self) {
+            return not_taken(base_messages::OUT_OF_TURN);
+        }
+        let who = self.who;
+        let name = who.name;
+        let above = high_water(self.check.phase, self.check.set.number, self.last);
+        let told = half_open::tell(&who.key, name, who.party, above, h);
+        if told.why != 0 {
+            return not_taken(told.why);
+        }
+        let terms = told.terms;
+        TrialAnswer {
+            why: 0,
+            name,
+            terms,
         }
     }
 

@@ -180,6 +180,9 @@ setIn set b =
     }
 
 -- no set: all that a set brings is zero, "code and L included" [SPEC 12.10]
+abbrev pub noTerms : Terms
+noTerms = record { code = 0; n = 0 }
+
 unfoldable pub noCorrection : Correction
 noCorrection = record { seed = replicate 8 0; word = 0; flags = 0 }
 
@@ -187,7 +190,7 @@ unfoldable pub noSet : Set
 noSet =
     record {
       number = 0;
-      terms = record { code = 0; n = 0 };
+      terms = noTerms;
       mask = replicate mostElements 0;
       x = replicate mostElements 0;
       y = replicate mostElements 0;

@@ -107,7 +107,7 @@ module _ (key b : List ℕ) (set i : ℕ) (lb : length b ≡ blockBytes) where
     pub block-fits : (r : Bool) → not headed ≡ false → r ≡ opened → r ≡ blockFits key set i b
     block-fits r e er = er ∙ ap (λ (h : Bool). h && opened) (sym (not-false headed e) ∙ eh) ∙ tests
 
-length-opened : (key h : List ℕ) (i : ℕ) → blockBytes * i ≤ length h → length (openedBlocks key h i) ≡ textBytes * i
+pub length-opened : (key h : List ℕ) (i : ℕ) → blockBytes * i ≤ length h → length (openedBlocks key h i) ≡ textBytes * i
 unfolding openedBlocks blockAt
 length-opened key h zero l = refl
 length-opened key h (suc i) l =

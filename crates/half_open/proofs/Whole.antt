@@ -1,72 +1,65 @@
--- What examining comes to: its answer from the tests, in their order. Assumes nothing.
+-- What examining comes to: its number from the tests, in their order, and its answer from that. Assumes nothing.
 use mathlib.Core.Path.{_≡_, refl, sym, ap, ap₂, _∙_}
 use mathlib.Core.Bool.{Bool, true, false, not, _&&_}
-use mathlib.Core.List.{List}
+use mathlib.Core.List.{List, _++_}
 use Prim.Native.Nat.{ℕ, _*_, _/_, _%_, _≤_}
 use native.Mathlib.Omega.{arith}
 use borrow.Author.Tests.{not-false, leb-true}
 use lib.Dec.{eqb, leb, ltb}
-use lib.ListN.{length}
+use lib.ListN.{length, take}
+use lib.Seq.{take-at, length-take-le}
 use Rattle.base_algebra.specs.Bit.{both}
 use Rattle.base_messages.specs.Laws as Refusals
-use Rattle.base_messages.specs.Laws.{turned-down, goes-on}
-use Rattle.half_content.specs.declared.Set.{Set}
+use Rattle.base_messages.specs.Laws.{turned-down, goes-on, passed}
+use Rattle.measure_table.specs.declared.Terms.{Terms}
 use Rattle.measure_table.specs.Measure.{mostElements}
-use Rattle.half_content.specs.Content.{blockBytes, textBytes, mostBlocks, size, lengthIn, setIn, contentFits, noSet}
+use Rattle.half_content.specs.declared.Set.{Set}
+use Rattle.half_content.specs.Content.{blockBytes, textBytes, mostBlocks, size, lengthIn, termsIn, setIn, contentFits}
+use Rattle.half_content.specs.Content.{noSet, noTerms, maskField, widths, sumFirst, offset}
 use Rattle.half_content.specs.Laws.{fits-reads}
 use Rattle.half_open.specs.declared.Examined.{Examined}
-use Rattle.half_seal.specs.Half.{setNumber, firstFit, openedBlocks, wholeBlocks, whyNotOpened, whyNot, openedSet}
-use Rattle.half_open.specs.Examined.{refused, answerFor, examined}
+use Rattle.half_open.specs.declared.Told.{Told}
+use Rattle.half_seal.specs.Half.{setNumber, firstFit, openedContent, wholeBlocks, whyNotOpened, whyNot, openedSet}
+use Rattle.half_open.specs.Examined.{refused, examined, told}
+use Rattle.half_open.proofs.Laws.{length-opened}
 
--- an answer that refuses, and one that does not
-refused-as : (why k : ℕ) (key h : List ℕ) (r : Examined) → r ≡ refused k → k ≡ why → (k ≡ 0 → ⊥)
-    → r ≡ answerFor why key h
-unfolding refused answerFor
-refused-as why k key h r e ek some =
-    e ∙ (λ i. record { why = ek i; set = Refusals.refused (openedSet key h) noSet ek some i })
-
-opened-as : (why : ℕ) (key h : List ℕ) (s : Set) → 0 ≡ why → s ≡ openedSet key h
-    → record { why = 0; set = s } ≡ answerFor why key h
-unfolding answerFor
-opened-as why key h s ew es = λ i. record { why = ew i; set = (es ∙ Refusals.taken (openedSet key h) noSet ew refl) i }
+-- ---- whole blocks: 10 and 11
 
 module _ (key name h : List ℕ) (party : ℕ) (fits : Bool) (ef : fits ≡ firstFit key h (length h / blockBytes)) where
-  pub whole-10 : (r : Examined) → not fits ≡ true → r ≡ refused 10 → r ≡ answerFor (whyNotOpened key name party h) key h
+  pub whole-10 : not fits ≡ true → 10 ≡ whyNotOpened key name party h
   unfolding whyNotOpened
-  whole-10 r e er = refused-as _ 10 key h r er (turned-down _ 10 _ (rw ef at e)) (λ z. omega arith)
+  whole-10 e = turned-down _ 10 _ (rw ef at e)
 
-  module _ (left : not fits ≡ false) (t : List ℕ) (opens : fits ≡ true → t ≡ openedBlocks key h (length h / blockBytes))
+  module _ (left : not fits ≡ false) (t : List ℕ) (opens : fits ≡ true → t ≡ openedContent key h)
       (fit : Bool) (ec : fit ≡ contentFits name party (length h / blockBytes) t) where
-    et : t ≡ openedBlocks key h (length h / blockBytes)
-    et = opens (not-false fits left)
+    pub whole-opens : t ≡ openedContent key h
+    whole-opens = opens (not-false fits left)
 
-    tested : fit ≡ contentFits name party (length h / blockBytes) (openedBlocks key h (length h / blockBytes))
-    tested = ec ∙ ap (contentFits name party (length h / blockBytes)) et
+    tested : fit ≡ contentFits name party (length h / blockBytes) (openedContent key h)
+    tested = ec ∙ ap (contentFits name party (length h / blockBytes)) whole-opens
 
-    pub whole-11 : (r : Examined) → not fit ≡ true → r ≡ refused 11
-        → r ≡ answerFor (whyNotOpened key name party h) key h
+    pub whole-11 : not fit ≡ true → 11 ≡ whyNotOpened key name party h
     unfolding whyNotOpened
-    whole-11 r e er =
-        refused-as _ 11 key h r er
-        (goes-on _ 10 _ (rw ef at left) (turned-down _ 11 _ (rw tested at e))) (λ z. omega arith)
+    whole-11 e = goes-on _ 10 _ (rw ef at left) (turned-down _ 11 _ (rw tested at e))
 
-    pub whole-reads : not fit ≡ false → length t ≡ textBytes * (length h / blockBytes)
-        → (lengthIn t ≤ mostElements) × (size (lengthIn t) ≤ length t)
-    whole-reads e l = fits-reads name party (length h / blockBytes) t (sym ec ∙ not-false fit e) l
+    pub whole-0 : not fit ≡ false → 0 ≡ whyNotOpened key name party h
+    unfolding whyNotOpened
+    whole-0 e = goes-on _ 10 _ (rw ef at left) (goes-on _ 11 _ (rw tested at e) refl)
 
-    pub whole-0 : (number : ℕ) (s : Set) → not fit ≡ false → number ≡ setNumber h → s ≡ setIn number t
-        → record { why = 0; set = s } ≡ answerFor (whyNotOpened key name party h) key h
-    unfolding whyNotOpened openedSet
-    whole-0 number s e en es =
-        opened-as _ key h s (goes-on _ 10 _ (rw ef at left) (goes-on _ 11 _ (rw tested at e) refl))
-        (es ∙ ap₂ setIn en et)
+-- the text in a longer room
+pub at-front : (key h t rest : List ℕ) → t ≡ openedContent key h
+    → take (textBytes * (length h / blockBytes)) (t ++ rest) ≡ openedContent key h
+at-front key h t rest e =
+    take-at t rest _ (ap length e ∙ length-opened key h (length h / blockBytes) (omega arith)) ∙ e
+
+-- ---- any bytes: 4 and 7 before them
 
 module _ (key name h : List ℕ) (party last : ℕ) (whole : Bool)
     (ew : whole
     ≡ eqb (length h % blockBytes) 0 && (leb 3 (length h / blockBytes) && leb (length h / blockBytes) mostBlocks)) where
-  pub examined-4 : (r : Examined) → not whole ≡ true → r ≡ refused 4 → r ≡ examined key name party last h
-  unfolding examined whyNot wholeBlocks
-  examined-4 r e er = refused-as _ 4 key h r er (turned-down _ 4 _ (rw ew at e)) (λ z. omega arith)
+  pub not-whole : not whole ≡ true → 4 ≡ whyNot key name party last h
+  unfolding whyNot wholeBlocks
+  not-whole e = turned-down _ 4 _ (rw ew at e)
 
   module _ (left : not whole ≡ false) where
     pub some-blocks : (3 ≤ length h / blockBytes) × (length h / blockBytes ≤ mostBlocks)
@@ -76,14 +69,66 @@ module _ (key name h : List ℕ) (party last : ℕ) (whole : Bool)
         (leb-true 3 (length h / blockBytes) (b .0), leb-true (length h / blockBytes) mostBlocks (b .1))
 
     module _ (number : ℕ) (en : number ≡ setNumber h) where
-      pub examined-7 : (r : Examined) → not (ltb last number) ≡ true → r ≡ refused 7
-          → r ≡ examined key name party last h
-      unfolding examined whyNot wholeBlocks
-      examined-7 r e er =
-          refused-as _ 7 key h r er (goes-on _ 4 _ (rw ew at left) (turned-down _ 7 _ (rw en at e))) (λ z. omega arith)
+      pub stale : not (ltb last number) ≡ true → 7 ≡ whyNot key name party last h
+      unfolding whyNot wholeBlocks
+      stale e = goes-on _ 4 _ (rw ew at left) (turned-down _ 7 _ (rw en at e))
 
-      pub examined-whole : (r : Examined) → not (ltb last number) ≡ false
-          → r ≡ answerFor (whyNotOpened key name party h) key h → r ≡ examined key name party last h
-      unfolding examined whyNot wholeBlocks
-      examined-whole r e er =
-          er ∙ ap (λ (k : ℕ). answerFor k key h) (goes-on _ 4 _ (rw ew at left) (goes-on _ 7 _ (rw en at e) refl))
+      pub by-content : (why : ℕ) → not (ltb last number) ≡ false → why ≡ whyNotOpened key name party h
+          → why ≡ whyNot key name party last h
+      unfolding whyNot wholeBlocks
+      by-content why e ey = goes-on _ 4 _ (rw ew at left) (goes-on _ 7 _ (rw en at e) ey)
+
+-- ---- the answers
+
+module _ (key name h : List ℕ) (party last why : ℕ) (ey : why ≡ whyNot key name party last h) where
+  pub examined-refused : (r : Examined) → (why ≡ 0 → ⊥) → r ≡ refused why → r ≡ examined key name party last h
+  unfolding refused examined
+  examined-refused r some e =
+      e ∙ (λ i. record { why = ey i; set = Refusals.refused (openedSet key h) noSet ey some i })
+
+  pub told-refused : (why ≡ 0 → ⊥) → record { why = why; terms = noTerms } ≡ told key name party last h
+  unfolding told
+  told-refused some = λ i. record { why = ey i; terms = Refusals.refused (openedSet key h .terms) noTerms ey some i }
+
+  module _ (none : why ≡ 0) where
+    -- what it has been tested for: whole blocks, ..
+    fitting : (wholeBlocks h ≡ true) × (contentFits name party (length h / blockBytes) (openedContent key h) ≡ true)
+    unfolding whyNot whyNotOpened
+    fitting =
+        let whole = passed _ (sym ey ∙ none) in
+        let above = passed _ (whole .1) in
+        let opened = passed _ (above .1) in
+        (whole .0, passed _ (opened .1) .0)
+
+    pub its-blocks : (3 ≤ length h / blockBytes) × (length h / blockBytes ≤ mostBlocks)
+    unfolding wholeBlocks
+    its-blocks = some-blocks key name h party last (wholeBlocks h) refl (ap not (fitting .0))
+
+    -- .. and what can be read of them
+    pub has-terms : (room : List ℕ) → textBytes * (length h / blockBytes) ≤ length room
+        → offset 0 maskField ≤ length (take (textBytes * (length h / blockBytes)) room)
+    unfolding offset widths sumFirst
+    has-terms room l = omega (arith, length-take-le (textBytes * (length h / blockBytes)) room l, its-blocks .0)
+
+    module _ (t : List ℕ) (et : t ≡ openedContent key h) where
+      pub reads : length t ≡ textBytes * (length h / blockBytes)
+          → (lengthIn t ≤ mostElements) × (size (lengthIn t) ≤ length t)
+      reads l =
+          fits-reads name party (length h / blockBytes) t
+          (ap (contentFits name party (length h / blockBytes)) et ∙ fitting .1) l
+
+      pub examined-taken : (number : ℕ) (s : Set) → number ≡ setNumber h → s ≡ setIn number t
+          → record { why = why; set = s } ≡ examined key name party last h
+      unfolding examined openedSet
+      examined-taken number s en es =
+          λ i. record { why = ey i; set = (es ∙ ap₂ setIn en et ∙ Refusals.taken (openedSet key h) noSet ey none) i }
+
+      pub told-taken : (terms : Terms) → terms ≡ termsIn t
+          → record { why = why; terms = terms } ≡ told key name party last h
+      unfolding told openedSet setIn
+      told-taken terms es =
+          λ i.
+          record {
+            why = ey i;
+            terms = (es ∙ ap termsIn et ∙ Refusals.taken (openedSet key h .terms) noTerms ey none) i;
+          }

@@ -4,12 +4,13 @@ ghost use mathlib.Core.Path.{_≡_};
 ghost use mathlib.Core.Bool.{true, _&&_};
 ghost use Prim.Native.Nat.{_+_, _*_, _/_, _%_, _^_, _≤_};
 ghost use lib.Dec.{eqb, leb};
-ghost use lib.ListN.{length};
+ghost use lib.ListN.{length, take};
 ghost use Rattle.base_words.specs.Bytes.{wordAt, wordsAt};
 ghost use Rattle.aead_seal.specs.Aead.{polyKey, opens};
-ghost use Rattle.half_content.specs.Content.{blockBytes, textBytes, mostBlocks, part};
-ghost use Rattle.half_seal.specs.Half.{header, textIn, blockFits, firstFit, openedBlocks, setNumber, whyNotOpened};
-ghost use Rattle.half_open.specs.Examined.{refused as refusedFor, answerFor, examined};
+ghost use Rattle.half_content.specs.Content.{blockBytes, textBytes, mostBlocks, roomBytes, part};
+ghost use Rattle.half_seal.specs.Half.{header, textIn, blockFits, firstFit, openedBlocks, openedContent, setNumber};
+ghost use Rattle.half_seal.specs.Half.{whyNotOpened, whyNot};
+ghost use Rattle.half_open.specs.Examined.{refused as refusedFor, examined, told};
 use base_messages::NAME;
 use half_content::BLOCK;
 use half_content::MOST_BLOCKS;
@@ -17,6 +18,7 @@ use half_content::ROOM;
 use half_content::Set;
 use half_content::TAG_AT;
 use half_content::TEXT;
+use measure_table::Terms;
 
 fn joined(low: u32, high: u32) -> u64
     ensures { λ r. ⌜ r ≡ low + high * 2 ^ 32 ⌝ }
@@ -124,6 +126,12 @@ pub struct Examined {
     pub set: Set,
 }
 
+// What a trial is told of it: why, and measure code and L, or zeros.
+pub struct Told {
+    pub why: u32,
+    pub terms: Terms,
+}
+
 fn refused(why: u32) -> Examined
     ensures { λ r. ⌜ r ≡ refusedFor why ⌝ }
 {
@@ -133,50 +141,53 @@ fn refused(why: u32) -> Examined
     }
 }
 
-// Opens whole blocks into `text`.
-fn open_whole(
+// Why whole blocks are turned down (0 if they are not): they are then opened into `text`.
+fn why_not_opened(
     key: &[u8; 32],
     name: [u8; NAME],
     party: u32,
     number: u64,
     h: &[u8],
     text: &mut [u8],
-) -> Examined
+) -> u32
     requires { ⌜ (3 ≤ length (now h) / blockBytes) × (length (now h) / blockBytes ≤ mostBlocks)
         × (number ≡ setNumber (now h)) × (length (now text) ≡ textBytes * (length (now h) / blockBytes)) ⌝ }
-    ensures { λ r. ⌜ r ≡ answerFor (whyNotOpened (now (key .entry)) name party (now (h .entry)))
-        (now (key .entry)) (now (h .entry)) ⌝ }
+    ensures { λ r. ⌜ r ≡ whyNotOpened (now (key .entry)) name party (now (h .entry)) ⌝ }
+    ensures { λ r. ⌜ (r ≡ 0 → now (text .exit) ≡ openedContent (now (key .entry)) (now (h .entry))) ⌝ }
 {
     let count = h.len() / BLOCK;
     if !open_blocks(key, number, count, h, text) {
-        return refused(base_messages::BAD_BLOCK);
+        return base_messages::BAD_BLOCK;
     }
     if !half_reading::content_fits(name, party, count, text) {
-        return refused(base_messages::BAD_CONTENT);
+        return base_messages::BAD_CONTENT;
     }
-    Examined {
-        why: 0,
-        set: half_reading::read_set(number, text),
-    }
+    0
 }
 
-// The same, with room for any half.
-fn open_within(
+// Why a half is turned down (0 if it is not): its text then stands at the start of `room`.
+fn why_not(
     key: &[u8; 32],
     name: [u8; NAME],
     party: u32,
-    number: u64,
+    last: u64,
     h: &[u8],
-    room: [u8; ROOM],
-) -> Examined
-    requires { ⌜ (3 ≤ length (now h) / blockBytes) × (length (now h) / blockBytes ≤ mostBlocks)
-        × (number ≡ setNumber (now h)) ⌝ }
-    ensures { λ r. ⌜ r ≡ answerFor (whyNotOpened (now (key .entry)) name party (now (h .entry)))
-        (now (key .entry)) (now (h .entry)) ⌝ }
+    room: &mut [u8],
+) -> u32
+    requires { ⌜ length (now room) ≡ roomBytes ⌝ }
+    ensures { λ r. ⌜ r ≡ whyNot (now (key .entry)) name party last (now (h .entry)) ⌝ }
+    ensures { λ r. ⌜ (r ≡ 0 → take (textBytes * (length (now (h .entry)) / blockBytes)) (now (room .exit))
+        ≡ openedContent (now (key .entry)) (now (h .entry))) ⌝ }
 {
-    let mut text = room;
+    if !is_whole(h.len()) {
+        return base_messages::WRONG_LENGTH;
+    }
+    let number = load_number(h);
+    if !(last < number) {
+        return base_messages::WRONG_NUMBER;
+    }
     let size = TEXT * (h.len() / BLOCK);
-    open_whole(key, name, party, number, h, &mut text[..size])
+    why_not_opened(key, name, party, number, h, &mut room[..size])
 }
 
 // Examines a half for a box of this key, padded name and party whose last number is `last`. Any
@@ -184,12 +195,33 @@ fn open_within(
 pub fn examine(key: &[u8; 32], name: [u8; NAME], party: u32, last: u64, h: &[u8]) -> Examined
     ensures { λ r. ⌜ r ≡ examined (now (key .entry)) name party last (now (h .entry)) ⌝ }
 {
-    if !is_whole(h.len()) {
-        return refused(base_messages::WRONG_LENGTH);
+    let mut room = [0u8; ROOM];
+    let why = why_not(key, name, party, last, h, &mut room);
+    if why != 0 {
+        return refused(why);
     }
-    let number = load_number(h);
-    if !(last < number) {
-        return refused(base_messages::WRONG_NUMBER);
+    let size = TEXT * (h.len() / BLOCK);
+    Examined {
+        why,
+        set: half_reading::read_set(load_number(h), &room[..size]),
     }
-    open_within(key, name, party, number, h, [0; ROOM])
+}
+
+// The same with no set read: of a half that is taken, measure code and L alone.
+pub fn tell(key: &[u8; 32], name: [u8; NAME], party: u32, last: u64, h: &[u8]) -> Told
+    ensures { λ r. ⌜ r ≡ told (now (key .entry)) name party last (now (h .entry)) ⌝ }
+{
+    let mut room = [0u8; ROOM];
+    let why = why_not(key, name, party, last, h, &mut room);
+    if why != 0 {
+        return Told {
+            why,
+            terms: Terms { code: 0, n: 0 },
+        };
+    }
+    let size = TEXT * (h.len() / BLOCK);
+    Told {
+        why,
+        terms: half_reading::terms_in(&room[..size]),
+    }
 }

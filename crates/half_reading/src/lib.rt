@@ -33,7 +33,7 @@ fn length_in(b: &[u8]) -> usize
 }
 
 // Measure code and L.
-fn terms_in(b: &[u8]) -> Terms
+pub fn terms_in(b: &[u8]) -> Terms
     requires { ⌜ offset 0 maskField ≤ length (now b) ⌝ }
     ensures { λ r. ⌜ (r ≡ termsIn (now (b .entry))) × (r .n ≡ lengthIn (now (b .entry))) × (r .n < 65536) ⌝ }
 {

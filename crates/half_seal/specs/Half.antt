@@ -9,7 +9,8 @@ use Rattle.base_words.specs.Numbers.{bytes, number}
 use Rattle.aead_seal.specs.Aead.{cipher, tagFor, opens}
 use Rattle.base_messages.specs.Messages.{wrongLength, wrongNumber, badBlock, badContent, unless}
 use Rattle.half_content.specs.declared.Set.{Set}
-use Rattle.half_content.specs.Content.{blockBytes, textBytes, mostBlocks, part, blockCount, plain, setIn, contentFits}
+use Rattle.half_content.specs.Content.{blockBytes, textBytes, mostBlocks, part, blockCount, plain, nameField, field}
+use Rattle.half_content.specs.Content.{setIn, contentFits}
 
 -- "A block is 512 bytes: set number (8, little-endian), block index from 0 (4, little-endian), 484 sealed bytes, tag
 -- (16). Sealing is RFC 8439's ChaCha20-Poly1305 under the box's key, with the first twelve bytes as nonce and as
@@ -64,6 +65,10 @@ unfoldable pub openedBlocks : List ℕ → List ℕ → ℕ → List ℕ
 openedBlocks key h zero = []
 openedBlocks key h (suc i) = openedBlocks key h i ++ textIn key (blockAt h i)
 
+-- all of a half's blocks
+abbrev pub openedContent : List ℕ → List ℕ → List ℕ
+openedContent key h = openedBlocks key h (length h / blockBytes)
+
 -- "a half 3 to 16 whole blocks" [SPEC 23.4]
 unfoldable pub wholeBlocks : List ℕ → Bool
 wholeBlocks h =
@@ -74,13 +79,16 @@ unfoldable pub whyNotOpened : List ℕ → List ℕ → ℕ → List ℕ → ℕ
 whyNotOpened key name party h =
     let count : ℕ = length h / blockBytes in
     unless (firstFit key h count) badBlock
-    (unless (contentFits name party count (openedBlocks key h count)) badContent 0)
+    (unless (contentFits name party count (openedContent key h)) badContent 0)
 
 -- why a half is turned down where the box's last number is `last`
 unfoldable pub whyNot : List ℕ → List ℕ → ℕ → ℕ → List ℕ → ℕ
 whyNot key name party last h =
     unless (wholeBlocks h) wrongLength (unless (ltb last (setNumber h)) wrongNumber (whyNotOpened key name party h))
 
--- the set that it opens to
+-- the set that it opens to, and the door's name that stands in it
 unfoldable pub openedSet : List ℕ → List ℕ → Set
-openedSet key h = setIn (setNumber h) (openedBlocks key h (length h / blockBytes))
+openedSet key h = setIn (setNumber h) (openedContent key h)
+
+unfoldable pub openedName : List ℕ → List ℕ → List ℕ
+openedName key h = field (openedContent key h) nameField

@@ -1,11 +1,16 @@
 use native.Mathlib.Omega.{arith}
-use Rattle.half_open.proofs.Whole.{examined-4, examined-7, examined-whole, some-blocks}
+use mathlib.Core.Path.{sym}
+use lib.Seq.{length-take-le}
+use Rattle.half_open.proofs.Whole.{examined-refused, examined-taken, its-blocks, reads}
 use borrow.Author.Needs.{needs}
 use Rattle.half_open.proofs.examine.Statement.{statement}
 use Rattle.half_open.proofs.examine.Tie as tie
 
-is-whole-requires : tie.Need-is-whole-requires
-is-whole-requires c κs = search needs
+slice-aggregate-why-not : tie.Need-slice-aggregate-why-not
+slice-aggregate-why-not c = search needs
+
+why-not-requires : tie.Need-why-not-requires
+why-not-requires c κs = search needs
 
 refused-requires : tie.Need-refused-requires
 refused-requires c κs = search needs
@@ -13,70 +18,57 @@ refused-requires c κs = search needs
 returns : tie.Need-returns
 returns c =
     let at-if1 = c .before in
-    let at-is-whole = at-if1 .before in
-    let start = at-is-whole .before .before in
-    examined-4 (start .args .key .now) (start .args .name) (start .args .h .now)
-    (start .args .party) (start .args .last) (at-is-whole .is-whole .result)
-    (at-is-whole .is-whole .ensures) _ (at-if1 .if1 .taken) (c .refused .ensures)
+    let at-why = at-if1 .before .before in
+    examined-refused _ _ _ _ _ _ (at-why .why-not .ensures .0) _ (at-if1 .if1 .taken) (c .refused .ensures)
+
+mul-size : tie.Need-mul-size
+mul-size c = search needs
 
 load-number-requires : tie.Need-load-number-requires
-load-number-requires c κs = omega (
-  arith,
-  some-blocks (c .before .before .before .args .key .now)
-      (c .before .before .before .args .name) (c .before .before .before .args .h .now)
-      (c .before .before .before .args .party) (c .before .before .before .args .last)
-      (c .before .is-whole .result) (c .before .is-whole .ensures) (c .if1 .left),
-)
+load-number-requires c κs =
+    let at-why = c .before .before in
+    omega (arith, its-blocks _ _ _ _ _ _ (at-why .why-not .ensures .0) (c .if1 .left) .0)
 
-refused-requires-2 : tie.Need-refused-requires-2
-refused-requires-2 c κs = search needs
+array-share-prefix-room : tie.Need-array-share-prefix-room
+array-share-prefix-room c =
+    let at-if1 = c .before in
+    let at-why = at-if1 .before .before in
+    omega (arith, its-blocks _ _ _ _ _ _ (at-why .why-not .ensures .0) (at-if1 .if1 .left) .1)
+
+slice-aggregate-read-set : tie.Need-slice-aggregate-read-set
+slice-aggregate-read-set c =
+    let at-if1 = c .before .before in
+    let at-why = at-if1 .before .before in
+    sym (length-take-le _ _
+    (omega (arith, its-blocks _ _ _ _ _ _ (at-why .why-not .ensures .0) (at-if1 .if1 .left) .1)))
+
+read-set-requires : tie.Need-read-set-requires
+read-set-requires c κs =
+    let at-if1 = c .before .before in
+    let at-why = at-if1 .before .before in
+    let why = at-why .why-not in
+    reads _ _ _ _ _ _ (why .ensures .0) (at-if1 .if1 .left) _ (why .ensures .1 (at-if1 .if1 .left))
+    (length-take-le _ _ (omega (arith, its-blocks _ _ _ _ _ _ (why .ensures .0) (at-if1 .if1 .left) .1)))
 
 returns-2 : tie.Need-returns-2
 returns-2 c =
-    let at-if2 = c .before in
-    let at-load-number = at-if2 .before in
-    let at-if1 = at-load-number .before in
-    let at-is-whole = at-if1 .before in
-    let start = at-is-whole .before .before in
-    examined-7 (start .args .key .now) (start .args .name) (start .args .h .now)
-    (start .args .party) (start .args .last) (at-is-whole .is-whole .result)
-    (at-is-whole .is-whole .ensures) (at-if1 .if1 .left) (at-load-number .load-number .result)
-    (at-load-number .load-number .ensures) _ (at-if2 .if2 .taken) (c .refused2 .ensures)
-
-open-within-requires : tie.Need-open-within-requires
-open-within-requires c κs =
-    let at-load-number = c .before in
-    let at-if1 = at-load-number .before in
-    let at-is-whole = at-if1 .before in
-    let start = at-is-whole .before .before in (
-      some-blocks (start .args .key .now) (start .args .name) (start .args .h .now) (start .args .party)
-          (start .args .last) (at-is-whole .is-whole .result) (at-is-whole .is-whole .ensures) (at-if1 .if1 .left) .0,
-      some-blocks (start .args .key .now) (start .args .name) (start .args .h .now) (start .args .party)
-          (start .args .last) (at-is-whole .is-whole .result) (at-is-whole .is-whole .ensures) (at-if1 .if1 .left) .1,
-      at-load-number .load-number .ensures,
-    )
-
-returns-3 : tie.Need-returns-3
-returns-3 c =
-    let at-if2 = c .before in
-    let at-load-number = at-if2 .before in
-    let at-if1 = at-load-number .before in
-    let at-is-whole = at-if1 .before in
-    let start = at-is-whole .before .before in
-    examined-whole (start .args .key .now) (start .args .name) (start .args .h .now)
-    (start .args .party) (start .args .last) (at-is-whole .is-whole .result)
-    (at-is-whole .is-whole .ensures) (at-if1 .if1 .left) (at-load-number .load-number .result)
-    (at-load-number .load-number .ensures) _ (at-if2 .if2 .left) (c .open-within .ensures)
+    let at-if1 = c .before .before .before in
+    let at-why = at-if1 .before .before in
+    let why = at-why .why-not in
+    examined-taken _ _ _ _ _ _ (why .ensures .0) (at-if1 .if1 .left) _ (why .ensures .1 (at-if1 .if1 .left)) _ _
+    (c .before .before .load-number .ensures) (c .read-set .ensures)
 
 pub examine-spec : {M : Type 1} → statement M
 examine-spec =
     tie.close
     (tie.spec
-    is-whole-requires
+    slice-aggregate-why-not
+    why-not-requires
     refused-requires
     returns
+    mul-size
     load-number-requires
-    refused-requires-2
-    returns-2
-    open-within-requires
-    returns-3)
+    array-share-prefix-room
+    slice-aggregate-read-set
+    read-set-requires
+    returns-2)

@@ -3,8 +3,8 @@ use borrow.Author.Needs.{needs}
 use Rattle.call_party.proofs.Party.load.Statement.{statement}
 use Rattle.call_party.proofs.Party.load.Tie as tie
 
-sound-requires : tie.Need-sound-requires
-sound-requires c κs = search needs
+load-turn-requires : tie.Need-load-turn-requires
+load-turn-requires c κs = search needs
 
 high-water-requires : tie.Need-high-water-requires
 high-water-requires c κs = search needs
@@ -27,7 +27,7 @@ returns c =
     let at-examine = at-if2 .before in
     let at-above = at-examine .before .before .before in
     let at-if1 = at-above .before .before .before in
-    load-opens _ _ (at-if1 .before .sound .ensures) _ (at-if1 .if1 .taken) _ (at-above .high-water .ensures) _
+    load-opens _ _ (at-if1 .before .load-turn .ensures) _ (at-if1 .if1 .taken) _ (at-above .high-water .ensures) _
     (at-examine .examine .ensures) _ _ (at-if2 .if2 .taken) (at-if3 .if3 .taken) (at-opened .opened .ensures)
     (c .no-set .ensures)
 
@@ -38,7 +38,7 @@ returns-2 c =
     let at-examine = at-if2 .before in
     let at-above = at-examine .before .before .before in
     let at-if1 = at-above .before .before .before in
-    load-waits _ _ (at-if1 .before .sound .ensures) _ (at-if1 .if1 .taken) _ (at-above .high-water .ensures) _
+    load-waits _ _ (at-if1 .before .load-turn .ensures) _ (at-if1 .if1 .taken) _ (at-above .high-water .ensures) _
     (at-examine .examine .ensures) (at-if2 .if2 .taken) (c .if3 .left)
 
 -- it is turned down
@@ -47,14 +47,14 @@ returns-3 c =
     let at-examine = c .before in
     let at-above = at-examine .before .before .before in
     let at-if1 = at-above .before .before .before in
-    load-refused _ _ (at-if1 .before .sound .ensures) _ (at-if1 .if1 .taken) _ (at-above .high-water .ensures) _
+    load-refused _ _ (at-if1 .before .load-turn .ensures) _ (at-if1 .if1 .taken) _ (at-above .high-water .ensures) _
     (at-examine .examine .ensures) (c .if2 .left)
 
 -- out of turn
 returns-4 : tie.Need-returns-4
-returns-4 c = load-3 _ _ (c .before .sound .ensures) _ (c .if1 .left)
+returns-4 c = load-3 _ _ (c .before .load-turn .ensures) _ (c .if1 .left)
 
 pub load-spec : {M : Type 1} → statement M
 load-spec =
-    tie.close (tie.spec sound-requires high-water-requires examine-requires opened-requires no-set-requires
+    tie.close (tie.spec load-turn-requires high-water-requires examine-requires opened-requires no-set-requires
     returns returns-2 returns-3 returns-4)
