@@ -35,6 +35,8 @@ pub mod party;
 mod party_ahead;
 #[cfg(test)]
 mod party_marks;
+#[cfg(test)]
+mod party_trial;
 pub mod poly1305;
 pub mod refusal;
 pub mod replay;

@@ -254,8 +254,8 @@ pub mod tests {
     use crate::sample::Source;
     use crate::share;
 
-    const KEYS: [[u8; 32]; 2] = [[1; 32], [2; 32]];
-    const NAME: Name = *b"Hut 4\0\0\0\0\0\0\0\0\0\0\0";
+    pub const KEYS: [[u8; 32]; 2] = [[1; 32], [2; 32]];
+    pub const NAME: Name = *b"Hut 4\0\0\0\0\0\0\0\0\0\0\0";
     pub const NUMBER: u64 = 11;
 
     pub fn started(party: usize) -> Party {
