@@ -55,6 +55,7 @@ pub mod replay_older;
 pub mod replay_pairs;
 pub mod replay_script;
 pub mod replay_states;
+pub mod replay_trial;
 pub mod rfc8439;
 pub mod rule;
 pub mod sample;
