@@ -280,7 +280,7 @@ impl Replay {
     }
 
     /// The bytes of `load`.
-    fn cut_half(&self, fields: &[&str]) -> Option<Vec<u8>> {
+    pub fn cut_half(&self, fields: &[&str]) -> Option<Vec<u8>> {
         let [from, back, count, at] = fields else {
             return None;
         };
@@ -294,7 +294,7 @@ impl Replay {
     }
 
     /// The bytes of `mixed`.
-    fn mixed_half(&self, at: &str, fields: &[&str]) -> Option<Vec<u8>> {
+    pub fn mixed_half(&self, at: &str, fields: &[&str]) -> Option<Vec<u8>> {
         let [to, back, from] = fields else {
             return None;
         };

@@ -48,7 +48,7 @@ impl Script {
     /// Lists in which halves are tried before they are loaded, and others are only tried.
     pub fn tried_lists(&mut self) {
         self.tries = true;
-        self.one_list("Trials", &[1, 2, 17], 50, Hazards::Network);
+        self.one_list("Trials", &[1, 2, 17], 48, Hazards::Network);
         self.one_list("Tries", &[1, 2], 60, Hazards::Host);
         self.tries = false;
     }

@@ -119,9 +119,12 @@ impl Script {
             for _ in 0..2 {
                 self.told(&self.load_line(at, 0), Measure::Hamming, 18);
             }
-            match (at as u32 + phase) % 2 {
-                0 => self.tried_on_impossible(at),
-                _ => self.tried_with_faults(at),
+            let impossible = (at as u32 + phase).is_multiple_of(2);
+            if impossible {
+                self.tried_on_impossible(at);
+            }
+            if !impossible || phase == IDLE {
+                self.tried_with_faults(at);
             }
             assert_eq!(self.show(BOXES[at]), before);
             self.loaded(at);
@@ -154,10 +157,7 @@ impl Script {
     fn tried_after_the_load(&mut self, at: usize) {
         let waits = self.replay.boxes[at].waiting.length != 0;
         let before = self.show(BOXES[at]);
-        for (wrong, refusal) in [(&[][..], 7), (&[7, 10], 7)] {
-            let line = self.wrong_load(at, wrong, 0);
-            self.turned_down(&line, if waits { 3 } else { refusal });
-        }
+        self.turned_down(&self.load_line(at, 0), if waits { 3 } else { 7 });
         let empty = format!("bytes {} -", BOXES[at]);
         self.turned_down(&empty, if waits { 3 } else { 4 });
         self.dealt(Measure::Scalar, 2, 0);
@@ -295,7 +295,7 @@ impl Script {
     /// Open and last number that disagree, as a host may put them: a half must be above both.
     /// With none open it is compared with the last one alone.
     fn tried_where_numbers_disagree(&mut self, at: usize) {
-        self.start("Disagree", [70, 60, 60, 60]);
+        self.start("Odd", [70, 60, 60, 60]);
         self.claim.off = true;
         let first = self.opened(at, Measure::Scalar, 2, LOADED);
         for length in [2, 3, 4] {
@@ -421,7 +421,7 @@ impl Script {
 
     /// None of them changes a state.
     fn bad_lines_of_trials(&mut self) {
-        self.start("Bad trials", [0; 4]);
+        self.start("Bad", [0; 4]);
         self.dealt(Measure::Scalar, 1, 0);
         self.dealt(Measure::Scalar, 17, 0);
         let before = self.show(BOXES[0]);
@@ -444,11 +444,194 @@ impl Script {
         self.highest_tried_numbers();
         self.tried_at_other_boxes();
         self.tried_bytes();
-        self.start("Amid trials", [3, 2, 1, 0]);
+        self.start("Amid", [3, 2, 1, 0]);
         for turn in [0, 1] {
             self.check_amid_trials(turn);
         }
         self.tried_lists();
         self.bad_lines_of_trials();
+    }
+}
+
+#[cfg(test)]
+mod tests {
+    use super::*;
+    use crate::opened::NO_SET;
+    use crate::party::Told;
+    use crate::refusal::{self, Refusal};
+    use crate::sealed::BLOCK_BYTES;
+    use std::collections::BTreeSet;
+
+    /// A trial of the script: the state it is handed, the bytes, and what it is answered by.
+    struct Tried {
+        at: usize,
+        state: Party,
+        half: Vec<u8>,
+        answer: Result<Told, Refusal>,
+    }
+
+    /// Each trial of the script that is no bad line.
+    fn tried() -> Vec<Tried> {
+        let (mut script, mut replay) = (Script::default(), Replay::default());
+        script.trials();
+        let mut tried = Vec::new();
+        for case in &script.list {
+            let fields: Vec<&str> = case.line.split(' ').collect();
+            let half = match fields[0] {
+                "trial" if fields.len() == 6 => replay.cut_half(&fields[2..]),
+                "trial-mixed" => replay.mixed_half(fields[1], &fields[2..]),
+                "trial-bytes" => field::parse(fields[2]).ok(),
+                _ => None,
+            };
+            let at = BOXES.iter().position(|name| fields.get(1) == Some(name));
+            if let (Some(at), Some(half), false) = (at, half, case.expected.starts_with("bad")) {
+                let state = replay.boxes[at].clone();
+                let answer = state.trial(&half);
+                assert!(case
+                    .expected
+                    .starts_with(&refusal::number(&answer).to_string()));
+                tried.push(Tried {
+                    at,
+                    state,
+                    half,
+                    answer,
+                });
+            }
+            replay.answer(&case.line);
+        }
+        tried
+    }
+
+    /// Every answer at each box in each phase, with a set waiting and without.
+    #[test]
+    fn every_answer_is_there_in_every_phase() {
+        let trials = tried();
+        let seen: BTreeSet<_> = trials
+            .iter()
+            .map(|tried| {
+                let (state, waits) = (&tried.state, tried.state.waiting.length != 0);
+                (tried.at, state.phase, waits, refusal::number(&tried.answer))
+            })
+            .collect();
+        for at in [0, 1] {
+            for phase in PHASES {
+                for number in [0, 3, 4, 7, 10, 11] {
+                    assert!(
+                        seen.contains(&(at, phase, false, number)),
+                        "{at} {phase} {number}"
+                    );
+                }
+                assert!(seen.contains(&(at, phase, true, 3)), "{at} {phase}");
+            }
+        }
+        assert!(seen
+            .iter()
+            .all(|(_, _, waits, number)| !waits || *number == 3));
+    }
+
+    type Slip = (&'static str, fn(&Party, &[u8]) -> Result<Told, Refusal>);
+
+    /// A trial on a state with something changed that it would look at.
+    fn on(state: &Party, half: &[u8], change: fn(&mut Party)) -> Result<Told, Refusal> {
+        let mut state = state.clone();
+        change(&mut state);
+        state.trial(half)
+    }
+
+    /// A trial that tells something else in place of code and L.
+    fn telling(state: &Party, half: &[u8], (code, length): (u32, u32)) -> Result<Told, Refusal> {
+        let told = Told {
+            name: state.name,
+            code,
+            length,
+        };
+        state.trial(half).map(|_| told)
+    }
+
+    /// Careless trials of the papers' readings, and some more.
+    const SLIPS: [Slip; 13] = [
+        ("3 with a set open", |state, half| match state.phase {
+            IDLE => state.trial(half),
+            _ => Err(Refusal::Turn),
+        }),
+        ("tells of the open set", |state, half| match state.phase {
+            IDLE => state.trial(half),
+            _ => telling(state, half, (state.set.code, state.set.length)),
+        }),
+        ("tells of the waiting set", |state, half| {
+            match state.waiting.length {
+                0 => state.trial(half),
+                length => Ok(Told {
+                    name: state.name,
+                    code: state.waiting.code,
+                    length,
+                }),
+            }
+        }),
+        ("tells of what waits", |state, half| match state.phase {
+            IDLE => state.trial(half),
+            _ => telling(state, half, (state.waiting.code, state.waiting.length)),
+        }),
+        ("tags before the number", |state, half| {
+            let any_number = on(state, half, |state| (state.last, state.set.number) = (0, 0));
+            match any_number {
+                Err(Refusal::Block) => any_number,
+                _ => state.trial(half),
+            }
+        }),
+        ("the number before the length", |state, half| {
+            let label = half.first_chunk().map(|number| u64::from_le_bytes(*number));
+            match (state.trial(half), label) {
+                (Err(Refusal::Length), Some(number)) if number <= state.last => {
+                    Err(Refusal::Number)
+                }
+                (answer, _) => answer,
+            }
+        }),
+        ("the length before the turn", |state, half| {
+            match half.len().is_multiple_of(BLOCK_BYTES) {
+                true => state.trial(half),
+                false => Err(Refusal::Length),
+            }
+        }),
+        ("above the last number alone", |state, half| {
+            on(state, half, |state| state.set.number = 0)
+        }),
+        ("above the open number alone", |state, half| {
+            match state.phase {
+                IDLE => state.trial(half),
+                _ => on(state, half, |state| state.last = 0),
+            }
+        }),
+        ("no look at what waits", |state, half| {
+            on(state, half, |state| state.waiting = NO_SET)
+        }),
+        ("no look at the state", |state, half| {
+            on(state, half, |state| {
+                (state.phase, state.party) = (IDLE, state.party.min(1));
+                (state.set, state.waiting) = (NO_SET, NO_SET);
+            })
+        }),
+        ("the low byte of L", |state, half| {
+            let told = state.trial(half)?;
+            telling(state, half, (told.code, told.length & 255))
+        }),
+        ("L rounded up", |state, half| {
+            let told = state.trial(half)?;
+            let length = told.length.next_multiple_of(2);
+            telling(state, half, (told.code, length))
+        }),
+    ];
+
+    /// For each slip there is a trial in the script that is not answered so.
+    #[test]
+    fn every_slip_is_caught() {
+        let trials = tried();
+        for (name, slip) in SLIPS {
+            let caught = trials
+                .iter()
+                .filter(|tried| slip(&tried.state, &tried.half) != tried.answer);
+            assert!(caught.count() > 0, "{name}");
+        }
     }
 }
