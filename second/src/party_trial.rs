@@ -328,7 +328,7 @@ fn every_byte_counts() {
     for place in 0..half.len() {
         let at = place % BLOCK_BYTES;
         let bit = if place == 0 { 0 } else { place % 8 };
-        if !(13..490).contains(&at) || at % 40 == 0 {
+        if !(13..490).contains(&at) || at.is_multiple_of(40) {
             let expected = if place == 0 { 7 } else { 10 };
             let half = damaged(&half, place, bit);
             for state in [&idle, &open] {

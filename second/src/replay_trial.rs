@@ -24,7 +24,7 @@ const SOME_CHOICES: [&[u32]; 6] = [&[4], &[7], &[10], &[11], &[4, 7], &[7, 10]];
 /// both not zero.
 const LENGTHS: [usize; 7] = [1, 17, 18, 56, 57, 300, MAX_LENGTH];
 
-/// What is no line of a script. A half of four blocks and one of three are the newest.
+/// What is no line of a script. The newest half has four blocks, the one before it three.
 const BAD_LINES: [&str; 15] = [
     "trial",
     "trial camera",
@@ -307,7 +307,7 @@ impl Script {
             self.turned_down(&self.half_line(at, first + step), 7);
         }
         self.told(&self.half_line(at, first + 3), Measure::Hamming, 4);
-        self.dropped(at);
+        self.put(at, [IDLE, at as u32, 0, 0]);
         self.told(&self.half_line(at, first + 1), Measure::Hamming, 2);
         // The last number is that of a set which the host has taken away while it waited.
         for step in [1, 3] {
