@@ -35,6 +35,8 @@ pub mod party;
 mod party_ahead;
 #[cfg(test)]
 mod party_marks;
+#[cfg(test)]
+mod party_trial;
 pub mod poly1305;
 pub mod refusal;
 pub mod replay;
@@ -53,6 +55,7 @@ pub mod replay_older;
 pub mod replay_pairs;
 pub mod replay_script;
 pub mod replay_states;
+pub mod replay_trial;
 pub mod rfc8439;
 pub mod rule;
 pub mod sample;

@@ -1,13 +1,13 @@
 //! A box and its calls: 01, "One check at a box" and "When a call is turned down", and 02,
-//! "Load ahead". Width and mark of a state are what its set brought, or what the host put
-//! there: no call tests them.
+//! "Load ahead" and "Trial load". Width and mark of a state are what its set brought, or what
+//! the host put there: no call tests them.
 
 use crate::content::Name;
 use crate::measure::MAX_LENGTH;
 use crate::message::{padded, secret, Label, MASKED_VECTOR, WORD};
 use crate::opened::{spread, OpenedSet, Words, NO_SET};
 use crate::refusal::Refusal;
-use crate::sealed::{self, Holder};
+use crate::sealed::{self, Holder, Set};
 
 /// How many calls of a check a box has answered: with none of them, no set is open.
 pub const IDLE: u32 = 0;
@@ -45,6 +45,17 @@ const NO_CHECK: Check = Check {
     own: 0,
     word: 0,
 };
+
+/// What a trial tells of a half that a load would take. Number, width and mark are not asked
+/// for.
+#[derive(Clone, Copy, Debug, PartialEq, Eq)]
+pub struct Told {
+    /// The door: the padded name in the half.
+    pub name: Name,
+    pub code: u32,
+    /// L, as the half carries it.
+    pub length: u32,
+}
 
 impl Default for Party {
     /// All zero.
@@ -140,15 +151,32 @@ impl Party {
         }
     }
 
-    /// Call 1: opens a set, or has it wait for the open one to end.
-    pub fn load(&mut self, half: &[u8]) -> Result<(), Refusal> {
+    /// All tests of a load, and the set that it would bring. Nothing is kept of it.
+    fn examine(&self, half: &[u8]) -> Result<Set, Refusal> {
         Refusal::Turn.unless(self.is_sound() && !self.has_waiting())?;
         let holder = Holder {
             name: &self.name,
             party: self.party as usize,
             key: &self.key,
         };
-        let set = sealed::examine(half, &holder, self.floor())?;
+        sealed::examine(half, &holder, self.floor())
+    }
+
+    /// What a load of this half would say. The number is not spent: a half that was tried can
+    /// still be loaded.
+    pub fn trial(&self, half: &[u8]) -> Result<Told, Refusal> {
+        let Set { half, .. } = self.examine(half)?;
+        Ok(Told {
+            // A half with another name in it has been refused.
+            name: self.name,
+            code: half.measure.code(),
+            length: half.own_mask.len() as u32,
+        })
+    }
+
+    /// Call 1: opens a set, or has it wait for the open one to end.
+    pub fn load(&mut self, half: &[u8]) -> Result<(), Refusal> {
+        let set = self.examine(half)?;
         self.last = set.number;
         match self.phase {
             IDLE => self.hold(LOADED, OpenedSet::new(&set)),
@@ -226,8 +254,8 @@ pub mod tests {
     use crate::sample::Source;
     use crate::share;
 
-    const KEYS: [[u8; 32]; 2] = [[1; 32], [2; 32]];
-    const NAME: Name = *b"Hut 4\0\0\0\0\0\0\0\0\0\0\0";
+    pub const KEYS: [[u8; 32]; 2] = [[1; 32], [2; 32]];
+    pub const NAME: Name = *b"Hut 4\0\0\0\0\0\0\0\0\0\0\0";
     pub const NUMBER: u64 = 11;
 
     pub fn started(party: usize) -> Party {

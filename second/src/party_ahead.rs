@@ -10,11 +10,11 @@ use crate::rule::Rule::{Between, Threshold};
 use crate::rule::{MARKED, MAX_WIDTH, ORDINARY};
 
 /// The number of the set that waits.
-const NEXT: u64 = NUMBER + 1;
+pub const NEXT: u64 = NUMBER + 1;
 
 /// The half of party 0 of a set that is not like the open one, which is of code 0 and L 2 and
 /// ordinary.
-fn half_of(number: u64) -> Vec<u8> {
+pub fn half_of(number: u64) -> Vec<u8> {
     let [half, _] = dealt_as(number, Measure::Euclid, 3, Between(50, 57));
     half
 }
@@ -28,7 +28,7 @@ fn loaded_alone() -> Party {
 }
 
 /// A box at each phase with a set open, in their order, and the other set waiting.
-fn waiting() -> [Party; 3] {
+pub fn waiting() -> [Party; 3] {
     let [_, open @ ..] = phases();
     open.map(|mut state| {
         state.load(&half_of(NEXT)).unwrap();
@@ -193,7 +193,7 @@ fn both_numbers_stay_spent_after_two_drops() {
 
 /// Waiting sets, by number, code and L, of which no state can be handed in while a set under
 /// `NUMBER` is open.
-const FAULTS: [(u64, u32, u32); 12] = [
+pub const FAULTS: [(u64, u32, u32); 12] = [
     (NUMBER, 1, 3),
     (NUMBER - 1, 1, 3),
     (0, 1, 3),
@@ -208,7 +208,7 @@ const FAULTS: [(u64, u32, u32); 12] = [
     (NUMBER, 3, 513),
 ];
 
-fn put(state: &Party, (number, code, length): (u64, u32, u32)) -> Party {
+pub fn put(state: &Party, (number, code, length): (u64, u32, u32)) -> Party {
     let mut state = state.clone();
     (state.waiting.number, state.waiting.code) = (number, code);
     state.waiting.length = length;

@@ -21,6 +21,8 @@
 //! - `mixed BOX I K J`: a load of the newest half for BOX, its block I replaced by
 //!   block J of the half that the K-th deal before the newest wrote for BOX.
 //! - `bytes BOX BYTES`: a load of these bytes.
+//! - `trial BOX FROM K BYTES AT`, `trial-mixed BOX I K J` and `trial-bytes BOX BYTES`: a
+//!   trial of the bytes that `load`, `mixed` or `bytes` with the same fields would load.
 //! - `mask BOX VECTOR ROOM`: call 2, into a buffer of ROOM words (at most 520), filled
 //!   with 2863311530 before.
 //! - `take BOX MESSAGE VECTOR`: call 3. VECTOR may be `camera` or `office`: the last
@@ -41,11 +43,11 @@
 //! Before the first start every state is zero. A refused call is answered by its
 //! number alone, a refused `clock` by its number and its place. An accepted one by `0` and
 //! then, each after a space: a deal, the tags of its two buffers; a deal by the clock, the
-//! row's place and these tags; call 2, that of its buffer; call 3, the word; call 4, the
-//! answer; the join, 0 or 1. `put`, `waiting` and `width` are answered by `put`. A tag is
-//! Poly1305's under the key of bytes 0 to 31, of a state's bytes as in `replay_states`.
-//! A line that is none of these is answered by `bad line N`, counted from 1, and changes
-//! nothing.
+//! row's place and these tags; a trial, the padded name as hex, the code and L; call 2, the
+//! tag of its buffer; call 3, the word; call 4, the answer; the join, 0 or 1. `put`, `waiting`
+//! and `width` are answered by `put`. A tag is Poly1305's under the key of bytes 0 to 31, of a
+//! state's bytes as in `replay_states`. A line that is none of these is answered by
+//! `bad line N`, counted from 1, and changes nothing.
 
 use crate::day::{Refused, Table};
 use crate::dealer::{Clock, Dealer, Order};
@@ -160,6 +162,9 @@ impl Replay {
             ("load", [at, half @ ..]) => self.load(at, self.cut_half(half)?),
             ("mixed", [at, blocks @ ..]) => self.load(at, self.mixed_half(at, blocks)?),
             ("bytes", [at, half]) => self.load(at, bytes(half)?),
+            ("trial", [at, half @ ..]) => self.trial(at, self.cut_half(half)?),
+            ("trial-mixed", [at, blocks @ ..]) => self.trial(at, self.mixed_half(at, blocks)?),
+            ("trial-bytes", [at, half]) => self.trial(at, bytes(half)?),
             ("mask", [at, vector, room]) => self.mask(at, vector, room),
             ("take", [at, message @ .., vector]) => self.take(at, message, vector),
             ("finish", [at, message @ .., word]) => self.finish(at, message, word),
@@ -275,7 +280,7 @@ impl Replay {
     }
 
     /// The bytes of `load`.
-    fn cut_half(&self, fields: &[&str]) -> Option<Vec<u8>> {
+    pub fn cut_half(&self, fields: &[&str]) -> Option<Vec<u8>> {
         let [from, back, count, at] = fields else {
             return None;
         };
@@ -289,7 +294,7 @@ impl Replay {
     }
 
     /// The bytes of `mixed`.
-    fn mixed_half(&self, at: &str, fields: &[&str]) -> Option<Vec<u8>> {
+    pub fn mixed_half(&self, at: &str, fields: &[&str]) -> Option<Vec<u8>> {
         let [to, back, from] = fields else {
             return None;
         };
@@ -305,6 +310,14 @@ impl Replay {
     fn load(&mut self, at: &str, half: Vec<u8>) -> Option<String> {
         let loaded = self.boxes[place(at)?].load(&half);
         Some(answered(loaded.map(|()| Vec::new())))
+    }
+
+    fn trial(&self, at: &str, half: Vec<u8>) -> Option<String> {
+        let told = self.boxes[place(at)?].trial(&half);
+        Some(answered(told.map(|told| {
+            let name = field::format(&told.name);
+            vec![name, told.code.to_string(), told.length.to_string()]
+        })))
     }
 
     fn mask(&mut self, at: &str, vector: &str, words: &str) -> Option<String> {

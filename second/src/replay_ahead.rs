@@ -31,7 +31,7 @@ impl Script {
     }
 
     /// A set dealt and opened at a box that is idle, and the box brought to this phase.
-    fn opened(&mut self, at: usize, measure: Measure, length: usize, phase: u32) -> u64 {
+    pub fn opened(&mut self, at: usize, measure: Measure, length: usize, phase: u32) -> u64 {
         let number = self.dealt(measure, length, 1);
         self.loaded(at);
         self.brought_to(at, phase);
@@ -39,7 +39,7 @@ impl Script {
     }
 
     /// A set dealt and loaded ahead.
-    fn ahead(&mut self, at: usize, measure: Measure, length: usize) -> u64 {
+    pub fn ahead(&mut self, at: usize, measure: Measure, length: usize) -> u64 {
         let number = self.dealt(measure, length, 1);
         self.loaded(at);
         number
@@ -137,7 +137,7 @@ impl Script {
     }
 
     /// Waiting sets that no call leaves in this phase: number, code and L.
-    fn faults(&self, at: usize) -> Vec<(u64, u32, u32)> {
+    pub fn faults(&self, at: usize) -> Vec<(u64, u32, u32)> {
         let open = self.open(at);
         match self.replay.boxes[at].phase {
             IDLE => vec![(40, 1, 3), (40, 0, 1), (40, 2, 512), (40, 1, 0)],

@@ -10,6 +10,37 @@ use crate::replay_script::{choices, hex_words, Message, Script, NOWHERE};
 use crate::rule::Rule;
 use crate::sealed;
 
+/// Loads of blocks of another place, number or box, at a box that would take the newest half
+/// of length 18, and the number that refuses each. The one before is that of its last number.
+pub fn loads_of_wrong_blocks(at: usize) -> [(String, u32); 22] {
+    let (name, other) = (BOXES[at], BOXES[1 - at]);
+    [
+        (format!("load {name} {other} 0 2048 {NOWHERE}"), 10),
+        (format!("load {name} {other} 1 2048 {NOWHERE}"), 7),
+        (format!("load {name} {other} 0 2047 {NOWHERE}"), 4),
+        (format!("load {name} {name} 0 2560 {NOWHERE}"), 10),
+        (format!("load {name} {name} 1 2560 {NOWHERE}"), 7),
+        (format!("load {name} {name} 0 512 {NOWHERE}"), 4),
+        // The newest number is odd, and one less is the last one.
+        (format!("load {name} {name} 0 2048 0"), 7),
+        (format!("load {name} {name} 0 2048 7"), 10),
+        (format!("load {name} {name} 0 2048 11"), 10),
+        (format!("load {name} {name} 0 2048 2047"), 10),
+        (format!("mixed {name} 0 1 0"), 7),
+        (format!("mixed {name} 1 1 1"), 10),
+        (format!("mixed {name} 3 1 3"), 10),
+        (format!("mixed {name} 0 0 1"), 10),
+        (format!("mixed {name} 3 0 2"), 10),
+        (format!("mixed {name} 2 1 0"), 10),
+        (format!("bytes {name} -"), 4),
+        (format!("bytes {name} 0000000000000000"), 4),
+        (format!("bytes {name} @1535:1"), 4),
+        (format!("bytes {name} @1536:1"), 10),
+        (format!("bytes {name} @8192:2"), 10),
+        (format!("bytes {name} @8704:3"), 4),
+    ]
+}
+
 impl Script {
     /// A load of the newest half of length 18, or of the one before, with these things
     /// wrong.
@@ -58,34 +89,8 @@ impl Script {
         self.show(name);
     }
 
-    /// Blocks of another place, number or box, at a box that would take the newest half.
     pub fn wrong_blocks(&mut self, at: usize) {
-        let (name, other) = (BOXES[at], BOXES[1 - at]);
-        for (line, refusal) in [
-            (format!("load {name} {other} 0 2048 {NOWHERE}"), 10),
-            (format!("load {name} {other} 1 2048 {NOWHERE}"), 7),
-            (format!("load {name} {other} 0 2047 {NOWHERE}"), 4),
-            (format!("load {name} {name} 0 2560 {NOWHERE}"), 10),
-            (format!("load {name} {name} 1 2560 {NOWHERE}"), 7),
-            (format!("load {name} {name} 0 512 {NOWHERE}"), 4),
-            // The newest number is odd, and one less is the last one.
-            (format!("load {name} {name} 0 2048 0"), 7),
-            (format!("load {name} {name} 0 2048 7"), 10),
-            (format!("load {name} {name} 0 2048 11"), 10),
-            (format!("load {name} {name} 0 2048 2047"), 10),
-            (format!("mixed {name} 0 1 0"), 7),
-            (format!("mixed {name} 1 1 1"), 10),
-            (format!("mixed {name} 3 1 3"), 10),
-            (format!("mixed {name} 0 0 1"), 10),
-            (format!("mixed {name} 3 0 2"), 10),
-            (format!("mixed {name} 2 1 0"), 10),
-            (format!("bytes {name} -"), 4),
-            (format!("bytes {name} 0000000000000000"), 4),
-            (format!("bytes {name} @1535:1"), 4),
-            (format!("bytes {name} @1536:1"), 10),
-            (format!("bytes {name} @8192:2"), 10),
-            (format!("bytes {name} @8704:3"), 4),
-        ] {
+        for (line, refusal) in loads_of_wrong_blocks(at) {
             self.answered(line, refusal);
         }
     }
@@ -331,7 +336,7 @@ impl Script {
     }
 
     /// States that no call leaves in this phase: phase, party, code and L.
-    fn impossible(&self, at: usize) -> Vec<[u32; 4]> {
+    pub fn impossible(&self, at: usize) -> Vec<[u32; 4]> {
         let state = &self.replay.boxes[at];
         let (phase, party, code, length) =
             (state.phase, at as u32, state.set.code, state.set.length);

@@ -2,9 +2,9 @@
 //! every call with every other one that may apply beside it (here, and `replay_boxes`),
 //! states that no call leaves, sets loaded ahead (`replay_ahead`, `replay_pairs`), sets
 //! between two marks (`replay_marks`) and by the clock (`replay_clock`, `replay_days`), lists
-//! of calls as a bad network and a careless host make them (`replay_lists`), and halves from
-//! before (`replay_older`). What is refused, and by which number, stands here and is not asked
-//! of this implementation; so does every joined bit.
+//! of calls as a bad network and a careless host make them (`replay_lists`), halves from
+//! before (`replay_older`), and trials (`replay_trial`). What is refused, and by which number,
+//! stands here and is not asked of this implementation; so does every joined bit.
 
 use crate::field;
 use crate::measure::{Measure, MAX_LENGTH};
@@ -392,6 +392,7 @@ pub fn cases() -> Vec<Case> {
     script.older_sets();
     script.between_marks();
     script.by_the_clock();
+    script.trials();
     script.list
 }
 
@@ -403,7 +404,7 @@ mod tests {
     use std::collections::BTreeMap;
 
     /// The most bytes of the answers.
-    const MAX_STDOUT: usize = 150_000;
+    const MAX_STDOUT: usize = 200_000;
 
     #[test]
     fn cases_are_right_and_not_too_long() {
@@ -428,6 +429,7 @@ mod tests {
             let number = case.expected.split(' ').next().unwrap();
             let command = match fields[0] {
                 "mixed" | "bytes" => "load",
+                "trial-mixed" | "trial-bytes" => "trial",
                 "deal" if fields[5].contains(':') => "deal between",
                 command => command,
             };
@@ -457,6 +459,7 @@ mod tests {
             ("mask", &[0, 3, 4, 5, 8]),
             ("party", &[0, 1, 2, 4]),
             ("take", &[0, 3, 4, 6, 7]),
+            ("trial", &[0, 3, 4, 7, 10, 11]),
         ] {
             expected.extend(numbers.iter().map(|number| (command.to_string(), *number)));
         }

@@ -99,8 +99,49 @@ fn a_deal_by_the_clock_is_answered() {
     assert!(replay.dealt.is_empty() && replay.dealer == started().dealer);
 }
 
+/// A trial is answered by name, code and L, or as the load would be, and keeps nothing.
+#[test]
+fn a_trial_is_answered() {
+    let mut replay = started();
+    for deal in [
+        "deal 3 @32:3 1 2 5 1536 1536",
+        "deal 4 @32:4 2 17 1:9 2048 2048",
+    ] {
+        assert!(replay.answer(deal).starts_with("0 "));
+    }
+    let before = replay.answer("show camera");
+    let halves = replay.dealt[1]
+        .clone()
+        .map(|half| crate::field::format(&half));
+    let bytes = format!("trial-bytes office {}", halves[1]);
+    for (line, answer) in [
+        ("trial camera camera 1 1536 9999", "1 2"),
+        ("trial camera camera 0 2048 9999", "2 17"),
+        ("trial-mixed camera 3 0 3", "2 17"),
+        (&bytes, "1 2"),
+        ("trial camera camera 0 2047 9999", "4"),
+        ("trial camera camera 0 2048 100", "10"),
+        ("trial camera office 0 2048 9999", "10"),
+        ("trial-mixed camera 3 1 2", "10"),
+        ("trial camera camera 0 1536 9999", "11"),
+        ("trial-bytes camera -", "4"),
+        ("trial-bytes camera @1536:9", "10"),
+    ] {
+        let expected = match answer.contains(' ') {
+            true => format!("0 {PADDED} {answer}"),
+            false => answer.to_string(),
+        };
+        assert_eq!(replay.answer(line), expected, "{line}");
+    }
+    assert_eq!(replay.answer("show camera"), before);
+    assert_eq!(replay.answer("load camera camera 1 1536 9999"), "0");
+    assert_eq!(replay.answer("trial camera camera 1 1536 100"), "7");
+    assert_eq!(replay.answer("load camera camera 0 2048 9999"), "0");
+    assert_eq!(replay.answer("trial-bytes camera -"), "3");
+}
+
 /// What is no line of a script after a check.
-const BAD_LINES: [&str; 46] = [
+const BAD_LINES: [&str; 56] = [
     "deal",
     "drop door",
     "drop camera ",
@@ -121,6 +162,16 @@ const BAD_LINES: [&str; 46] = [
     "mixed camera 3 0 0",
     "mixed camera 0 0 3",
     "bytes camera 0G",
+    "trial camera camera 1 1536 0",
+    "trial camera camera 0 2049 0",
+    "trial camera lock 0 1536 0",
+    "trial lock camera 0 1536 0",
+    "trial camera camera 0 1536",
+    "trial-mixed camera 3 0 0",
+    "trial-mixed camera 0 0 3",
+    "trial-mixed camera 0 0",
+    "trial-bytes camera 0G",
+    "trial-bytes camera",
     "mask camera 03000000fcffff 2",
     "mask camera - 521",
     "take camera 0 - 1 1 lock",

@@ -41,20 +41,35 @@ impl Script {
             ("Gate", short, 130, Hazards::Forgers),
             ("Shed", short, 150, Hazards::Host),
         ] {
-            let floors = [0, 1, 2, 3].map(|_| self.below(6) as u64);
-            self.start(name, floors);
-            self.claim.off = hazards == Hazards::Host;
-            let before = self.list.len();
-            while self.list.len() < before + calls {
-                self.any_call(lengths, hazards);
+            self.one_list(name, lengths, calls, hazards);
+        }
+    }
+
+    /// Lists in which halves are tried before they are loaded, and others are only tried.
+    pub fn tried_lists(&mut self) {
+        self.tries = true;
+        self.one_list("Trials", &[1, 2, 17], 48, Hazards::Network);
+        self.one_list("Tries", &[1, 2], 60, Hazards::Host);
+        self.tries = false;
+    }
+
+    fn one_list(&mut self, name: &str, lengths: &[usize], calls: usize, hazards: Hazards) {
+        let floors = [0, 1, 2, 3].map(|_| self.below(6) as u64);
+        self.start(name, floors);
+        self.claim.off = hazards == Hazards::Host;
+        let before = self.list.len();
+        while self.list.len() < before + calls {
+            self.any_call(lengths, hazards);
+            if self.tries && self.below(3) == 0 {
+                self.odd_trial();
             }
-            self.show_all();
-            let forged = !self.claim.forged.is_empty();
-            match hazards {
-                Hazards::Network => assert!(!forged, "{name}"),
-                Hazards::Forgers => assert!(forged && self.joins_refused(before), "{name}"),
-                Hazards::Host => {}
-            }
+        }
+        self.show_all();
+        let forged = !self.claim.forged.is_empty();
+        match hazards {
+            Hazards::Network => assert!(!forged, "{name}"),
+            Hazards::Forgers => assert!(forged && self.joins_refused(before), "{name}"),
+            Hazards::Host => {}
         }
     }
 
@@ -280,18 +295,29 @@ impl Script {
         true
     }
 
-    /// A half that is stale, damaged, cut, mixed or for the other box.
     fn odd_load(&mut self, at: usize) {
+        let line = self.odd_half(at);
+        self.load(at, &line);
+    }
+
+    /// Any half at any box, which is not loaded.
+    fn odd_trial(&mut self) {
+        let at = self.below(2);
+        let line = self.odd_half(at);
+        self.tried_only(at, &line);
+    }
+
+    /// The line that loads a half that is stale, damaged, cut, mixed or for the other box.
+    fn odd_half(&mut self, at: usize) -> String {
         let kept = self.claim.deals.len().min(self.replay.dealt.len());
         if kept == 0 {
-            self.say(format!("bytes {} @1536:{}", BOXES[at], at));
-            return;
+            return format!("bytes {} @1536:{}", BOXES[at], at);
         }
         let back = self.below(kept);
         let bytes = self.replay.dealt[back][at].len();
         let (blocks, newest) = (bytes / 512, self.replay.dealt[0][at].len() / 512);
         let name = BOXES[at];
-        let line = match self.below(7) {
+        match self.below(7) {
             0 => format!("load {name} {} {back} {bytes} {NOWHERE}", BOXES[1 - at]),
             1 => format!("load {name} {name} {back} {bytes} {}", self.below(bytes)),
             2 => format!("load {name} {name} 0 1536 {}", self.below(12)),
@@ -309,8 +335,7 @@ impl Script {
                 self.below(blocks)
             ),
             _ => self.load_line(at, back),
-        };
-        self.load(at, &line);
+        }
     }
 
     /// A message that was sent, to this box in any phase: some with a label that is not

@@ -28,7 +28,7 @@ impl Script {
 
     /// A check whose threshold is met. It is not 0, where sets of distances are the same before
     /// and after the first change.
-    fn check_that_is_met(&mut self, measure: Measure, length: usize) -> Check {
+    pub fn check_that_is_met(&mut self, measure: Measure, length: usize) -> Check {
         let vectors = [self.vector(measure, length), self.vector(measure, length)];
         let value = value_of(measure, &vectors) as i32;
         self.check(measure, vectors, value + i32::from(measure.is_distance()))
@@ -56,7 +56,7 @@ impl Script {
     }
 
     /// The line that loads a box's half of this deal as it was dealt before.
-    fn older_line(&self, dealing: Dealing, at: usize, deal: &Deal) -> String {
+    pub fn older_line(&self, dealing: Dealing, at: usize, deal: &Deal) -> String {
         let measure = Measure::from_code(deal.code).expect("a code");
         let seed = field::parse_array(&deal.seed).expect("a seed");
         let halves = dealing(measure, deal.length as usize, deal.rule.offset(), &seed);

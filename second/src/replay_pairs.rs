@@ -115,7 +115,13 @@ impl Script {
 
     /// A check whose threshold is reached, or just not, or whose measure is the one mark or
     /// next to the other. A distance of zero reaches every threshold.
-    fn near_check(&mut self, measure: Measure, length: usize, met: bool, between: bool) -> Check {
+    pub fn near_check(
+        &mut self,
+        measure: Measure,
+        length: usize,
+        met: bool,
+        between: bool,
+    ) -> Check {
         let vectors = [self.vector(measure, length), self.vector(measure, length)];
         let value = value_of(measure, &vectors) as i32;
         let rule = match (between, met, measure.is_distance() && value > 0) {

@@ -96,6 +96,8 @@ pub struct Script {
     pub replay: Replay,
     pub claim: Claim,
     pub door: Door,
+    /// Whether each load is tried first.
+    pub tries: bool,
     seeds: Seeds,
     draws: u32,
 }
@@ -260,7 +262,10 @@ impl Script {
 
     /// Any of the three lines for a load.
     pub fn load(&mut self, at: usize, line: &str) -> u32 {
-        let refusal = refusal(&self.say(line));
+        let refusal = match self.tries {
+            true => self.tried_and_loaded(at, line),
+            false => refusal(&self.say(line)),
+        };
         if refusal == 0 {
             self.claim.load(at, self.replay.boxes[at].last);
         }
