@@ -8,8 +8,8 @@ use Rattle.measure_table.specs.Measure.{allInRange}
 use Rattle.base_messages.specs.Messages.{padded}
 use Rattle.half_seal.specs.Half.{half}
 use Rattle.half_deal.specs.Dealing.{Deal}
-use Rattle.door_lists.specs.Lists.{Box, camera, office, partyOf, Starts, Event, dealt, loaded, sent, dropped}
-use Rattle.door_lists.specs.Lists.{joined, refused, vector, word, answer, In, here, there}
+use Rattle.door_lists.specs.Lists.{Box, camera, office, partyOf, Starts, Event, dealt, loaded, tried, sent}
+use Rattle.door_lists.specs.Lists.{dropped, joined, refused, vector, word, answer, In, here, there}
 use Rattle.door_lists.specs.Demand.{dealsIn, Sending, sendsBy, collect}
 use Rattle.door_lists.specs.Demand.{dealOf, sentOf, vectorOf, deals, vectors, verdict}
 use Rattle.door_lists.proofs.Boxes.{own-box}
@@ -54,6 +54,7 @@ module _ (S : Starts) where
   abbrev pub EventOk : List Event → Event → Type 0
   EventOk h (dealt d f) = Sound d × ((b : Box) → f b ≡ halfOf d b)
   EventOk h (loaded b n) = Unit {0}
+  EventOk h (tried b name t) = Unit {0}
   EventOk h (sent b n (vector x m)) = (t : Dealt h n) × (allInRange (t .d .terms) x ≡ true) × (m ≡ maskOf (t .d) b x)
   EventOk h (sent b n (word w)) = (t : Pair h n) × (w ≡ wordBy (t .of .d) (t .v) b)
   EventOk h (sent b n (answer a)) = (t : Pair h n) × (a ≡ answerBy (t .of .d) (t .v) b)
@@ -68,6 +69,7 @@ module _ (S : Starts) where
   ok-later : (h : List Event) (e g : Event) → EventOk h g → EventOk (e ∷ h) g
   ok-later h e (dealt d f) r = r
   ok-later h e (loaded b n) r = r
+  ok-later h e (tried b name t) r = r
   ok-later h e (sent b n (vector x m)) r = (dealt-later e (r .0), r .1, r .2)
   ok-later h e (sent b n (word w)) r = (pair-later e (r .0), r .1)
   ok-later h e (sent b n (answer a)) r = (pair-later e (r .0), r .1)

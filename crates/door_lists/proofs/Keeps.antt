@@ -17,13 +17,14 @@ use Rattle.call_dealer.specs.Laws.{deal-tells}
 use Rattle.call_dealer.specs.Clock.{dealAt}
 use Rattle.call_party.specs.declared.Party.{Party}
 use Rattle.call_party.specs.declared.PartyAnswer.{PartyAnswer}
+use Rattle.call_party.specs.declared.TrialAnswer.{TrialAnswer}
 use Rattle.call_party.specs.Party as BoxCalls
 use Rattle.call_lock.specs.declared.Lock.{Lock}
 use Rattle.call_lock.specs.Lock as LockCalls
 use Rattle.call_lock.specs.Lock.{whyNotJoin}
-use Rattle.door_lists.specs.Lists.{Box, camera, office, other, World, Starts, Message, Call, deal, load}
-use Rattle.door_lists.specs.Lists.{dealByClock, mask, take, finish, drop, join, Event, dealt, sent, joined}
-use Rattle.door_lists.specs.Lists.{refused, vector, answer, put, eventOf, onBox, written, step, Fits, SentAnswer}
+use Rattle.door_lists.specs.Lists.{Box, camera, office, other, World, Starts, Message, Call, deal, load, trial}
+use Rattle.door_lists.specs.Lists.{dealByClock, mask, take, finish, drop, join, Event, dealt, tried, sent}
+use Rattle.door_lists.specs.Lists.{joined, refused, vector, answer, put, eventOf, onBox, written, step, Fits, SentAnswer}
 use Rattle.door_lists.specs.Lists.{Admits}
 use Rattle.door_lists.specs.Demand.{deals, lastDealt}
 use Rattle.door_lists.proofs.Clock.{by-clock}
@@ -33,8 +34,9 @@ use Rattle.door_lists.proofs.Once.{once-cond}
 use Rattle.door_lists.proofs.History.{door, EventOk, Pair, look}
 use Rattle.door_lists.proofs.Invariant.{BoxIs, dealerWith, lockWith, Inv, dealtBy, wrote, one-deal, one-pair}
 use Rattle.door_lists.proofs.Boxes.{put-same, put-all}
-use Rattle.door_lists.proofs.Parts.{other-away, dealt-away, joined-away, refused-away, own-quiet}
+use Rattle.door_lists.proofs.Parts.{other-away, dealt-away, joined-away, refused-away, tried-away, own-quiet}
 use Rattle.door_lists.proofs.Parts.{Away, Quiet, deals-quiet, dealt-quiet, joined-quiet, refused-quiet}
+use Rattle.door_lists.proofs.Parts.{tried-quiet}
 use Rattle.door_lists.proofs.Kept.{told, box-away, Stepped, at-box, Masking, masking, Taking, taking, Finishing}
 use Rattle.door_lists.proofs.Kept.{finishing, Dropping, dropping, Loading, loading}
 
@@ -52,6 +54,18 @@ module _ (S : Starts) (h : List Event) (w : World) (I : Inv S h w) where
 
   still : (why : ℕ) → Inv S (refused why ∷ h) w
   still why = alone (refused why) tt (refused-quiet why) (refused-away why)
+
+  -- an accepted trial too
+  on-trial : (b : Box) (x : List ℕ) → Inv S (step w (trial b x) .event ∷ h) (step w (trial b x) .world)
+  unfolding ifTaken
+  on-trial b x = go (eqb (BoxCalls.trial (w .box b) x .why) 0)
+    where
+      a : TrialAnswer
+      a = BoxCalls.trial (w .box b) x
+
+      go : (t : Bool) → Inv S (cond t (tried b (a .name) (a .terms)) (refused (a .why)) ∷ h) w
+      go true = alone (tried b (a .name) (a .terms)) tt (tried-quiet b _ _) (tried-away b _ _)
+      go false = still (a .why)
 
   moved : (b : Box) (s : Party) (e : Event) → Stepped S h b s e
       → Inv S (e ∷ h) (record { dealer = w .dealer; box = put (w .box) b s; lock = w .lock })
@@ -188,6 +202,7 @@ module _ (S : Starts) (h : List Event) (w : World) (I : Inv S h w) where
   keeps long (load b x) fits ad =
       on-box b (BoxCalls.load (w .box b) x) _ _ refl
       (at-box S h w I b (Loading S h w I b x) (loading S h w I long b x ad))
+  keeps long (trial b x) fits ad = on-trial b x
   keeps long (mask b v out) fits ad =
       on-box b (BoxCalls.mask (w .box b) v (length out)) _ _ refl
       (at-box S h w I b (Masking S h w I b v out) (masking S h w I b v out))

@@ -22,8 +22,8 @@ use Rattle.call_party.specs.Laws.{waterOf}
 use Rattle.call_lock.specs.declared.Lock.{Lock}
 use Rattle.call_lock.specs.Lock as LockCalls
 use Rattle.door_lists.specs.Lists.{Box, camera, office, partyOf, other, Starts, Message, Call, deal, load, mask}
-use Rattle.door_lists.specs.Lists.{take, finish, drop, join, Event, dealt, loaded, sent, dropped, joined, vector}
-use Rattle.door_lists.specs.Lists.{word, answer, written, maskedBy, dealByClock}
+use Rattle.door_lists.specs.Lists.{trial, take, finish, drop, join, Event, dealt, loaded, tried, sent, dropped}
+use Rattle.door_lists.specs.Lists.{joined, vector, word, answer, written, maskedBy, dealByClock}
 use Rattle.door_lists.specs.Demand.{verdict, Labelled, InRange}
 use Rattle.door_lists.proofs.Accepted.{Heard}
 use Rattle.door_lists.proofs.Goes.{OpenAt, Behind, deal-goes, load-goes, mask-goes, take-goes, finish-goes}
@@ -48,6 +48,7 @@ module _ (S : Starts) (d : Deal) (v : Box → List ℕ) where
   said (deal e out0 out1) = dealt d (halfOf S d)
   said (dealByClock k out0 out1) = dealt d (halfOf S d)
   said (load b x) = loaded b (d .number)
+  said (trial b x) = tried b (door S) (d .terms)
   said (mask b x out) = sent b (d .number) (vector (v b) (maskOf d b (v b)))
   said (take b m) = sent b (d .number) (word (wordBy d v b))
   said (finish b m) = sent b (d .number) (answer (answerBy d v b))

@@ -31,8 +31,8 @@ use Rattle.call_party.specs.Laws.{waterOf, water-last, opened-fits, load-tells}
 use Rattle.call_lock.specs.declared.Lock.{Lock}
 use Rattle.call_lock.specs.Lock as LockCalls
 use Rattle.door_lists.specs.Lists.{Box, partyOf, other, put, World, Starts, Started, beginning, dealByClock}
-use Rattle.door_lists.specs.Lists.{Call, deal, load, mask, take, finish, drop, join, step, after, history}
-use Rattle.door_lists.specs.Lists.{Event, loaded, sent, dropped, refused, vector, word, answer, eventOf}
+use Rattle.door_lists.specs.Lists.{Call, deal, load, trial, mask, take, finish, drop, join, step, after, history}
+use Rattle.door_lists.specs.Lists.{Event, loaded, tried, sent, dropped, refused, vector, word, answer, eventOf}
 use Rattle.door_lists.specs.Demand.{dealsIn, loadsBy, joinsIn, collect}
 use Rattle.door_lists.specs.Demand.{lastDealt, lastJoined, openSets, held}
 use Rattle.door_lists.specs.Numbers.{Rise, NoTurn, numbersIn, NumbersKept}
@@ -46,7 +46,7 @@ use Rattle.door_lists.proofs.Invariant.{opened-at, not-both, behind-nex
 use Rattle.door_lists.proofs.Invariant.{whoAt, showing, closing, loads, lastAt, none-yet}
 use Rattle.door_lists.proofs.Once.{All}
 use Rattle.door_lists.proofs.Parts.{Away, last-away, Own, own-load, own-sent, own-drop, last-loaded}
-use Rattle.door_lists.proofs.Parts.{other-away, dealt-away, joined-away, refused-away}
+use Rattle.door_lists.proofs.Parts.{other-away, dealt-away, joined-away, refused-away, tried-away}
 use Rattle.door_lists.proofs.Parts.{Quiet, dealt-quiet, joined-quiet, refused-quiet, own-quiet}
 use Rattle.door_lists.proofs.Slots.{Slot, fresh, masked, worded, setIn, numberOf, Counted, all-load}
 use Rattle.door_lists.proofs.Slots.{counted-away, counted-load, counted-mask, counted-take, counted-close}
@@ -375,6 +375,12 @@ module _ (S : Starts) where
     all-still why =
         record { dealer-at = I .dealer-at; box-at = each-away _ (refused-away why); lock-at = I .lock-at }
 
+    after-trial : (b : Box) (x : List ℕ) → AllAt (step w (trial b x) .event ∷ h) w
+    after-trial b x =
+        either {A = Unit {0}} (λ y s. AllAt (y ∷ h) w) _ _ tt tt
+        (λ z. record { dealer-at = I .dealer-at; box-at = each-away _ (tried-away b _ _); lock-at = I .lock-at })
+        (all-still _)
+
     after-deal : (d : Deal) (out0 out1 : List ℕ)
         → AllAt (step w (deal d out0 out1) .event ∷ h) (step w (deal d out0 out1) .world)
     unfolding DealerCalls.deal
@@ -394,6 +400,7 @@ module _ (S : Starts) where
     after-call (dealByClock k out0 out1) =
         by-clock w k out0 out1 (λ x. AllAt (x .event ∷ h) (x .world)) (after-deal (dealAt k) out0 out1) all-still
     after-call (load b x) = on-box b _ _ _ (own-load _) (box-loaded b h (w .box b) (I .box-at b) x)
+    after-call (trial b x) = after-trial b x
     after-call (mask b v out) =
         on-box b _ _ _ (own-sent _ _) (box-masked b h (w .box b) (I .box-at b) v _ (length out))
     after-call (take b m) =

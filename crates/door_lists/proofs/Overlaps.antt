@@ -14,7 +14,7 @@ use Rattle.call_party.specs.declared.PartyAnswer.{PartyAnswer}
 use Rattle.call_party.specs.Party as BoxCalls
 use Rattle.call_party.specs.Laws.{waterOf, water-below}
 use Rattle.door_lists.specs.Lists.{Box, camera, office, World, Starts, Call, deal, load, mask, take, finish, drop}
-use Rattle.door_lists.specs.Lists.{join, Body, vector, word, answer, Event, dealt, loaded, sent, dropped, joined}
+use Rattle.door_lists.specs.Lists.{join, Body, vector, word, answer, Event, dealt, loaded, tried, sent, dropped, joined}
 use Rattle.door_lists.specs.Lists.{refused, put, onBox, maskedBy, step, after, events, In, here, there}
 use Rattle.door_lists.specs.Lists.{dealByClock}
 use Rattle.call_dealer.specs.Dealer.{halfSize}
@@ -33,7 +33,7 @@ use Rattle.door_lists.proofs.Invariant.{firstIn, Fresh, Long, showing, 
 use Rattle.door_lists.proofs.Once.{All}
 use Rattle.door_lists.proofs.Slots.{Slot}
 use Rattle.door_lists.proofs.Refusals.{refused-still}
-use Rattle.door_lists.proofs.Unmoved.{unmoved}
+use Rattle.door_lists.proofs.Unmoved.{Still, was-refused, of-still, unmoved}
 use Rattle.door_lists.proofs.Runs.{none-sound, none-water, event-is}
 use Rattle.door_lists.proofs.Made.{said, slotAt, slotsAt, shown, Made, open-at, load-made, mask-made, take-made}
 use Rattle.door_lists.proofs.Made.{finish-made, drop-made, deal-made, join-made}
@@ -113,6 +113,7 @@ module _ (S : Starts) (d e : Deal) (v u : Box → List ℕ) (above : d .number <
   abbrev pub Exact : Event → Type 0
   Exact (dealt x f) = (b : Box) → f b ≡ halfOf S x b
   Exact (loaded b n) = Unit {0}
+  Exact (tried b name t) = Unit {0}
   Exact (sent b n x) = (n ≡ d .number → Right d v b x) × (n ≡ e .number → Right e u b x)
   Exact (dropped b) = Unit {0}
   Exact (joined n bit) = Unit {0}
@@ -545,8 +546,7 @@ module _ (S : Starts) (d e : Deal) (v u : Box → List ℕ) (above : d .number <
 
   -- ---- both runs whole
 
-  same-at : (w t : World) (g : Both) (h : List Event) (x : Event) → At w g h → t ≡ w
-      → ((why : ℕ) × (x ≡ refused why)) → At t g (x ∷ h)
+  same-at : (w t : World) (g : Both) (h : List Event) (x : Event) → At w g h → t ≡ w → Still x → At t g (x ∷ h)
   same-at w t g h x B q r =
       let C : At t g h = subst (λ y. At y g h) (sym q) B in
       record {
@@ -559,7 +559,7 @@ module _ (S : Starts) (d e : Deal) (v u : Box → List ℕ) (above : d .number <
         lock-is = C .lock-is;
         lock-first = C .lock-first;
         lock-second = C .lock-second;
-        exact-at = more x h (subst Exact (sym (r .1)) tt) (C .exact-at);
+        exact-at = more x h (of-still Exact (λ why. tt) (λ b name t. tt) x r) (C .exact-at);
       }
 
   module _ (long : length (door S) ≡ 16) (R : InRange d v) (Q : InRange e u) (w : World) (A : At w nothingYet []) where
@@ -585,7 +585,8 @@ module _ (S : Starts) (d e : Deal) (v u : Box → List ℕ) (above : d .number <
     running (still {cs} {g} r c q) =
         same-at (after w cs) _ g (events w cs) _ (running r) q (unmoved (after w cs) c q)
     running (turned-down {cs} {g} r c why q) =
-        same-at (after w cs) _ g (events w cs) _ (running r) (refused-still (after w cs) c why q) (why, q)
+        same-at (after w cs) _ g (events w cs) _ (running r) (refused-still (after w cs) c why q)
+        (was-refused why q)
 
     pub first-goes : (cs : List Call) (g : Both) → Overlap (door S) d e v u w cs g
         → (c : Call) → FirstReady (door S) d e v u g (events w cs) c → step (after w cs) c .event ≡ said S d v c

@@ -11,7 +11,7 @@ use lib.ListN.{length, replicate}
 use Rattle.half_deal.specs.Dealing.{Deal}
 use Rattle.call_dealer.specs.Dealer.{halfSize}
 use Rattle.door_lists.specs.Lists.{Box, camera, office, other, World, Starts, Call, deal, load, mask, take}
-use Rattle.door_lists.specs.Lists.{finish, drop, join, Event, dealt, loaded, sent, dropped, joined, refused}
+use Rattle.door_lists.specs.Lists.{trial, finish, drop, join, Event, dealt, loaded, tried, sent, dropped, joined, refused}
 use Rattle.door_lists.specs.Lists.{events, In, here, there, after, dealByClock}
 use Rattle.door_lists.specs.Demand.{Progress, nothingMade, madeOne, onward, Ready, Whole, InRange}
 use Rattle.door_lists.specs.Overlap.{Both, nothingYet, endedAt, UnderWay, FirstInOrder, SecondInOrder, FirstReady}
@@ -22,7 +22,7 @@ use Rattle.door_lists.proofs.History.{door, halfOf}
 use Rattle.door_lists.proofs.Made.{said}
 use Rattle.door_lists.proofs.Overlaps.{At, running, first-goes, second-goes, drop-goes-on}
 use Rattle.door_lists.proofs.Stuck.{Has, has-later, has-next, goes-on, room, maskFrom, wordFrom}
-use Rattle.door_lists.proofs.Unmoved.{unmoved}
+use Rattle.door_lists.proofs.Unmoved.{Still, was-refused, of-still, unmoved}
 
 -- ---- kinds of events
 
@@ -33,11 +33,13 @@ kindOf (sent b n x) = 2
 kindOf (dropped b) = 3
 kindOf (joined n bit) = 4
 kindOf (refused why) = 5
+kindOf (tried b name t) = 6
 
 -- one more than the number that was dealt, and 0 of others
 abbrev dealtNumber : Event → ℕ
 dealtNumber (dealt d f) = suc (d .number)
 dealtNumber (loaded b n) = 0
+dealtNumber (tried b name t) = 0
 dealtNumber (sent b n x) = 0
 dealtNumber (dropped b) = 0
 dealtNumber (joined n bit) = 0
@@ -54,6 +56,7 @@ before-drop b x h n (there i) = i
 abbrev boxOf : Event → Box → ℕ
 boxOf (dealt d f) c = 0
 boxOf (loaded b n) c = 0
+boxOf (tried b name t) c = 0
 boxOf (sent b n x) c = 0
 boxOf (dropped camera) camera = 1
 boxOf (dropped camera) office = 0
@@ -95,6 +98,7 @@ any-dropped b (x ∷ h) = go (any-dropped b h) x
     go k (dropped c) = at-drop b c h k
     go k (dealt d f) = later k (dealt d f) (λ e. omega (arith, ap kindOf e))
     go k (loaded c n) = later k (loaded c n) (λ e. omega (arith, ap kindOf e))
+    go k (tried c name t) = later k (tried c name t) (λ e. omega (arith, ap kindOf e))
     go k (sent c n y) = later k (sent c n y) (λ e. omega (arith, ap kindOf e))
     go k (joined n bit) = later k (joined n bit) (λ e. omega (arith, ap kindOf e))
     go k (refused why) = later k (refused why) (λ e. omega (arith, ap kindOf e))
@@ -232,6 +236,7 @@ module _ (S : Starts) (d e : Deal) (v u : Box → List ℕ) (above : d .number <
     other-number (deal y out0 out1) z = omega (arith, z, above)
     other-number (dealByClock y out0 out1) z = omega (arith, z, above)
     other-number (load b y) z = omega (arith, z)
+    other-number (trial b y) z = omega (arith, z)
     other-number (mask b y out) z = omega (arith, z)
     other-number (take b m) z = omega (arith, z)
     other-number (finish b m) z = omega (arith, z)
@@ -387,11 +392,11 @@ module _ (S : Starts) (d e : Deal) (v u : Box → List ℕ) (above : d .number <
 
   module _ (long : length (door S) ≡ 16) (R : InRange d v) (Q : InRange e u) (w : World)
       (A : At S d e v u above w nothingYet []) where
-    refused-track : (g : Both) (h : List Event) → Track g h → (x : Event) → ((why : ℕ) × (x ≡ refused why))
-        → Track g (x ∷ h)
-    refused-track g h T x r =
-        track-later g h T x (subst NoDrop (sym (r .1)) (λ z. omega (arith, z)))
-        (λ z. omega (arith, z ∙ ap dealtNumber (r .1)))
+    still-track : (g : Both) (h : List Event) → Track g h → (x : Event) → Still x → Track g (x ∷ h)
+    still-track g h T x r =
+        track-later g h T x (of-still NoDrop (λ why z. omega (arith, z)) (λ b name t z. omega (arith, z)) x r)
+        (of-still (λ y. suc (d .number) ≡ dealtNumber y → ⊥)
+        (λ why z. omega (arith, z)) (λ b name t z. omega (arith, z)) x r)
 
     tracked : {cs : List Call} {g : Both} → Overlap (door S) d e v u w cs g → Track g (events w cs)
     tracked begin =
@@ -412,8 +417,8 @@ module _ (S : Starts) (d e : Deal) (v u : Box → List ℕ) (above : d .number <
         track-dropped g (events w cs) (tracked r) b k _
         (drop-goes-on S d e v u above long R Q w A (after w cs) g (events w cs)
         (running S d e v u above long R Q w A r) b k .0)
-    tracked (still {cs} {g} r c q) = refused-track g (events w cs) (tracked r) _ (unmoved (after w cs) c q)
-    tracked (turned-down {cs} {g} r c why q) = refused-track g (events w cs) (tracked r) _ (why, q)
+    tracked (still {cs} {g} r c q) = still-track g (events w cs) (tracked r) _ (unmoved (after w cs) c q)
+    tracked (turned-down {cs} {g} r c why q) = still-track g (events w cs) (tracked r) _ (was-refused why q)
 
     pub never : (cs : List Call) (g : Both) → Overlap (door S) d e v u w cs g
         → Goes g (events w cs)

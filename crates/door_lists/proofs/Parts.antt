@@ -7,8 +7,9 @@ use Prim.Native.Nat.{ℕ, suc, _+_, _-_}
 use native.Mathlib.Omega.{arith}
 use lib.Dec.{eqb}
 use lib.ListN.{length, length-append, drop as without}
+use Rattle.measure_table.specs.declared.Terms.{Terms}
 use Rattle.half_deal.specs.Dealing.{Deal}
-use Rattle.door_lists.specs.Lists.{Box, other, Event, Body, dealt, loaded, sent, dropped, joined, refused}
+use Rattle.door_lists.specs.Lists.{Box, other, Event, Body, dealt, loaded, tried, sent, dropped, joined, refused}
 use Rattle.door_lists.specs.Demand.{dealsIn, loadsBy, sendsBy, dropsBy, joinsIn, vectorOf, wordOf, answerOf}
 use Rattle.door_lists.specs.Demand.{deals, vectors, sentWords, lastDealt, lastLoaded, lastJoined, openSets}
 use Rattle.door_lists.specs.Demand.{held}
@@ -47,6 +48,9 @@ joined-away n bit b = record { no-load = refl; no-send = refl; no-drop = refl }
 
 pub refused-away : (why : ℕ) (b : Box) → Away b (refused why)
 refused-away why b = record { no-load = refl; no-send = refl; no-drop = refl }
+
+pub tried-away : (c : Box) (name : List ℕ) (t : Terms) (b : Box) → Away b (tried c name t)
+tried-away c name t b = record { no-load = refl; no-send = refl; no-drop = refl }
 
 -- ---- an event of box b
 
@@ -112,6 +116,9 @@ module _ {e : Event} (q : Quiet e) (h : List Event) where
 
 pub refused-quiet : (why : ℕ) → Quiet (refused why)
 refused-quiet why = record { no-deal = refl; no-join = refl }
+
+pub tried-quiet : (c : Box) (name : List ℕ) (t : Terms) → Quiet (tried c name t)
+tried-quiet c name t = record { no-deal = refl; no-join = refl }
 
 pub own-quiet : (b : Box) (e : Event) → Own b e → Quiet e
 own-quiet b e (own-load n) = record { no-deal = refl; no-join = refl }

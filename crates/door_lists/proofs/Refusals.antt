@@ -14,14 +14,16 @@ use Rattle.call_dealer.specs.declared.Dealer.{Dealer}
 use Rattle.call_dealer.specs.Dealer as DealerCalls
 use Rattle.call_dealer.specs.Clock as ClockCalls
 use Rattle.call_dealer.specs.ClockLaws.{place-low}
+use Rattle.half_content.specs.Content.{noTerms}
+use Rattle.half_seal.specs.Half.{openedSet, openedName}
 use Rattle.call_party.specs.declared.Party.{Party}
 use Rattle.call_party.specs.Party as BoxCalls
 use Rattle.call_lock.specs.declared.Lock.{Lock}
 use Rattle.call_lock.specs.Lock as LockCalls
-use Rattle.door_lists.specs.Lists.{Box, put, World, Call, deal, load, mask, take, finish, drop, join, Event}
-use Rattle.door_lists.specs.Lists.{dealt, loaded, sent, dropped, joined, refused, eventOf, step, dealByClock}
-use Rattle.door_lists.specs.Refusals.{lent, lentAfter, said, placed, NothingChanges, RefusalsChangeNothing}
-use Rattle.door_lists.specs.Refusals.{UnsoundRefused}
+use Rattle.door_lists.specs.Lists.{Box, put, World, Call, deal, load, trial, mask, take, finish, drop, join, Event}
+use Rattle.door_lists.specs.Lists.{dealt, loaded, tried, sent, dropped, joined, refused, eventOf, step, dealByClock}
+use Rattle.door_lists.specs.Refusals.{lent, lentAfter, said, placed, noneTold, told, NothingChanges}
+use Rattle.door_lists.specs.Refusals.{RefusalsChangeNothing, UnsoundRefused}
 use Rattle.door_lists.proofs.Boxes.{put-same}
 
 -- ---- which events are refusals
@@ -30,6 +32,7 @@ use Rattle.door_lists.proofs.Boxes.{put-same}
 abbrev refusal : Event → ℕ
 refusal (dealt d f) = 0
 refusal (loaded b n) = 0
+refusal (tried b name t) = 0
 refusal (sent b n x) = 0
 refusal (dropped b) = 0
 refusal (joined n bit) = 0
@@ -70,25 +73,26 @@ buffers p q = λ i. p i ∷ q i
 -- a call whose event is e where `why` is 0, and which leaves all as it was where it is not
 alone : (w : World) (c : Call) (k why : ℕ) (e : Event) → refusal e ≡ 0 → step w c .event ≡ eventOf why e
     → ((why ≡ 0 → ⊥) → (step w c .world ≡ w) × (lentAfter w c ≡ lent c) × (said w c ≡ 0)
-    × (why < badRows → placed w c ≡ 0)) → step w c .event ≡ refused k
+    × (why < badRows → placed w c ≡ 0)) → ((why ≡ 0 → ⊥) → told w c ≡ noneTold) → step w c .event ≡ refused k
     → NothingChanges w c k
-alone w c k why e n q f p =
-    let told = says-why why k e n (sym q ∙ p) in
-    let left = f (told .1) in
+alone w c k why e n q f g p =
+    let was = says-why why k e n (sym q ∙ p) in
+    let left = f (was .1) in
     record {
-      a-number = λ z. told .1 (told .0 ∙ z);
+      a-number = λ z. was .1 (was .0 ∙ z);
       same-states = left .0;
       same-bytes = left .1;
       nothing-said = left .2;
-      no-place = λ l. left .3 (subst (λ n. n < badRows) (sym (told .0)) l);
+      no-place = λ l. left .3 (subst (λ n. n < badRows) (sym (was .0)) l);
+      nothing-told = g (was .1);
     }
 
 pub refusals-change-nothing : RefusalsChangeNothing
 unfolding RefusalsChangeNothing DealerCalls.deal DealerCalls.dealOut ClockCalls.dealByClock ClockCalls.clockOut
-    BoxCalls.load BoxCalls.mask BoxCalls.maskOut BoxCalls.takeVector BoxCalls.finish BoxCalls.dropSet LockCalls.join
+    BoxCalls.load BoxCalls.trial BoxCalls.mask BoxCalls.maskOut BoxCalls.takeVector BoxCalls.finish BoxCalls.dropSet LockCalls.join
 refusals-change-nothing w (deal d out0 out1) k =
     alone w _ k _ _ refl refl
-    (λ z. (same-dealer w _ (old _ _ _ z), buffers (old _ _ out0 z) (buffers (old _ _ out1 z) refl), refl, λ l. refl))
+    (λ z. (same-dealer w _ (old _ _ _ z), buffers (old _ _ out0 z) (buffers (old _ _ out1 z) refl), refl, λ l. refl)) (λ z. refl)
 refusals-change-nothing w (dealByClock d out0 out1) k =
     alone w _ k _ _ refl refl
     (λ z. (
@@ -96,20 +100,26 @@ refusals-change-nothing w (dealByClock d out0 out1) k =
       buffers (old _ _ out0 z) (buffers (old _ _ out1 z) refl),
       refl,
       place-low (w .dealer) d (length out0) (length out1) z,
-    ))
+    )) (λ z. refl)
 refusals-change-nothing w (load b h) k =
-    alone w _ k _ _ refl refl (λ z. (same-box w b _ (old _ _ _ z), refl, old _ _ _ z, λ l. refl))
+    alone w _ k _ _ refl refl (λ z. (same-box w b _ (old _ _ _ z), refl, old _ _ _ z, λ l. refl)) (λ z. refl)
+refusals-change-nothing w (trial b h) k =
+    let s : Party = w .box b in
+    alone w _ k _ _ refl refl (λ z. (refl, refl, refl, λ l. refl))
+    (λ z. let n = old _ (openedName (s .who .key) h) BoxCalls.noName z in
+    let t = old _ (openedSet (s .who .key) h .terms) noTerms z in
+    (λ i. t i .code ∷ t i .n ∷ n i))
 refusals-change-nothing w (mask b v out) k =
     alone w _ k _ _ refl refl
-    (λ z. (same-box w b _ (old _ _ _ z), buffers (old _ _ out z) refl, old _ _ _ z, λ l. refl))
+    (λ z. (same-box w b _ (old _ _ _ z), buffers (old _ _ out z) refl, old _ _ _ z, λ l. refl)) (λ z. refl)
 refusals-change-nothing w (take b m) k =
-    alone w _ k _ _ refl refl (λ z. (same-box w b _ (old _ _ _ z), refl, old _ _ _ z, λ l. refl))
+    alone w _ k _ _ refl refl (λ z. (same-box w b _ (old _ _ _ z), refl, old _ _ _ z, λ l. refl)) (λ z. refl)
 refusals-change-nothing w (finish b m) k =
-    alone w _ k _ _ refl refl (λ z. (same-box w b _ (old _ _ _ z), refl, old _ _ _ z, λ l. refl))
+    alone w _ k _ _ refl refl (λ z. (same-box w b _ (old _ _ _ z), refl, old _ _ _ z, λ l. refl)) (λ z. refl)
 refusals-change-nothing w (drop b) k =
-    alone w _ k _ _ refl refl (λ z. (same-box w b _ (old _ _ _ z), refl, old _ _ _ z, λ l. refl))
+    alone w _ k _ _ refl refl (λ z. (same-box w b _ (old _ _ _ z), refl, old _ _ _ z, λ l. refl)) (λ z. refl)
 refusals-change-nothing w (join m n) k =
-    alone w _ k _ _ refl refl (λ z. (same-lock w _ (old _ _ _ z), refl, old _ _ _ z, λ l. refl))
+    alone w _ k _ _ refl refl (λ z. (same-lock w _ (old _ _ _ z), refl, old _ _ _ z, λ l. refl)) (λ z. refl)
 
 pub refused-still : (w : World) (c : Call) (why : ℕ) → step w c .event ≡ refused why → step w c .world ≡ w
 unfolding RefusalsChangeNothing
@@ -122,13 +132,14 @@ neither true = refl
 neither false = refl
 
 pub unsound-refused : UnsoundRefused
-unfolding UnsoundRefused BoxCalls.load BoxCalls.mask BoxCalls.takeVector BoxCalls.finish BoxCalls.dropSet
+unfolding UnsoundRefused BoxCalls.load BoxCalls.trial BoxCalls.mask BoxCalls.takeVector BoxCalls.finish BoxCalls.dropSet
     BoxCalls.whyNotLoad BoxCalls.whyNotMask BoxCalls.whyNotTake BoxCalls.whyNotFinish BoxCalls.whyNotMessage
     BoxCalls.whyNotDrop BoxCalls.inTurn unless ifTaken
 unsound-refused w b e =
     let phase : ℕ = w .box b .check .phase in
     record {
       no-load = λ h. rw (e, neither (not (BoxCalls.waits (w .box b)))) refl;
+      no-trial = λ h. rw (e, neither (not (BoxCalls.waits (w .box b)))) refl;
       no-mask = λ v out. rw (e, neither (eqb phase 1)) refl;
       no-take = λ m. rw (e, neither (eqb phase 2)) refl;
       no-finish = λ m. rw (e, neither (eqb phase 3)) refl;

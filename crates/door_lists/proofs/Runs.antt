@@ -19,8 +19,8 @@ use Rattle.call_party.specs.Party as BoxCalls
 use Rattle.call_party.specs.Party.{idle}
 use Rattle.call_party.specs.Laws.{waterOf}
 use Rattle.door_lists.specs.Lists.{Box, camera, office, World, Starts, Call, deal, load, mask, take, finish, join}
-use Rattle.door_lists.specs.Lists.{Event, dealt, loaded, sent, dropped, joined, refused, vector, word, answer}
-use Rattle.door_lists.specs.Lists.{put, eventOf, onBox, maskedBy, step, after, events, In, here, there}
+use Rattle.door_lists.specs.Lists.{Event, dealt, loaded, tried, sent, dropped, joined, refused, vector, word}
+use Rattle.door_lists.specs.Lists.{answer, put, eventOf, onBox, maskedBy, step, after, events, In, here, there}
 use Rattle.door_lists.specs.Lists.{dealByClock}
 use Rattle.door_lists.specs.Demand.{Progress, nothingMade, madeOne, onward, Ready, Run, start, own, aside, turned}
 use Rattle.door_lists.specs.Demand.{Answered, InRange, Free}
@@ -32,7 +32,7 @@ use Rattle.door_lists.proofs.Slots.{Slot}
 use Rattle.door_lists.proofs.Written.{new}
 use Rattle.door_lists.proofs.Invariant.{whoAt, showing, lastAt, dealerWith, lockWith, Inv}
 use Rattle.door_lists.proofs.Refusals.{refused-still}
-use Rattle.door_lists.proofs.Unmoved.{unmoved}
+use Rattle.door_lists.proofs.Unmoved.{Still, was-refused, of-still, unmoved}
 use Rattle.door_lists.proofs.Made.{said, shown, Made, load-made, mask-made, take-made, finish-made, deal-made}
 use Rattle.door_lists.proofs.Made.{join-made}
 
@@ -41,6 +41,7 @@ module _ (S : Starts) (d : Deal) (v : Box → List ℕ) where
   abbrev pub Exact : Event → Type 0
   Exact (dealt e f) = (b : Box) → f b ≡ halfOf S d b
   Exact (loaded b n) = Unit {0}
+  Exact (tried b name t) = Unit {0}
   Exact (sent b n (vector x m)) = m ≡ maskOf d b (v b)
   Exact (sent b n (word w)) = w ≡ wordBy d v b
   Exact (sent b n (answer a)) = a ≡ answerBy d v b
@@ -185,16 +186,15 @@ module _ (S : Starts) (d : Deal) (v : Box → List ℕ) where
 
     -- ---- the whole run
 
-    -- a call that leaves the world as it was, and a refusal
-    same-at : (w u : World) (g : Progress) (h : List Event) (e : Event) → At w g h → u ≡ w
-        → ((why : ℕ) × (e ≡ refused why)) → At u g (e ∷ h)
+    -- a call that leaves the world as it was
+    same-at : (w u : World) (g : Progress) (h : List Event) (e : Event) → At w g h → u ≡ w → Still e → At u g (e ∷ h)
     same-at w u g h e B q r =
         let C : At u g h = subst (λ y. At y g h) (sym q) B in
         record {
           dealer-at = C .dealer-at;
           box-at = C .box-at;
           lock-at = C .lock-at;
-          exact-at = more e h (subst Exact (sym (r .1)) tt) (C .exact-at);
+          exact-at = more e h (of-still Exact (λ why. tt) (λ b name t. tt) e r) (C .exact-at);
         }
 
     pub running : (w : World) → At w nothingMade [] → {cs : List Call} {g : Progress} → Run (door S) d v w cs g
@@ -204,7 +204,8 @@ module _ (S : Starts) (d : Deal) (v : Box → List ℕ) where
     running w A (aside {cs} {g} r c q) =
         same-at (after w cs) _ g (events w cs) _ (running w A r) q (unmoved (after w cs) c q)
     running w A (turned {cs} {g} r c why q) =
-        same-at (after w cs) _ g (events w cs) _ (running w A r) (refused-still (after w cs) c why q) (why, q)
+        same-at (after w cs) _ g (events w cs) _ (running w A r) (refused-still (after w cs) c why q)
+        (was-refused why q)
 
     pub run-goes : (w : World) → At w nothingMade [] → (cs : List Call) (g : Progress)
         → Run (door S) d v w cs g → (c : Call) → Ready (door S) d v g (events w cs) c

@@ -16,7 +16,7 @@ use Rattle.call_party.specs.declared.Party.{Party}
 use Rattle.call_party.specs.Party as BoxCalls
 use Rattle.call_party.specs.Party.{masked, worded}
 use Rattle.call_party.specs.Laws.{load-tells}
-use Rattle.door_lists.specs.Lists.{Box, other, put, World, Call, deal, load, mask, take, finish, drop, join}
+use Rattle.door_lists.specs.Lists.{Box, other, put, World, Call, deal, load, trial, mask, take, finish, drop, join}
 use Rattle.door_lists.specs.Lists.{Event, refused, eventOf, step, after, here, there, dealByClock}
 use Rattle.door_lists.specs.States.{Ends, by-call-4, by-drop, Stays, StaysUntilEnded}
 use Rattle.door_lists.proofs.Accepted.{mask-tells, take-tells}
@@ -93,6 +93,7 @@ unfolding BoxCalls.load BoxCalls.mask BoxCalls.takeVector BoxCalls.finish BoxCal
 step-stays w (deal d out0 out1) = λ b o h. still (w .box b)
 step-stays w (dealByClock k out0 out1) = λ b o h. still (w .box b)
 step-stays w (load b x) = on-box w b _ _ _ (λ z o h. loaded-stays (w .box b) x z o)
+step-stays w (trial b x) = λ c o h. still (w .box c)
 step-stays w (mask b v out) =
     on-box w b _ _ _
     (λ z o h. let turn = mask-tells (w .box b) v (length out) z .turn in

@@ -22,7 +22,7 @@ use Rattle.call_party.specs.Party as BoxCalls
 use Rattle.call_party.specs.Party.{noCheck, idle, noParty, startParty, opened, loaded, masked, maskedVector, worded}
 use Rattle.call_party.specs.Party.{closed, nextCheck, whyNotLoad}
 use Rattle.call_party.specs.Laws.{opened-long}
-use Rattle.door_lists.specs.Lists.{Box, camera, office, put, World, beginning, Call, deal, load, mask}
+use Rattle.door_lists.specs.Lists.{Box, camera, office, put, World, beginning, Call, deal, load, trial, mask}
 use Rattle.door_lists.specs.Lists.{take, finish, drop, join, step, after, dealByClock}
 use Rattle.door_lists.specs.States.{PastLength, Tidy, AlwaysTidy}
 
@@ -172,6 +172,7 @@ unfolding BoxCalls.load BoxCalls.mask BoxCalls.takeVector BoxCalls.finish BoxCal
 step-tidy w (deal d out0 out1) t = t
 step-tidy w (dealByClock k out0 out1) t = t
 step-tidy w (load b h) t = put-tidy _ b _ t (either _ _ _ (λ z. tidy-loaded (w .box b) h z (t b)) (t b))
+step-tidy w (trial b h) t = t
 step-tidy w (mask b v out) t = put-tidy _ b _ t (either _ _ _ (λ z. tidy-masked (w .box b) v (t b)) (t b))
 step-tidy w (take b m) t = put-tidy _ b _ t (either _ _ _ (λ z. tidy-worded (w .box b) _ (t b)) (t b))
 step-tidy w (finish b m) t = put-tidy _ b _ t (either _ _ _ (λ z. tidy-closed (w .box b) (t b)) (t b))

@@ -1,8 +1,12 @@
--- A call that changes no state was refused. Assumes nothing.
-use mathlib.Core.Path.{_≡_, refl, sym, ap, _∙_}
+-- A call that changes no state was refused, or was a trial. Assumes nothing.
+use mathlib.Core.Path.{_≡_, refl, sym, ap, _∙_, subst}
+use mathlib.Core.Bool.{Bool, true, false, cond}
+use mathlib.Core.List.{List}
 use Prim.Native.Nat.{ℕ}
 use native.Mathlib.Omega.{arith}
+use lib.Dec.{eqb}
 use lib.ListN.{length}
+use Rattle.measure_table.specs.declared.Terms.{Terms}
 use Rattle.base_messages.specs.Laws.{refused as stays}
 use Rattle.base_messages.specs.Messages.{ifTaken}
 use Rattle.half_content.specs.declared.Set.{Set}
@@ -16,26 +20,43 @@ use Rattle.call_dealer.specs.Clock.{dealAt}
 use Rattle.call_dealer.specs.ClockLaws.{clock-tells}
 use Rattle.call_party.specs.declared.Party.{Party}
 use Rattle.call_party.specs.declared.PartyAnswer.{PartyAnswer}
+use Rattle.call_party.specs.declared.TrialAnswer.{TrialAnswer}
 use Rattle.call_party.specs.Party as BoxCalls
 use Rattle.call_party.specs.Laws.{load-tells}
 use Rattle.call_lock.specs.declared.Lock.{Lock}
 use Rattle.call_lock.specs.Lock as LockCalls
-use Rattle.door_lists.specs.Lists.{Box, World, Call, deal, load, mask, take, finish, drop, join, Event, refused}
-use Rattle.door_lists.specs.Lists.{eventOf, onBox, step, dealByClock}
+use Rattle.door_lists.specs.Lists.{Box, World, Call, deal, load, trial, mask, take, finish, drop, join, Event}
+use Rattle.door_lists.specs.Lists.{tried, refused, eventOf, onBox, step, dealByClock}
 use Rattle.door_lists.proofs.Accepted.{mask-tells, take-tells, finish-tells, drop-tells, join-tells}
 use Rattle.door_lists.proofs.Boxes.{put-own}
 use Rattle.door_lists.proofs.Written.{new}
 
-abbrev Refused : Event → Type 0
-Refused e = (why : ℕ) × (e ≡ refused why)
+-- the events of such calls, and what holds of all of them
+pub data Still (e : Event) : Type 0 where
+  was-refused : (why : ℕ) → e ≡ refused why → Still e
+  was-tried : (b : Box) (name : List ℕ) (t : Terms) → e ≡ tried b name t → Still e
 
-no-event : (why : ℕ) (e : Event) → (why ≡ 0 → ⊥) → Refused (eventOf why e)
-no-event why e f = (why, sym (stays e (refused why) refl f))
+pub of-still : (Q : Event → Type 0) → ((why : ℕ) → Q (refused why))
+    → ((b : Box) (name : List ℕ) (t : Terms) → Q (tried b name t)) → (e : Event) → Still e → Q e
+of-still Q f g e (was-refused why p) = subst Q (sym p) (f why)
+of-still Q f g e (was-tried b name t p) = subst Q (sym p) (g b name t)
+
+no-event : (why : ℕ) (e : Event) → (why ≡ 0 → ⊥) → Still (eventOf why e)
+no-event why e f = was-refused why (sym (stays e (refused why) refl f))
+
+-- a trial's event is one of them either way
+tried-still : (why : ℕ) (b : Box) (name : List ℕ) (t : Terms) → Still (eventOf why (tried b name t))
+unfolding ifTaken
+tried-still why b name t = go (eqb why 0)
+  where
+    go : (x : Bool) → Still (cond x (tried b name t) (refused why))
+    go true = was-tried b name t refl
+    go false = was-refused why refl
 
 -- an accepted deal, load or join moves a number, calls 2 and 3 the phase, and call 4 and drop end a set
 no-box : (w : World) (b : Box) (a : PartyAnswer) (e : Event) (s : Party)
     → a .party ≡ ifTaken (a .why) s (w .box b) → (a .why ≡ 0 → s ≡ w .box b → ⊥)
-    → onBox w b a e .world ≡ w → Refused (onBox w b a e .event)
+    → onBox w b a e .world ≡ w → Still (onBox w b a e .event)
 no-box w b a e s p f q =
     no-event (a .why) e (λ z. f z
     (sym (p ∙ new (a .why) s (w .box b) z) ∙ sym (put-own (w .box) b (a .party)) ∙ ap (λ y. y .box b) q))
@@ -55,7 +76,7 @@ not-closed s some e =
     let none : noSet ≡ s .waiting = ap (λ (p : Party). p .waiting) e in
     some (sym (phases e) ∙ ap (λ (t : Set). BoxCalls.nextCheck t .phase) (sym none) ∙ none-next)
 
-pub unmoved : (w : World) (c : Call) → step w c .world ≡ w → Refused (step w c .event)
+pub unmoved : (w : World) (c : Call) → step w c .world ≡ w → Still (step w c .event)
 unfolding DealerCalls.deal ClockCalls.dealByClock BoxCalls.load BoxCalls.mask BoxCalls.takeVector BoxCalls.finish
     BoxCalls.dropSet LockCalls.join BoxCalls.loaded openedSet setIn BoxCalls.masked BoxCalls.worded
 unmoved w (deal d out0 out1) q =
@@ -74,6 +95,9 @@ unmoved w (dealByClock k out0 out1) q =
 unmoved w (load b x) q =
     no-box w b (BoxCalls.load (w .box b) x) _ _ refl
     (λ z f. omega (arith, load-tells (w .box b) x z .above, ap (λ (s : Party). s .last) f)) q
+unmoved w (trial b x) q =
+    let a : TrialAnswer = BoxCalls.trial (w .box b) x in
+    tried-still (a .why) b (a .name) (a .terms)
 unmoved w (mask b v out) q =
     no-box w b (BoxCalls.mask (w .box b) v (length out)) _ _ refl
     (λ z f. omega (arith, mask-tells (w .box b) v (length out) z .turn, phases f)) q

@@ -23,9 +23,9 @@ use Rattle.call_dealer.specs.Dealer.{halfSize}
 use Rattle.call_dealer.specs.Clock.{ClockDeal, rowDeal}
 use Rattle.call_party.specs.Party.{closed}
 use Rattle.door_lists.specs.Lists.{Box, camera, office, partyOf, other, sameBox, put, World, Starts, Started}
-use Rattle.door_lists.specs.Lists.{beginning, Message, Call, deal, dealByClock, load, mask, take, finish, drop}
-use Rattle.door_lists.specs.Lists.{join, Body, vector, word, answer, Event, dealt, loaded, sent, dropped, joined}
-use Rattle.door_lists.specs.Lists.{refused, step, after, events, In, SentVector, SentWord, SentAnswer, history}
+use Rattle.door_lists.specs.Lists.{beginning, Message, Call, deal, dealByClock, load, trial, mask, take}
+use Rattle.door_lists.specs.Lists.{finish, drop, join, Body, vector, word, answer, Event, dealt, loaded, tried}
+use Rattle.door_lists.specs.Lists.{sent, dropped, joined, refused, step, after, events, In, SentVector, SentWord, SentAnswer, history}
 use Rattle.door_lists.specs.Lists.{Admissible}
 
 -- ---- what a list's accepted calls were
@@ -37,6 +37,7 @@ use Rattle.door_lists.specs.Lists.{Admissible}
 abbrev pub dealsIn : Event → List Deal
 dealsIn (dealt d f) = d ∷ []
 dealsIn (loaded c n) = []
+dealsIn (tried c name t) = []
 dealsIn (sent c n x) = []
 dealsIn (dropped c) = []
 dealsIn (joined n bit) = []
@@ -46,6 +47,7 @@ dealsIn (refused why) = []
 abbrev pub loadsBy : Box → Event → List ℕ
 loadsBy b (dealt d f) = []
 loadsBy b (loaded c n) = cond (sameBox c b) (n ∷ []) []
+loadsBy b (tried c name t) = []
 loadsBy b (sent c n x) = []
 loadsBy b (dropped c) = []
 loadsBy b (joined n bit) = []
@@ -59,6 +61,7 @@ pub record Sending : Type 0 where
 abbrev pub sendsBy : Box → Event → List Sending
 sendsBy b (dealt d f) = []
 sendsBy b (loaded c n) = []
+sendsBy b (tried c name t) = []
 sendsBy b (sent c n x) = cond (sameBox c b) (record { number = n; body = x } ∷ []) []
 sendsBy b (dropped c) = []
 sendsBy b (joined n bit) = []
@@ -68,6 +71,7 @@ sendsBy b (refused why) = []
 abbrev pub dropsBy : Box → Event → List Box
 dropsBy b (dealt d f) = []
 dropsBy b (loaded c n) = []
+dropsBy b (tried c name t) = []
 dropsBy b (sent c n x) = []
 dropsBy b (dropped c) = cond (sameBox c b) (c ∷ []) []
 dropsBy b (joined n bit) = []
@@ -77,6 +81,7 @@ dropsBy b (refused why) = []
 abbrev pub joinsIn : Event → List ℕ
 joinsIn (dealt d f) = []
 joinsIn (loaded c n) = []
+joinsIn (tried c name t) = []
 joinsIn (sent c n x) = []
 joinsIn (dropped c) = []
 joinsIn (joined n bit) = n ∷ []
@@ -194,6 +199,7 @@ abbrev pub onward : Progress → Call → Progress
 onward g (deal d out0 out1) = record { begun = true; made = g .made; ended = g .ended }
 onward g (dealByClock k out0 out1) = record { begun = true; made = g .made; ended = g .ended }
 onward g (load b h) = madeOne g b
+onward g (trial b h) = g
 onward g (mask b v out) = madeOne g b
 onward g (take b m) = madeOne g b
 onward g (finish b m) = madeOne g b
@@ -220,6 +226,7 @@ module _ (door : List ℕ) (d : Deal) (v : Box → List ℕ) where
       × (i : ℕ) × InRow (k .table .firsts) (k .table .lasts) (k .minute) i × (rowDeal k i ≡ d)
       × (halfSize (d .terms .n) ≤ length out0) × (halfSize (d .terms .n) ≤ length out1)
   Ready g h (load b half) = (g .made b ≡ 0) × (f : Box → List ℕ) × In (dealt d f) h × (half ≡ f b)
+  Ready g h (trial b half) = ⊥
   Ready g h (mask b x out) = (g .made b ≡ 1) × (x ≡ v b) × (d .terms .n ≤ length out)
   Ready g h (take b m) =
       (g .made b ≡ 2) × Labelled door vectorKind (other b) (d .number) m
@@ -251,6 +258,7 @@ abbrev pub Answered : Deal → (Box → List ℕ) → Call → Event → Type 0
 Answered d v (deal e out0 out1) x = (f : Box → List ℕ) × (x ≡ dealt d f)
 Answered d v (dealByClock k out0 out1) x = (f : Box → List ℕ) × (x ≡ dealt d f)
 Answered d v (load b half) x = x ≡ loaded b (d .number)
+Answered d v (trial b half) x = ⊥
 Answered d v (mask b y out) x = (m : List ℕ) × (x ≡ sent b (d .number) (vector (v b) m))
 Answered d v (take b m) x = (w : ℕ) × (x ≡ sent b (d .number) (word w))
 Answered d v (finish b m) x = (a : ℕ) × (x ≡ sent b (d .number) (answer a))

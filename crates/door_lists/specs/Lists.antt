@@ -6,6 +6,7 @@ use mathlib.Core.Bool.{Bool, true, false}
 use mathlib.Core.List.{List, [], _∷_}
 use Prim.Native.Nat.{ℕ, _/_, _^_, _<_}
 use lib.ListN.{length}
+use Rattle.measure_table.specs.declared.Terms.{Terms}
 use Rattle.base_messages.specs.declared.Label.{Label}
 use Rattle.base_messages.specs.Messages.{cameraParty, officeParty, vectorKind, wordKind, answerKind, ifTaken, padded}
 use Rattle.half_content.specs.Content.{blockBytes, part}
@@ -20,6 +21,7 @@ use Rattle.half_deal.specs.Dealing.{Deal}
 use Rattle.call_dealer.specs.Dealer.{halfSize}
 use Rattle.call_party.specs.declared.Party.{Party}
 use Rattle.call_party.specs.declared.PartyAnswer.{PartyAnswer}
+use Rattle.call_party.specs.declared.TrialAnswer.{TrialAnswer}
 use Rattle.call_party.specs.Party as BoxCalls
 use Rattle.call_lock.specs.declared.Lock.{Lock}
 use Rattle.call_lock.specs.declared.LockAnswer.{LockAnswer}
@@ -96,6 +98,8 @@ pub data Call : Type 0 where
   dealByClock : ClockDeal → List ℕ → List ℕ → Call
   -- a half
   load : Box → List ℕ → Call
+  -- a half that is only tried (02, §7)
+  trial : Box → List ℕ → Call
   -- call 2: the box's own vector, and the buffer lent
   mask : Box → List ℕ → List ℕ → Call
   -- call 3: the other's masked vector
@@ -119,6 +123,8 @@ pub data Event : Type 0 where
   dealt : Deal → (Box → List ℕ) → Event
   -- which number was loaded
   loaded : Box → ℕ → Event
+  -- which door, code and L were told of a half that would be taken
+  tried : Box → List ℕ → Terms → Event
   -- "An accepted call 2, 3 or 4 sends its masked vector, word
   -- or answer under its box's party and the open set's number" [SPEC 25.6]
   sent : Box → ℕ → Body → Event
@@ -177,6 +183,11 @@ step w (dealByClock k out0 out1) =
     let a : ClockAnswer = ClockCalls.dealByClock s k (length out0) (length out1) in
     onDealer w (a .why) (a .dealer) (dealt (dealAt k) (writtenByClock s k out0 out1))
 step w (load b h) = onBox w b (BoxCalls.load (w .box b) h) (loaded b (setNumber h))
+-- "The box's own state and last number are untouched": the answer has no state, and so none is put back (02, §7)
+-- [SPEC 34.3]
+step w (trial b h) =
+    let a : TrialAnswer = BoxCalls.trial (w .box b) h in
+    record { world = w; event = eventOf (a .why) (tried b (a .name) (a .terms)) }
 step w (mask b v out) =
     let s : Party = w .box b in
     onBox w b (BoxCalls.mask s v (length out)) (sent b (s .check .set .number) (vector v (maskedBy s v out)))
@@ -214,6 +225,7 @@ abbrev pub Fits : Call → Type 0
 Fits (deal d out0 out1) = d .number < 2 ^ 64
 Fits (dealByClock k out0 out1) = k .number < 2 ^ 64
 Fits (load b h) = Unit {0}
+Fits (trial b h) = Unit {0}
 Fits (mask b v out) = Unit {0}
 Fits (take b m) = Unit {0}
 Fits (finish b m) = Unit {0}
@@ -246,6 +258,8 @@ abbrev pub Admits : List ℕ → List Event → Call → Type 0
 Admits door e (deal d out0 out1) = Unit {0}
 Admits door e (dealByClock k out0 out1) = Unit {0}
 Admits door e (load b h) = (i : ℕ) → i < length h / blockBytes → Written e b (blockAt h i)
+-- of blocks handed to a trial nothing is asked [SPEC 26.5]
+Admits door e (trial b h) = Unit {0}
 Admits door e (mask b v out) = Unit {0}
 Admits door e (take b m) = Sent door vectorKind (SentVector e) m
 Admits door e (finish b m) = Sent door wordKind (SentWord e) m

@@ -12,7 +12,7 @@ use Rattle.measure_table.specs.Measure.{markOf}
 use Rattle.base_messages.specs.Messages.{padded}
 use Rattle.half_deal.specs.Dealing.{Deal}
 use Rattle.door_lists.specs.Lists.{Box, camera, office, other, put, World, Starts, Started, beginning, Call, deal}
-use Rattle.door_lists.specs.Lists.{dealByClock, load, mask, take, finish, drop, join, Event, dropped, joined}
+use Rattle.door_lists.specs.Lists.{dealByClock, load, trial, mask, take, finish, drop, join, Event, dropped, joined}
 use Rattle.door_lists.specs.Lists.{refused, step, after, events, In, history, Admissible}
 use Rattle.door_lists.specs.Demand.{verdict, Progress, nothingMade, onward, Ready, Answered, InRange, Free, Whole}
 
@@ -40,6 +40,7 @@ abbrev pub FirstInOrder : Both → Call → Type 0
 FirstInOrder g (deal x out0 out1) = g .second .begun ≡ false
 FirstInOrder g (dealByClock k out0 out1) = g .second .begun ≡ false
 FirstInOrder g (load b h) = g .second .made b ≡ 0
+FirstInOrder g (trial b h) = Unit {0}
 FirstInOrder g (mask b x out) = Unit {0}
 FirstInOrder g (take b m) = Unit {0}
 FirstInOrder g (finish b m) = Unit {0}
@@ -52,6 +53,7 @@ abbrev pub SecondInOrder : Both → Call → Type 0
 SecondInOrder g (deal x out0 out1) = g .first .begun ≡ true
 SecondInOrder g (dealByClock k out0 out1) = g .first .begun ≡ true
 SecondInOrder g (load b x) = 1 ≤ g .first .made b
+SecondInOrder g (trial b x) = ⊥
 SecondInOrder g (mask b x out) = 4 ≤ g .first .made b
 SecondInOrder g (take b m) = 4 ≤ g .first .made b
 SecondInOrder g (finish b m) = 4 ≤ g .first .made b
