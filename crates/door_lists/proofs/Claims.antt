@@ -61,7 +61,7 @@ unfolding NoReuse
 no-reuse s f cs a b n = let k = always s f cs a .box-is b .ok .counted in (k .vectors-once n .few, k .words-once n .few)
 
 -- a run in the right order after such a list
-begins : (s : Starts) → Started s → (cs : List Call) → Admissible s cs → (d : Deal) (v : Box → List ℕ)
+pub begins : (s : Starts) → Started s → (cs : List Call) → Admissible s cs → (d : Deal) (v : Box → List ℕ)
     → Free s (history s cs) (d .number) → At s d v (after (beginning s) cs) nothingMade []
 begins s f cs a d v F = ready s d v (history s cs) (after (beginning s) cs) (always s f cs a) F
 

@@ -24,5 +24,6 @@ pub mod Slots
 pub mod Stays
 pub mod Stuck
 pub mod Tidy
+pub mod Trials
 pub mod Unmoved
 pub mod Written

@@ -74,7 +74,7 @@ module _ (S : Starts) (d : Deal) (v : Box → List ℕ) where
   shown b k last ts = showing S b last (slotAt b k ∷ ts)
 
   module _ (long : length (door S) ≡ 16) (R : InRange d v) where
-    sound : Sound d
+    pub sound : Sound d
     sound = record {
       number-fits = R .number-fits;
       code-fits = R .code-fits;

@@ -4,3 +4,4 @@ pub mod Numbers
 pub mod Overlap
 pub mod Refusals
 pub mod States
+pub mod Trial
