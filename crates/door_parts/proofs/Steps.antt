@@ -16,19 +16,21 @@ use Rattle.call_dealer.specs.Clock as ClockCalls
 use Rattle.call_dealer.specs.Clock.{ClockDeal, dealAt}
 use Rattle.call_party.specs.declared.Party.{Party}
 use Rattle.call_party.specs.declared.PartyAnswer.{PartyAnswer}
+use Rattle.call_party.specs.declared.TrialAnswer.{TrialAnswer}
 use Rattle.call_party.specs.Party as BoxCalls
 use Rattle.call_lock.specs.declared.LockAnswer.{LockAnswer}
 use Rattle.call_lock.specs.Lock as LockCalls
 use Rattle.door_lists.specs.Lists.{Message, deal, load, mask, take, finish, drop, join, onBox, written}
-use Rattle.door_lists.specs.Lists.{writtenByClock, maskedBy, vector, word, answer, Event, dealt, loaded, sent}
+use Rattle.door_lists.specs.Lists.{writtenByClock, maskedBy, vector, word, answer, Event, dealt, loaded, tried, sent}
 use Rattle.door_lists.specs.Lists.{dropped, joined}
 use Rattle.door_parts.specs.declared.Side.{Side}
 use Rattle.door_parts.specs.declared.Side.the-variants.{Camera, Office}
 use Rattle.door_parts.specs.declared.Door.{Door}
 use Rattle.door_parts.specs.declared.DoorAnswer.{DoorAnswer}
 use Rattle.door_parts.specs.declared.PlacedAnswer.{PlacedAnswer}
+use Rattle.door_parts.specs.declared.TriedAnswer.{TriedAnswer}
 use Rattle.door_parts.specs.Door.{boxOf, boxes, world, back, withBox, boxAnswer, eventWhy, eventWord, stepAnswer}
-use Rattle.door_parts.specs.Door.{call, clockCall}
+use Rattle.door_parts.specs.Door.{call, clockCall, trialCall}
 use Rattle.door_parts.specs.Laws.{why-said, word-said}
 
 -- ---- answers
@@ -102,6 +104,19 @@ module _ (d : Door) (side : Side) {p : Party} {a : PartyAnswer} {r : DoorAnswer}
   pub drop-step : a ≡ BoxCalls.dropSet p → r ≡ boxAnswer d side a → r ≡ call d (drop (boxOf side))
   unfolding call BoxCalls.dropSet
   drop-step = box-step BoxCalls.dropSet (λ s. dropped (boxOf side)) (λ s. refl) (λ s. refl)
+
+-- ---- a trial, whose answer has no state
+
+pub trial-step : (d : Door) (side : Side) {p : Party} → p ≡ boxes d (boxOf side) → (h : List ℕ)
+    {t : TrialAnswer} → t ≡ BoxCalls.trial p h
+    → _≡_ {A = TriedAnswer} (record { why = t .why; name = t .name; terms = t .terms; door = d }) (trialCall d side h)
+unfolding trialCall call
+trial-step d side own h answers =
+    let told : TrialAnswer = BoxCalls.trial (boxes d (boxOf side)) h in
+    let is = answers ∙ ap (λ (s : Party). BoxCalls.trial s h) own in
+    let why =
+    ap (λ (x : TrialAnswer). x .why) is ∙ why-said _ (tried (boxOf side) (told .name) (told .terms)) refl in
+    λ i. record { why = why i; name = is i .name; terms = is i .terms; door = d }
 
 -- ---- a deal and a join
 

@@ -7,13 +7,17 @@ use Rattle.call_dealer.specs.Clock as ClockCalls
 use Rattle.call_dealer.specs.Clock.{ClockDeal}
 use Rattle.call_party.specs.declared.Party.{Party}
 use Rattle.call_party.specs.declared.PartyAnswer.{PartyAnswer}
-use Rattle.door_lists.specs.Lists.{Box, camera, office, World, Call, dealByClock, Step, step}
-use Rattle.door_lists.specs.Lists.{Body, vector, word, answer, Event, dealt, loaded, sent, dropped, joined, refused}
+use Rattle.call_party.specs.declared.TrialAnswer.{TrialAnswer}
+use Rattle.call_party.specs.Party as BoxCalls
+use Rattle.door_lists.specs.Lists.{Box, camera, office, World, Call, dealByClock, trial, Step, step}
+use Rattle.door_lists.specs.Lists.{Body, vector, word, answer, Event, dealt, loaded, tried, sent, dropped, joined}
+use Rattle.door_lists.specs.Lists.{refused}
 use Rattle.door_parts.specs.declared.Side.{Side}
 use Rattle.door_parts.specs.declared.Side.the-variants.{Camera, Office}
 use Rattle.door_parts.specs.declared.Door.{Door}
 use Rattle.door_parts.specs.declared.DoorAnswer.{DoorAnswer}
 use Rattle.door_parts.specs.declared.PlacedAnswer.{PlacedAnswer}
+use Rattle.door_parts.specs.declared.TriedAnswer.{TriedAnswer}
 
 abbrev pub boxOf : Side → Box
 boxOf Camera = camera
@@ -43,6 +47,7 @@ boxAnswer d side a = record { why = a .why; word = a .word; door = withBox d sid
 abbrev pub eventWhy : Event → ℕ
 eventWhy (dealt d f) = 0
 eventWhy (loaded b n) = 0
+eventWhy (tried b name t) = 0
 eventWhy (sent b n x) = 0
 eventWhy (dropped b) = 0
 eventWhy (joined n bit) = 0
@@ -57,6 +62,7 @@ bodyWord (answer a) = a
 abbrev pub eventWord : Event → ℕ
 eventWord (dealt d f) = 0
 eventWord (loaded b n) = 0
+eventWord (tried b name t) = 0
 eventWord (sent b n x) = bodyWord x
 eventWord (dropped b) = 0
 eventWord (joined n bit) = bit
@@ -79,3 +85,10 @@ clockCall d k out0 out1 =
       place = ClockCalls.dealByClock (d .dealer) k (length out0) (length out1) .place;
       door = a .door;
     }
+
+-- what a trial answers: the list's step, and what is told
+unfoldable pub trialCall : Door → Side → List ℕ → TriedAnswer
+trialCall d side h =
+    let a : DoorAnswer = call d (trial (boxOf side) h) in
+    let t : TrialAnswer = BoxCalls.trial (boxes d (boxOf side)) h in
+    record { why = a .why; name = t .name; terms = t .terms; door = a .door }

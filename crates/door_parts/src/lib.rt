@@ -8,8 +8,9 @@ ghost use Rattle.call_dealer.specs.Dealer.{dealOut};
 ghost use Rattle.call_dealer.specs.Clock.{clockFrom, clockOut};
 ghost use Rattle.call_party.specs.Party.{maskOut};
 ghost use Rattle.door_lists.specs.Lists.{deal, load, mask, take, finish, drop, join};
-ghost use Rattle.door_parts.specs.Door.{boxOf, boxes, withBox, boxAnswer, call, clockCall};
+ghost use Rattle.door_parts.specs.Door.{boxOf, boxes, withBox, boxAnswer, call, clockCall, trialCall};
 use base_messages::Label;
+use base_messages::NAME;
 use call_dealer::Dealer;
 use call_lock::Lock;
 use call_party::Party;
@@ -43,6 +44,14 @@ pub struct DoorAnswer {
 pub struct PlacedAnswer {
     pub why: u32,
     pub place: u32,
+    pub door: Door,
+}
+
+// The same of a trial, with what it tells of the half.
+pub struct TriedAnswer {
+    pub why: u32,
+    pub name: [u8; NAME],
+    pub terms: Terms,
     pub door: Door,
 }
 
@@ -161,6 +170,22 @@ impl Door {
     {
         let party = self.at(side);
         self.on_box(side, party.load(half))
+    }
+
+    // What a load of this half would say. The door is as it was.
+    pub fn trial(self, side: Side, half: &[u8]) -> TriedAnswer
+        ensures { λ r. ⌜ r ≡ trialCall self side (now (half .entry)) ⌝ }
+    {
+        let party = self.at(side);
+        let a = party.trial(half);
+        let name = a.name;
+        let terms = a.terms;
+        TriedAnswer {
+            why: a.why,
+            name,
+            terms,
+            door: self,
+        }
     }
 
     // Call 2. The masked vector goes to the start of out.
