@@ -71,7 +71,7 @@ fn loading(l: Line, ok: bool, count: u64) -> Line {
     next
 }
 
-// load BOX FROM K BYTES AT. Behind the half its first block stands again.
+// load or trial BOX FROM K BYTES AT. Behind the half its first block stands again.
 fn load(l: Line, b: &mut [u8; BYTES], n: [u64; NUMBERS]) -> Line {
     let from = half_slot(n[NEWEST], l.f3, l.f2);
     let size = n[from] % 65536;
@@ -96,14 +96,14 @@ fn mixed(l: Line, b: &mut [u8; BYTES], n: [u64; NUMBERS]) -> Line {
     )
 }
 
-// The bytes of a load into slot 0.
+// The bytes of a load or a trial into slot 0.
 pub fn gather(l: Line, b: &mut [u8; BYTES], n: [u64; NUMBERS]) -> Line {
     let command = l.command;
     match command {
-        lines::LOAD => load(l, b, n),
-        lines::MIXED => mixed(l, b, n),
+        lines::LOAD | lines::TRIAL => load(l, b, n),
+        lines::MIXED | lines::TRIAL_MIXED => mixed(l, b, n),
         // bytes BOX BYTES
-        lines::LOAD_BYTES => {
+        lines::LOAD_BYTES | lines::TRIAL_BYTES => {
             memory::copy_slot(b, 2, 0);
             loading(l, true, l.f2)
         }

@@ -46,13 +46,19 @@ pub const WIDTH: usize = 16;
 
 pub const CLOCK: usize = 17;
 
-// A line that is no command, and one that asks for nothing.
-pub const BAD_LINE: usize = 18;
+pub const TRIAL: usize = 18;
 
-pub const COMMENT: usize = 19;
+pub const TRIAL_MIXED: usize = 19;
+
+pub const TRIAL_BYTES: usize = 20;
+
+// A line that is no command, and one that asks for nothing.
+pub const BAD_LINE: usize = 21;
+
+pub const COMMENT: usize = 22;
 
 // A deal whose rule is two marks.
-pub const BETWEEN: usize = 20;
+pub const BETWEEN: usize = 23;
 
 // The parts, as `show` counts them; the boxes' numbers are 0 and 1.
 pub const CAMERA: u64 = 0;
@@ -262,10 +268,10 @@ pub fn read(line: &[u8], b: &mut [u8; BYTES], n: [u64; NUMBERS]) -> Line {
     }
     let command = place_of(
         test_script::field(line, 0),
-        b"dealer deal lock join host show party load mixed bytes mask take finish drop put waiting width clock",
+        b"dealer deal lock join host show party load mixed bytes mask take finish drop put waiting width clock trial trial-mixed trial-bytes",
     );
     let kinds =
-        b"BBBN NBWWTRR BN WBWNaWBWNa BNWBWNaWBWNa P XBWBN XXKWW XJKJ XB XVM XWBWNv XWBWNw X XWWWW XNWW XWW NBWWVVVWRR ";
+        b"BBBN NBWWTRR BN WBWNaWBWNa BNWBWNaWBWNa P XBWBN XXKWW XJKJ XB XVM XWBWNv XWBWNw X XWWWW XNWW XWW NBWWVVVWRR XXKWW XJKJ XB ";
     let mut l = read_fields(command, test_script::part(kinds, b' ', command), line, b, n);
     let rule = test_script::read_one_or_two(test_script::field(line, 5));
     if (l.command == DEAL) & rule.two {

@@ -53,6 +53,19 @@ fn clocked(b: &[u8; BYTES], l: Line, row: u32, out: &mut [u8; ROOM], at: usize) 
     two_tags(b, l.f9, l.f10, out, next)
 }
 
+// A trial: the name, the code and L that it told, which stand in slot 0 in this order, the two numbers
+// as words.
+fn told(b: &[u8; BYTES], out: &mut [u8; ROOM], at: usize) -> usize {
+    let next = accepted(out, at);
+    let next = test_script::put_hex(out, next, memory::first(b, 0, 16));
+    let next = test_script::put_byte(out, next, b' ');
+    test_script::put_numbers(
+        out,
+        next,
+        &[base_slices::load(b, 16), base_slices::load(b, 20)],
+    )
+}
+
 // What answers a line whose call was refused: for a deal by the clock the place too.
 pub fn refused(l: Line, why: u32, place: u32, out: &mut [u8; ROOM], at: usize) -> usize {
     if l.command != lines::CLOCK {
@@ -137,6 +150,7 @@ pub fn answer(
         lines::HOST => hosted(b, l, out, at),
         lines::DEAL | lines::BETWEEN => dealt(b, l, out, at),
         lines::CLOCK => clocked(b, l, word, out, at),
+        lines::TRIAL | lines::TRIAL_MIXED | lines::TRIAL_BYTES => told(b, out, at),
         lines::SHOW => tag(b, 0, memory::wide(state_size(l.part)), out, at),
         lines::MASK => {
             let next = accepted(out, at);

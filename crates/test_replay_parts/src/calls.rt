@@ -140,6 +140,27 @@ pub fn load(door: Door, b: &[u8; BYTES], l: Line) -> DoorAnswer {
     door.load(side(l), memory::first(b, 0, l.f4))
 }
 
+// As `put::told` reads it.
+fn lay_told(b: &mut [u8; BYTES], name: [u8; 16], terms: Terms) {
+    memory::lay(b, 0, &name);
+    let l = memory::low(memory::wide(terms.n));
+    base_slices::store_all(b, 16, &[terms.code, l]);
+}
+
+// The bytes of a trial stand there too, and what it tells takes their place.
+pub fn trial(door: Door, b: &mut [u8; BYTES], l: Line) -> DoorAnswer {
+    let a = door.trial(side(l), memory::first(b, 0, l.f4));
+    let name = a.name;
+    let terms = a.terms;
+    lay_told(b, name, terms);
+    let next = a.door;
+    DoorAnswer {
+        why: a.why,
+        word: 0,
+        door: next,
+    }
+}
+
 fn lay_masked(b: &mut [u8; BYTES], masked: [u32; ROOM]) {
     base_slices::store_all(b, 0, &masked);
 }

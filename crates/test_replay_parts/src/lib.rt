@@ -49,6 +49,7 @@ pub fn call(door: Door, b: &mut [u8; BYTES], l: Line) -> DoorAnswer {
         lines::DEAL | lines::BETWEEN => calls::deal(door, b, l),
         lines::CLOCK => calls::clock(door, b, l),
         lines::LOAD | lines::MIXED | lines::LOAD_BYTES => calls::load(door, b, l),
+        lines::TRIAL | lines::TRIAL_MIXED | lines::TRIAL_BYTES => calls::trial(door, b, l),
         lines::MASK => calls::mask(door, b, l),
         lines::TAKE => calls::take(door, b, l),
         lines::FINISH => calls::finish(door, b, l),
