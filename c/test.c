@@ -2,8 +2,8 @@
  * Calls every function of door.h as a host does: whole checks, whose answers must be those of the
  * measure computed here; deals by the clock, which must be those by the row's threshold; a trial
  * beside every load, which must say what that answers; each refusal of each call, which must change
- * nothing, empty slices with a null pointer among them; and loads of sets that older versions dealt,
- * which are all refused. Its argument is the level that must be in use. c/test runs it.
+ * nothing, empty slices with a null pointer among them; and loads of sets that older versions
+ * dealt, which are all refused. Its argument is the level that must be in use. c/test runs it.
  */
 #include "door.h"
 #include "older.h"
@@ -2453,14 +2453,14 @@ static void trial_lengths(void)
     }
 }
 
-/* At an office box that takes the half, whose set has these terms, or else finds its number wrong. */
+/* At an office box: the half is of this set, whose number is above the box's or not. */
 static void trial_number(
-    const struct door_party *box, const struct halves *h, const struct door_terms *terms)
+    const struct door_party *box, const uint8_t *half, const struct door_terms *terms, bool above)
 {
-    if (terms != NULL)
-        trial_taken(box, h->half[1], terms);
+    if (above)
+        trial_taken(box, half, terms);
     else
-        trial_refused(box, h->half[1], half_size(18), DOOR_WRONG_NUMBER);
+        trial_refused(box, half, half_size(terms->n), DOOR_WRONG_NUMBER);
 }
 
 /* The number of a half is compared whole, with the last one and with that of an open set, whichever
@@ -2479,18 +2479,17 @@ static void trial_numbers(void)
         struct door_party open = load(&unloaded, other.half[1], half_size(terms.n)).party;
         struct door_party closed = idle(1, last);
         closed.check.set.number = closed.waiting.number = open.waiting.number = UINT64_MAX;
-        const struct door_terms *told = NUMBERS[i].above ? &terms : NULL;
-        trial_number(&closed, &h, told);
+        trial_number(&closed, h.half[1], &terms, NUMBERS[i].above);
         for (uint32_t holds = 1; holds < 4; holds++) { /* a bit for each that has the number */
             open.last = holds & 1 ? last : 0;
             open.check.set.number = holds & 2 ? last : 0;
-            trial_number(&open, &h, told);
+            trial_number(&open, h.half[1], &terms, NUMBERS[i].above);
         }
     }
 }
 
-/* A bit of any block: of its number, its place, what is sealed, the tag. The box's last number is one
-   below the half's, which is odd: where the first bit is another, the number is the last one. */
+/* A bit of any block: of its number, its place, what is sealed, the tag; and of the box's key. The
+   box's last number is one below the half's, which is odd: without its first bit it is the last. */
 static void trial_flips(const struct door_party *box, const uint8_t *half, size_t size)
 {
     static const size_t places[] = {0, 7, 8, 11, 12, 200, 495, 496, 511};
