@@ -657,6 +657,14 @@ void deal_and_leave(void)
     settle(); /* nobody looks at the sticks any more */
 }
 
+void answer_what_was_left(void)
+{
+    check.told_later = PARTS;
+    begin_when_due();
+    expect_answer();
+    settle();
+}
+
 /* A half that was cut to so many bytes, or has one bit changed at that place, of a set that was not
    dealt ahead: one that was is in the box already. */
 static void refuses_half(enum part box, size_t cut_to, size_t changed, uint32_t why)
@@ -1132,6 +1140,7 @@ int main(int count, char **arguments)
     for (int i = 0; i < 10; i++)
         undisturbed_check(ALL);
     tables();
+    trials();
     checks_at_the_turn();
     while (!killed_enough() && killed() < KILLS_MOST) {
         disturbed_check();

@@ -255,8 +255,14 @@ void undisturbed_check(enum change change);
    do those of the set behind it. */
 void deal_and_leave(void);
 
+/* A check with that set, which must be answered. */
+void answer_what_was_left(void);
+
 /* Someone begins with a set of which the half is on the stick again. */
 void refuses_spent_half(enum part box, uint64_t number);
+
+/* trials.c: whether a box would take a half. All parts run before and after. */
+void trials(void);
 
 /* versions.c: folders of other versions, and the upgrade. All parts run before and after. */
 
