@@ -139,6 +139,21 @@ void stop_child(enum part part)
     EXPECT(end_of(process) == 0, "the %s does not stop well", PART[part].title);
 }
 
+void stop_all(void)
+{
+    for (enum part part = CAMERA; part <= LOCK; part++) {
+        stop_child(part);
+        lose_stock(part);
+    }
+}
+
+void start_all(void)
+{
+    for (enum part part = CAMERA; part <= LOCK; part++)
+        start_child(part);
+    settle();
+}
+
 void kill_what_is_left(void)
 {
     for (enum part part = CAMERA; part < PARTS; part++)

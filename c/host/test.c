@@ -1004,6 +1004,10 @@ static void summary(void)
         tally.other_row, killed_waiting(),
         kills_with[CAMERA][READY_AHEAD] + kills_with[OFFICE][READY_AHEAD],
         kills_with[DEALER][READY_AHEAD], begun_anew);
+    printf("c/host/test: trials that leave no trace: %lu in which a box would take the half, %lu in "
+           "which none would, %lu in trouble, and %lu beside checks\n",
+        trial_tally.by_status[EXIT_OPEN], trial_tally.by_status[EXIT_SHUT],
+        trial_tally.by_status[EXIT_TROUBLE], trial_tally.beside);
     printf("c/host/test: upgrades cut short %lu times, %lu of them with a power cut; %lu between "
            "the first part's and the last one's; each was then finished\n",
         upgrade_tally.cuts, upgrade_tally.power, upgrade_tally.between);
@@ -1115,9 +1119,7 @@ static void set_up_door(const char *folder)
     EXPECT(chdir("door") == 0, "cannot go to %s/door", folder);
     set_clock(0);
     open_network();
-    for (enum part part = CAMERA; part <= LOCK; part++)
-        start_child(part);
-    settle();
+    start_all();
 }
 
 int main(int count, char **arguments)
@@ -1159,8 +1161,7 @@ int main(int count, char **arguments)
     operator_asks_again(CAMERA);
     operator_asks_again(OFFICE);
     print_times();
-    for (enum part part = CAMERA; part <= LOCK; part++)
-        stop_child(part);
+    stop_all();
     expect_enough();
     summary();
 }

@@ -33,6 +33,8 @@ void start_child(enum part part);
 void kill_child(enum part part); /* SIGKILL, and waits until it is dead */
 void stop_child(enum part part); /* SIGTERM, upon which it must end with status 0 */
 bool child_runs(enum part part);
+void stop_all(void);
+void start_all(void); /* and waits until each is there */
 void kill_what_is_left(void); /* at the end of a failed test */
 
 /* Runs the program to its end and answers its exit status; one that does not end is killed. */
@@ -262,6 +264,14 @@ void answer_what_was_left(void);
 void refuses_spent_half(enum part box, uint64_t number);
 
 /* trials.c: whether a box would take a half. All parts run before and after. */
+
+struct trial_tally {
+    unsigned long by_status[3]; /* the exit status */
+    unsigned long beside; /* of more, which were run beside checks */
+};
+
+extern struct trial_tally trial_tally;
+
 void trials(void);
 
 /* versions.c: folders of other versions, and the upgrade. All parts run before and after. */

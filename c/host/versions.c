@@ -586,9 +586,7 @@ static bool cut_twice(unsigned first)
 
 static void start_again(void)
 {
-    for (enum part part = CAMERA; part <= LOCK; part++)
-        start_child(part);
-    settle();
+    start_all();
     for (uint64_t i = 0; i < HALVES; i++) {
         refuses_spent_half(CAMERA, older.dealt - i);
         refuses_spent_half(OFFICE, older.dealt - i);
@@ -601,10 +599,7 @@ void versions(void)
 {
     for (int i = 0; i < DEALS; i++)
         deal_and_leave();
-    for (enum part part = CAMERA; part <= LOCK; part++) {
-        stop_child(part);
-        lose_stock(part);
-    }
+    stop_all();
     take_down_older();
     for (enum part part = CAMERA; part <= LOCK; part++) {
         other_versions(part);
