@@ -274,6 +274,9 @@ extern struct trial_tally trial_tally;
 
 void trials(void);
 
+/* A trial ends in trouble, and says so among other things. */
+void trial_in_trouble(const char *folder, const char *half, const char *words);
+
 /* versions.c: folders of other versions, and the upgrade. All parts run before and after. */
 
 struct upgrade_tally {

@@ -116,8 +116,7 @@ static void expect_trial(const char *folder, const char *half, int status, const
         said, right);
 }
 
-/* It ends in trouble, and says so among other things. */
-static void expect_trouble(const char *folder, const char *half, const char *words)
+void trial_in_trouble(const char *folder, const char *half, const char *words)
 {
     char said[SAID_ROOM];
     try_half(folder, half, EXIT_TROUBLE, said);
@@ -257,15 +256,10 @@ static void copy_to_twin(enum part box, const char *file)
     put_twin(box, file, bytes, size);
 }
 
-static void put_last(enum part box, uint64_t last, const char *version)
+static void put_last(enum part box, uint64_t last)
 {
-    char text[PATH_ROOM];
-    int size = snprintf(text, sizeof text, "%020" PRIu64 " %020" PRIu64 "%s\n", last,
-        UINT64_MAX - last, version);
-    put_twin(box, "last", text, (size_t)size);
+    EXPECT(write_last(TWINS[box], last), "no last number");
 }
-
-#define THIS_VERSION " 4"
 
 /* The boxes are where the kept set is the next one. */
 static void renew_twin(void)
@@ -273,7 +267,7 @@ static void renew_twin(void)
     for (enum part box = CAMERA; box <= OFFICE; box++) {
         copy_to_twin(box, "name");
         copy_to_twin(box, "key");
-        put_last(box, kept.number - 1, THIS_VERSION);
+        put_last(box, kept.number - 1);
     }
 }
 
@@ -289,19 +283,19 @@ static void make_twin(void)
 static void numbers(void)
 {
     static const uint64_t above[] = {0, 1, 1000};
-    put_last(CAMERA, 0, THIS_VERSION);
-    put_last(OFFICE, 0, THIS_VERSION);
+    put_last(CAMERA, 0);
+    put_last(OFFICE, 0);
     expect_both_taken(TWIN);
     for (size_t i = 0; i < sizeof above / sizeof *above; i++)
         for (enum part box = CAMERA; box <= OFFICE; box++) {
             const uint64_t last = kept.number + above[i];
             renew_twin();
-            put_last(box, last, THIS_VERSION);
+            put_last(box, last);
             expect_spent(TWIN, KEPT[box], box, kept.number, last);
             expect_taken(TWIN, KEPT[other_box(box)], other_box(box), kept.number);
         }
-    put_last(CAMERA, UINT64_MAX, THIS_VERSION);
-    put_last(OFFICE, UINT64_MAX, THIS_VERSION);
+    put_last(CAMERA, UINT64_MAX);
+    put_last(OFFICE, UINT64_MAX);
     expect_spent(TWIN, KEPT[CAMERA], CAMERA, kept.number, UINT64_MAX);
     renew_twin();
 }
@@ -424,28 +418,28 @@ static void one_box(enum part box)
 static void no_plain_file(void)
 {
     EXPECT(mkfifo("pipe", 0600) == 0, "no pipe");
-    expect_trouble(TWIN, "pipe", "pipe is a pipe; expected is the file of a half");
+    trial_in_trouble(TWIN, "pipe", "pipe is a pipe; expected is the file of a half");
     EXPECT(unlink("pipe") == 0, "cannot remove the pipe");
-    expect_trouble(TWIN, TWIN, TWIN " is a folder; expected is the file of a half");
-    expect_trouble(TWIN, PART[WATCH].socket, " is a socket; expected is the file of a half");
-    expect_trouble(TWIN, "/dev/null", "/dev/null is a device; expected is the file of a half");
-    expect_trouble(TWIN, "none", "cannot open none: No such file");
-    expect_trouble(TWIN, "", "cannot open : No such file");
+    trial_in_trouble(TWIN, TWIN, TWIN " is a folder; expected is the file of a half");
+    trial_in_trouble(TWIN, PART[WATCH].socket, " is a socket; expected is the file of a half");
+    trial_in_trouble(TWIN, "/dev/null", "/dev/null is a device; expected is the file of a half");
+    trial_in_trouble(TWIN, "none", "cannot open none: No such file");
+    trial_in_trouble(TWIN, "", "cannot open : No such file");
     EXPECT(symlink(KEPT[CAMERA], "link") == 0, "no link");
     expect_taken(TWIN, "link", CAMERA, kept.number);
     EXPECT(unlink("link") == 0, "cannot remove the link");
 }
 
-/* A box does not start with what its folder has. That counts more than that the other one would
-   take the half, which is told all the same. */
+/* A box does not start with what its folder has (versions.c has more of that). It counts more than
+   that the other one would take the half, which is told all the same. */
 static void expect_box_in_trouble(enum part box, const char *words)
 {
     char line[LINE_ROOM];
-    expect_trouble(TWIN, KEPT[other_box(box)], words);
+    trial_in_trouble(TWIN, KEPT[other_box(box)], words);
     snprintf(line, sizeof line, "%s: not asked, since it does not start", PART[box].title);
-    expect_trouble(TWIN, KEPT[other_box(box)], line);
+    trial_in_trouble(TWIN, KEPT[other_box(box)], line);
     taken_line(other_box(box), kept.number, line);
-    expect_trouble(TWIN, KEPT[other_box(box)], line);
+    trial_in_trouble(TWIN, KEPT[other_box(box)], line);
     renew_twin();
 }
 
@@ -459,21 +453,12 @@ static void remove_from_twin(enum part box, const char *file)
 static void box_in_trouble(enum part box)
 {
     static const char *const files[] = {"name", "key", "last"};
-    static const char upgrade[] = "run: door-host upgrade FOLDER";
     for (size_t i = 0; i < sizeof files / sizeof *files; i++) {
         char words[PATH_ROOM];
         snprintf(words, sizeof words, "/%s: No such file", files[i]);
         remove_from_twin(box, files[i]);
         expect_box_in_trouble(box, words);
     }
-    put_twin(box, "last", "1", 1);
-    expect_box_in_trouble(box, "/last is torn or damaged");
-    put_last(box, kept.number - 1, "");
-    expect_box_in_trouble(box, upgrade);
-    put_last(box, kept.number - 1, " 3");
-    expect_box_in_trouble(box, upgrade);
-    put_last(box, kept.number - 1, " 5");
-    expect_box_in_trouble(box, "is from a newer version of this program");
     put_twin(box, "key", "1", 1);
     expect_box_in_trouble(box, "/key has not the 32 bytes of a key");
     put_twin(box, "name", "", 0);
@@ -484,7 +469,7 @@ static void box_in_trouble(enum part box)
 static void no_trial(void)
 {
     char said[SAID_ROOM];
-    expect_trouble("stick/camera", KEPT[CAMERA], "neither camera nor office in it");
+    trial_in_trouble("stick/camera", KEPT[CAMERA], "neither camera nor office in it");
     char *const no_folder[] = {"door-host", "trial", "none", (char *)KEPT[CAMERA], NULL};
     EXPECT(run_and_hear(no_folder, said) == EXIT_TROUBLE
             && strstr(said, "cannot go to none: No such file") != NULL,

@@ -240,12 +240,22 @@ static void expect_trouble(const char *command, const char *words)
     EXPECT(hash_of_all(is_state) == before, "%s is refused, and has changed something", command);
 }
 
+/* Nor is a half tried at a box that would not start. */
+static void expect_no_trial(enum part box, const char *words)
+{
+    char path[PATH_ROOM];
+    snprintf(path, sizeof path, "%s/%" PRIu64 ".half", STICK[box], older.dealt);
+    trial_in_trouble(".", path, words);
+}
+
 /* With all parts of this version but for this one. */
 static void other_version(enum part part, const char *text, const char *words)
 {
     for (enum part other = CAMERA; other <= LOCK; other++)
         put_version(other, other == part ? text : THIS_VERSION);
     expect_trouble(PART[part].command, words);
+    if (part == CAMERA || part == OFFICE)
+        expect_no_trial(part, words);
     if (words != ASKS_FOR_UPGRADE)
         expect_trouble("upgrade", words);
 }
