@@ -17,7 +17,7 @@
 
 #define BOXES (OFFICE + 1)
 #define WHY_ROOM 512
-#define BLOCKS_LEAST 3 /* of a half, by the shortest vectors; DOOR_HALF_MOST has the most */
+#define HALF_LEAST ((int)DOOR_HALF(1)) /* bytes of a half of the shortest vectors */
 
 /* What a trial at one box has shown. */
 struct verdict {
@@ -28,8 +28,8 @@ struct verdict {
     bool opens; /* its key opens the half, which is then this box's, taken or not */
 };
 
-/* The number comes before the key: a half whose number is spent is tried as if none was. What would
-   be loaded is not told by that. */
+/* The number is tested before the key. So a half whose number is spent is tried once more, as if
+   none was: whose half it is tells a person what to do, and nothing is called good by it. */
 static bool key_opens(
     const struct door_party *party, const struct carried_half *half, uint32_t why)
 {
@@ -95,7 +95,7 @@ static void length_words(const struct carried_half *half, char words[WHY_ROOM])
 {
     snprintf(words, WHY_ROOM, "the file has %zu bytes; a half has %d to %d whole blocks of %d, "
         "that is %d to %d bytes. It was cut off, or it is no half. " AGAIN, half->file_size,
-        BLOCKS_LEAST, DOOR_HALF_MOST / DOOR_BLOCK, DOOR_BLOCK, BLOCKS_LEAST * DOOR_BLOCK,
+        HALF_LEAST / DOOR_BLOCK, DOOR_HALF_MOST / DOOR_BLOCK, DOOR_BLOCK, HALF_LEAST,
         DOOR_HALF_MOST);
 }
 
@@ -105,8 +105,8 @@ static void number_words(const struct verdict *v, char words[WHY_ROOM])
         v->last,
         v->opens ? ": it was loaded already, or it is older than what was. Every check asks the "
                    "dealer for a new set: bring the half of that one"
-                 : "; and it is another box's half, or it is damaged. Bring this box's half of a "
-                   "newer set");
+                 : "; and it is another box's half, or it is damaged. Bring the right box's half "
+                   "of a newer set");
 }
 
 static void content_words(const struct verdict *v, char words[WHY_ROOM])
@@ -115,6 +115,18 @@ static void content_words(const struct verdict *v, char words[WHY_ROOM])
         "version, or cut off behind a block. " AGAIN "; if that does not help, see that the dealer "
         "has this box's name, '%s', and that all parts have this version (run: door-host upgrade "
         "FOLDER, or use the newer program)", v->name);
+}
+
+/* What is the same at every box. No state from a disk has a set open, which 3 speaks of. */
+static const char *common_words(uint32_t why)
+{
+    if (why == DOOR_BAD_BLOCK)
+        return "no key there opens it: it is another box's or another door's half, or it is "
+               "damaged. See which box it is for. " AGAIN "; if that does not help, the keys "
+               "differ: see that the folder, the dealer and the stick are of one door";
+    if (why == DOOR_OUT_OF_TURN)
+        return "one set is open there and another one waits. Try again when the open one has ended";
+    return refusal_words(why);
 }
 
 /* Why the half is not taken and what to do, behind the refusal's number. */
@@ -129,15 +141,7 @@ static void why_words(
     else if (why == DOOR_BAD_CONTENT)
         content_words(v, words);
     else
-        snprintf(words, WHY_ROOM, "%s",
-            why == DOOR_BAD_BLOCK
-                ? "no key there opens it: it is another box's or another door's half, or it is "
-                  "damaged. " AGAIN "; if that does not help, the keys differ: see that the "
-                  "folder, the dealer and the stick are of one door"
-                : why == DOOR_OUT_OF_TURN
-                ? "one set is open there and another one waits. Try again when the open one has "
-                  "ended"
-                : refusal_words(why));
+        snprintf(words, WHY_ROOM, "%s", common_words(why));
 }
 
 /* The number stands in the file's first bytes. With a key that opens it, it is the set's. */

@@ -171,8 +171,8 @@ static void expect_spent(
 
 #define COPY_AGAIN "Copy it again from where the dealer wrote it"
 #define NO_KEY "take it (10): no key there opens it: it is another box's or another door's half, " \
-    "or it is damaged. " COPY_AGAIN "; if that does not help, the keys differ: see that the " \
-    "folder, the dealer and the stick are of one door\n"
+    "or it is damaged. See which box it is for. " COPY_AGAIN "; if that does not help, the keys " \
+    "differ: see that the folder, the dealer and the stick are of one door\n"
 
 static void expect_no_key(const char *half, uint64_t number)
 {
@@ -333,6 +333,22 @@ static void put_number(enum part box, uint64_t number)
     put_file(CHANGED, half.bytes, half.size);
 }
 
+#define SPENT "take it (7): its number is not above %" PRIu64 ", the last number there; and it " \
+    "is another box's half, or it is damaged. Bring the right box's half of a newer set\n"
+
+/* A damaged half whose number is spent at one box and not at the other. */
+static void spent_at_one(void)
+{
+    char lines[2 * LINE_ROOM];
+    put_flipped(OFFICE, DOOR_BLOCK - 1);
+    put_last(CAMERA, kept.number);
+    snprintf(lines, sizeof lines, "set %" PRIu64 ", by what the file says: the camera box would "
+        "not " SPENT "set %" PRIu64 ", by what the file says: the office box would not " NO_KEY,
+        kept.number, kept.number, kept.number);
+    expect_trial(TWIN, CHANGED, EXIT_SHUT, lines);
+    renew_twin();
+}
+
 /* Another number in the first block: above the boxes' last ones, and not. */
 static void other_number(enum part box)
 {
@@ -342,9 +358,8 @@ static void other_number(enum part box)
     put_number(box, UINT64_MAX);
     expect_no_key(CHANGED, UINT64_MAX);
     put_number(box, 0);
-    snprintf(line, sizeof line, "set 0, by what the file says: neither box would take it (7): its "
-        "number is not above %" PRIu64 ", the last number there; and it is another box's half, or "
-        "it is damaged. Bring this box's half of a newer set\n", kept.number - 1);
+    snprintf(line, sizeof line, "set 0, by what the file says: neither box would " SPENT,
+        kept.number - 1);
     expect_trial(TWIN, CHANGED, EXIT_SHUT, line);
 }
 
@@ -492,6 +507,7 @@ static void cases(void)
         one_box(box);
         box_in_trouble(box);
     }
+    spent_at_one();
     no_plain_file();
     no_trial();
     expect_both_taken(TWIN);
