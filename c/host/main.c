@@ -20,7 +20,8 @@ static int usage(void)
           "       door-host status FOLDER\n"
           "       door-host watch FOLDER\n"
           "       door-host upgrade FOLDER\n"
-          "       door-host trial FOLDER HALF    (status 0: a box would take it, 1: none would)\n",
+          "       door-host trial FOLDER HALF    (exit status: 0 a box would take it, 1 none would, "
+          "2 trouble)\n",
         stderr);
     return EXIT_TROUBLE;
 }
