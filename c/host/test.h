@@ -39,6 +39,7 @@ void kill_what_is_left(void); /* at the end of a failed test */
 
 /* Runs the program to its end and answers its exit status; one that does not end is killed. */
 int run_to_end(char *const arguments[]);
+int run_with_output(char *const arguments[], const char *path); /* which else goes to the log */
 int start_program(char *const arguments[]); /* answers the process */
 int end_of(int process);
 

@@ -494,6 +494,22 @@ static void no_trial(void)
         "a trial of no half says: %s", said);
 }
 
+/* The answer is the program's output, and one that cannot be told is trouble. */
+static void output(void)
+{
+    char line[LINE_ROOM], found[LINE_ROOM];
+    char *const arguments[] = {"door-host", "trial", TWIN, (char *)KEPT[OFFICE], NULL};
+    size_t size;
+    taken_line(OFFICE, kept.number, line);
+    not_its_half(OFFICE, line);
+    EXPECT(run_with_output(arguments, "answer") == EXIT_OPEN
+            && read_file("answer", found, sizeof found, &size) && size == strlen(line)
+            && memcmp(found, line, size) == 0,
+        "a trial does not put this out: %s", line);
+    EXPECT(run_with_output(arguments, "/dev/full") == EXIT_TROUBLE,
+        "a trial whose answer is lost ends well");
+}
+
 static void cases(void)
 {
     make_twin();
@@ -508,6 +524,7 @@ static void cases(void)
         box_in_trouble(box);
     }
     spent_at_one();
+    output();
     no_plain_file();
     no_trial();
     expect_both_taken(TWIN);
