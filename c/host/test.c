@@ -1026,6 +1026,7 @@ static int by_size(const void *a, const void *b)
 static double turn_ms(bool at_once)
 {
     int64_t turns[TURNS], start;
+    settle(); /* the next check may set the clock: the set that is dealt ahead comes first */
     undisturbed_check(VECTORS);
     start = check.report_ns;
     for (int i = 0; i < TURNS; i++) {
