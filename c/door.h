@@ -13,12 +13,12 @@
  *     struct door_party_answer a = door_load(box, half, size);
  *     box = a.party;
  *
- * Hand in each state once. A box of which an older copy is handed in again would put a second
- * vector under the same mask, and would take a spent set number. A host that is switched off must
- * keep at least `last`, to hand it in as the floor of the next start. Keep it before anything of
- * that set leaves the part: of a set that was loaded ahead too, since its number is spent at its
- * load. States hold keys and masks: they are as secret as these. Compare states field by field,
- * since padding between fields may have any bytes.
+ * Hand in each state once, except to door_trial, which has no next one. A box of which an older
+ * copy is handed in again would put a second vector under the same mask, and would take a spent set
+ * number. A host that is switched off must keep at least `last`, to hand it in as the floor of the
+ * next start. Keep it before anything of that set leaves the part: of a set that was loaded ahead
+ * too, since its number is spent at its load. States hold keys and masks: they are as secret as
+ * these. Compare states field by field, since padding between fields may have any bytes.
  *
  * Load ahead. A box may load one further set while another is open, so that the next check need
  * not wait for its half. That set waits: it can be neither masked, nor answered, nor dropped. When
@@ -26,11 +26,15 @@
  * just been loaded. Messages go out under the open set's number, check.set.number, and are compared
  * with it. While a set waits, `last` is the waiting set's number: do not send under `last`.
  *
+ * Trial. door_trial says whether a half would be taken, and of which door, measure and length it
+ * is, before anyone drives out with it. Nothing is spent: a half that was tried can be loaded.
+ *
  * Older sets. Every set that an older version of this library dealt must be scrapped, of every
- * code. door_load takes no older half: it is refused by 11, if by no earlier test. So is a new half
- * at an older box: where a box or the dealer alone is older, nobody is let in. But where the dealer and both boxes
- * are older and the lock alone is new, no call can tell. door_join then reports, by the older rule:
- * for distances that may be the other way about. So change all four parts together:
+ * code. Neither door_load nor door_trial takes an older half: it is refused by 11, if by no earlier
+ * test. So is a new half at an older box: where a box or the dealer alone is older, nobody is let
+ * in. But where the dealer and both boxes are older and the lock alone is new, no call can tell.
+ * door_join then reports, by the older rule: for distances that may be the other way about. So
+ * change all four parts together:
  *
  * 1. Stop the dealer, both boxes and the lock. Use no state from before: a box may have loaded an
  *    older set, and the structs have other fields.
@@ -51,7 +55,7 @@
  * first (enum door_refusal); but door_deal_by_clock tests 14 to 16 before all others. A refused call
  * changes nothing: the answer holds the state that was handed in, its word is 0, and every buffer is
  * as it was. So `box = a.party` is right either way. Only a refused start has no state to hand back:
- * the one in its answer is all zero.
+ * the one in its answer is all zero. So is what a refused trial tells.
  *
  * Buffers. A slice is a pointer and the number of its elements, not of its bytes. It is lent for
  * the call alone. What is const is only read; in a buffer that is not, an accepted call writes
@@ -100,10 +104,11 @@ enum door_refusal {
     DOOR_BAD_NAME = 1,
     /* A box is started with a party that is not 0 or 1, or a deal's code is not 0 to 2. */
     DOOR_BAD_PARTY_OR_CODE = 2,
-    /* A box call is out of its turn (a load with a set waiting is, whatever is handed in), or the
-       state handed in is none that a call leaves: in who.party, in check.phase, at its phase in
-       check.set.terms, or in the waiting set, that is one with none open, with a number not above
-       the open one, or with waiting.terms that no load leaves. Nothing else of it is tested. */
+    /* A box call is out of its turn (a load or a trial with a set waiting is, whatever is handed
+       in), or the state handed in is none that a call leaves: in who.party, in check.phase, at its
+       phase in check.set.terms, or in the waiting set, that is one with none open, with a number
+       not above the open one, or with waiting.terms that no load leaves. Nothing else of it is
+       tested. */
     DOOR_OUT_OF_TURN = 3,
     /* Key or seed is not 32 bytes, a message's name not 16, L not 1 to 512, a vector not the set's
        L, or a half not 3 to 16 whole blocks. */
@@ -113,8 +118,8 @@ enum door_refusal {
     /* A message of another kind or door, or of another sender than the one expected. */
     DOOR_WRONG_MESSAGE = 6,
     /* A set number is not the open one (box messages; so one for the waiting set is refused), not
-       above the last one (deal, load, join) or the open one (load), or differs between two joined
-       answers. */
+       above the last one (deal, load, trial, join) or the open one (load, trial), or differs
+       between two joined answers. */
     DOOR_WRONG_NUMBER = 7,
     /* An element, a threshold, P or Q is outside its measure's range; by the clock it is the chosen
        row's threshold, and a minute of DOOR_DAY or above is refused so too. */
@@ -155,9 +160,9 @@ enum door_code {
 };
 
 /* How far a box's check is. In every phase but the first, door_drop is in turn as well, and in
-   every phase door_load is, as long as no set waits. */
+   every phase door_load and door_trial are, as long as no set waits. */
 enum door_phase {
-    DOOR_IDLE = 0,   /* no set is open, and none waits; door_load alone is in turn */
+    DOOR_IDLE = 0,   /* no set is open, and none waits; only door_load and door_trial are in turn */
     DOOR_LOADED = 1, /* after door_load, or when a waiting set was opened; door_mask is in turn */
     DOOR_MASKED = 2, /* after door_mask; door_take is in turn */
     DOOR_TAKEN = 3   /* after door_take; door_finish is in turn */
@@ -253,6 +258,14 @@ struct door_party_answer {
     uint32_t why;
     struct door_party party;
     uint32_t word; /* what door_take and door_finish send, else 0 */
+};
+
+/* What door_trial answers. There is no state in it: the host's stays as it is. */
+struct door_trial_answer {
+    uint32_t why;            /* what door_load would answer */
+    uint8_t name[DOOR_NAME]; /* accepted: the door's padded name, as it stands in the half, which is
+                                the box's own; refused: zeros */
+    struct door_terms terms; /* accepted: the half's measure code and L; refused: zeros */
 };
 
 struct door_lock {
@@ -353,6 +366,27 @@ struct door_party_answer door_start_party(
  * by 3. The half's number must be above `last` and above the open set's. Refusals: 3, 4, 7, 10, 11.
  */
 struct door_party_answer door_load(
+    struct door_party party,
+    const uint8_t *half, size_t half_len);
+
+/*
+ * Trial load: what door_load would answer for this state and this half, and which door, measure
+ * code and L the half is for if it would be taken. It makes the tests of a load, those of every
+ * block's tag too, in their order. It does no more than that: no number is spent, `last` stays, and
+ * the half is only read. So there is no next state. The host keeps the one that it has, may try as
+ * many halves as it likes, and may load one that was tried.
+ *
+ *     struct door_trial_answer t = door_trial(box, half, size);
+ *     if (t.why == DOOR_ACCEPTED)
+ *         printf("%.16s, code %u, L %zu\n", (const char *)t.name, t.terms.code, t.terms.n);
+ *
+ * With a set open it speaks of a load ahead, and the open check is not disturbed. With one waiting
+ * it is refused by 3, whatever the half is, as a load would be: try again when the open set has
+ * ended. What it says holds for the state that was handed in. A load in between changes that: if it
+ * had a number not below the tried one, the tried half is then refused by 7, and while that set
+ * waits by 3. Refusals: 3, 4, 7, 10, 11.
+ */
+struct door_trial_answer door_trial(
     struct door_party party,
     const uint8_t *half, size_t half_len);
 
@@ -514,6 +548,9 @@ DOOR_AT(door_party, waiting, 9632);
 DOOR_SIZE(door_party_answer, 17152);
 DOOR_AT(door_party_answer, party, 8);
 DOOR_AT(door_party_answer, word, 17144);
+DOOR_SIZE(door_trial_answer, 40);
+DOOR_AT(door_trial_answer, name, 4);
+DOOR_AT(door_trial_answer, terms, 24);
 static_assert(sizeof(size_t) == 8, "size_t is the crates' usize");
 #undef DOOR_AT
 #undef DOOR_SIZE

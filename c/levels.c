@@ -23,6 +23,7 @@
     CALL(door_deal_by_clock) \
     CALL(door_start_party)   \
     CALL(door_load)          \
+    CALL(door_trial)         \
     CALL(door_mask)          \
     CALL(door_take)          \
     CALL(door_finish)        \

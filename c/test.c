@@ -1,9 +1,9 @@
 /*
  * Calls every function of door.h as a host does: whole checks, whose answers must be those of the
- * measure computed here; deals by the clock, which must be those by the row's threshold; each
- * refusal of each call, which must change nothing, empty slices with a null pointer among them; and
- * loads of sets that older versions dealt, which are all refused. Its argument is the level that
- * must be in use. c/test runs it.
+ * measure computed here; deals by the clock, which must be those by the row's threshold; a trial
+ * beside every load, which must say what that answers; each refusal of each call, which must change
+ * nothing, empty slices with a null pointer among them; and loads of sets that older versions
+ * dealt, which are all refused. Its argument is the level that must be in use. c/test runs it.
  */
 #include "door.h"
 #include "older.h"
@@ -115,12 +115,18 @@ struct door {
     uint64_t last; /* the lock's */
 };
 
-static struct door_party idle(uint32_t party, uint64_t last)
+static struct door_party box_of(
+    const uint8_t *name, size_t size, uint32_t party, uint64_t floor)
 {
     struct door_party_answer a =
-        door_start_party(BARE, sizeof BARE, party, keys[party], DOOR_KEY, last);
+        door_start_party(name, size, party, keys[party], DOOR_KEY, floor);
     EXPECT(a.why == DOOR_ACCEPTED);
     return a.party;
+}
+
+static struct door_party idle(uint32_t party, uint64_t last)
+{
+    return box_of(BARE, sizeof BARE, party, last);
 }
 
 static struct door_dealer dealer_of(const uint8_t *name, size_t size, uint64_t floor)
@@ -237,7 +243,7 @@ struct halves {
 /* A buffer that is lent has drawn bytes on both sides, which must stay. */
 
 #define FENCE 64 /* bytes on each side */
-#define FENCED_MOST sizeof((struct halves *)0)->half[0]
+#define FENCED_MOST (17 * DOOR_BLOCK) /* a half with a block too many */
 
 struct fenced {
     _Alignas(8) uint8_t at[FENCE + FENCED_MOST + FENCE];
@@ -246,15 +252,83 @@ struct fenced {
 
 static void *fence(struct fenced *f, const void *bytes, size_t size)
 {
-    draw_bytes(f->at, sizeof f->at);
-    memcpy(f->at + FENCE, bytes, size);
+    uint8_t *lent = f->at + FENCE;
+    draw_bytes(f->at, FENCE);
+    memcpy(lent, bytes, size);
+    draw_bytes(lent + size, FENCE);
     memcpy(f->expected, f->at, sizeof f->at);
-    return f->at + FENCE;
+    return lent;
 }
 
 static void unhurt(const struct fenced *f)
 {
     EXPECT(memcmp(f->at, f->expected, sizeof f->at) == 0);
+}
+
+/* A load, and beside it the trial, which must say what the load answers. */
+
+/* door_trial with the room for its answer in sight: on x86-64 a struct that does not fit into two
+   registers is returned through a pointer that is handed in before all else. */
+void trial_into(struct door_trial_answer *room, struct door_party party, const uint8_t *half,
+    size_t half_len) __asm__("door_trial");
+
+/* The answer goes into room that has drawn bytes in it and around it. */
+static struct door_trial_answer trial_fenced(
+    const struct door_party *box, const uint8_t *half, size_t size)
+{
+    static struct fenced f;
+    struct door_trial_answer t;
+    draw_bytes((uint8_t *)&t, sizeof t);
+    trial_into(fence(&f, &t, sizeof t), *box, half, size);
+    memcpy(&t, f.at + FENCE, sizeof t);
+    memcpy(f.expected + FENCE, &t, sizeof t);
+    unhurt(&f);
+    return t;
+}
+
+static bool same_trial(const struct door_trial_answer *a, const struct door_trial_answer *b)
+{
+    return a->why == b->why && SAME(a, b, name) && same_terms(&a->terms, &b->terms);
+}
+
+/* What a trial must say where a load answers this: the same number, and of a set that is taken the
+   door, which is the box's own, and the terms, wherever the load has put it. */
+static struct door_trial_answer trial_of(
+    const struct door_party *box, const struct door_party_answer *loaded)
+{
+    struct door_trial_answer t = {.why = loaded->why};
+    const struct door_party *next = &loaded->party;
+    if (t.why != DOOR_ACCEPTED)
+        return t;
+    memcpy(t.name, box->who.name, DOOR_NAME);
+    t.terms = box->check.phase == DOOR_IDLE ? next->check.set.terms : next->waiting.terms;
+    return t;
+}
+
+static bool same_answer(const struct door_party_answer *a, const struct door_party_answer *b)
+{
+    return a->why == b->why && a->word == b->word && same_party(&a->party, &b->party);
+}
+
+/* What a load answers, before a trial and after one; nothing that is handed in changes. The pointer
+   of an empty half is handed on, since it may be null. */
+static struct door_party_answer load(
+    const struct door_party *box, const uint8_t *half, size_t size)
+{
+    static struct fenced in;
+    static struct door_party before;
+    const uint8_t *lent = size == 0 ? half : fence(&in, half, size);
+    memcpy(&before, box, sizeof before);
+    const struct door_party_answer alone = door_load(*box, lent, size);
+    const struct door_trial_answer first = door_trial(*box, lent, size);
+    const struct door_party_answer after = door_load(*box, lent, size);
+    const struct door_trial_answer second = trial_fenced(box, lent, size);
+    const struct door_trial_answer said = trial_of(box, &alone);
+    EXPECT(same_trial(&first, &said) && same_trial(&second, &said));
+    EXPECT(same_answer(&after, &alone));
+    EXPECT(memcmp(box, &before, sizeof before) == 0);
+    unhurt(&in);
+    return alone;
 }
 
 /* What is handed to a deal. */
@@ -337,7 +411,7 @@ static void loads(struct door *d, uint64_t number, const struct check *k, const 
     const size_t n = k->terms.n, rest = sizeof(uint32_t) * (MOST - n);
     for (uint32_t party = 0; party < 2; party++) {
         struct door_party old = d->box[party];
-        struct door_party_answer a = door_load(old, h->half[party], half_size(n));
+        struct door_party_answer a = load(&old, h->half[party], half_size(n));
         EXPECT(a.why == DOOR_ACCEPTED && a.word == 0);
         const struct door_check *new = &a.party.check;
         EXPECT(same_identity(&a.party.who, &old.who) && a.party.who.party == party);
@@ -378,8 +452,8 @@ static uint32_t r_of(uint64_t number, const struct check *k)
     struct door_dealer dealer = dealer_of(BARE, sizeof BARE, number - 1);
     EXPECT(deal(dealer, number, &at_zero, &h).why == DOOR_ACCEPTED);
     for (int party = 0; party < 2; party++) {
-        struct door_party_answer a =
-            door_load(idle(party, number - 1), h.half[party], half_size(k->terms.n));
+        const struct door_party box = idle(party, number - 1);
+        struct door_party_answer a = load(&box, h.half[party], half_size(k->terms.n));
         EXPECT(a.why == DOOR_ACCEPTED);
         sum += a.party.check.set.r;
     }
@@ -1555,11 +1629,8 @@ static void box_refused(
 static void load_refused(
     const struct door_party *box, const uint8_t *half, size_t size, uint32_t why)
 {
-    static uint8_t before[17 * DOOR_BLOCK];
-    memcpy(before, half, size);
-    struct door_party_answer a = door_load(*box, half, size);
+    struct door_party_answer a = load(box, half, size);
     box_refused(&a, box, why);
-    EXPECT(memcmp(half, before, size) == 0);
 }
 
 static void mask_refused(
@@ -1946,7 +2017,7 @@ static void empty_at_box(uint8_t *none, uint32_t *no_words)
         DOOR_BAD_NAME);
     party_refused(door_start_party(BARE, sizeof BARE, 0, none, 0, 7), &none_started,
         DOOR_WRONG_LENGTH);
-    party_refused(door_load(*unloaded, none, 0), unloaded, DOOR_WRONG_LENGTH);
+    party_refused(load(unloaded, none, 0), unloaded, DOOR_WRONG_LENGTH);
     draw_bytes((uint8_t *)out.at, sizeof out.at);
     before = out;
     party_refused(door_mask(*loaded, no_words, 0, out.at, stage.n), loaded, DOOR_WRONG_LENGTH);
@@ -1996,16 +2067,6 @@ static void empty_slices(uint8_t *none, uint32_t *no_words)
 
 #define AHEAD 50   /* the number of the set that waits while set 41 is open */
 #define FURTHER 51 /* of one that cannot wait as well */
-
-static struct door_party_answer load_fenced(
-    const struct door_party *box, const uint8_t *half, size_t size)
-{
-    static struct fenced f;
-    const uint8_t *lent = fence(&f, half, size);
-    struct door_party_answer a = door_load(*box, lent, size);
-    unhurt(&f);
-    return a;
-}
 
 static struct door_party_answer mask_fenced(
     const struct door_party *box, const uint32_t *v, size_t n)
@@ -2065,7 +2126,7 @@ static struct ahead ahead;
 /* Whatever phase the open check is in, only the last number and what waits change. */
 static struct door_party load_ahead(const struct door_party *box)
 {
-    struct door_party_answer a = load_fenced(box, ahead.halves.half[1], ahead.size);
+    struct door_party_answer a = load(box, ahead.halves.half[1], ahead.size);
     struct door_party next = *box;
     next.last = AHEAD;
     next.waiting = ahead.opened.check.set;
@@ -2085,7 +2146,7 @@ static void set_ahead(uint32_t code, size_t n, bool between)
     deals(&d, FURTHER, &k, &ahead.further);
     ahead.size = half_size(n);
     ahead.n = n;
-    struct door_party_answer a = load_fenced(&unloaded, ahead.halves.half[1], ahead.size);
+    struct door_party_answer a = load(&unloaded, ahead.halves.half[1], ahead.size);
     EXPECT(a.why == DOOR_ACCEPTED && a.party.last == AHEAD);
     EXPECT(has_rule(&a.party.check.set, &k) && same_set(&a.party.waiting, &NO_SET));
     ahead.opened = a.party;
@@ -2132,13 +2193,13 @@ static void waits_alone(void)
     for (uint32_t phase = DOOR_LOADED; phase <= DOOR_TAKEN; phase++) {
         const struct door_party *box = &ahead.at[phase];
         uint8_t *half = ahead.further.half[1];
-        fenced_refused(load_fenced(box, half, ahead.size), box, DOOR_OUT_OF_TURN);
-        fenced_refused(load_fenced(box, ahead.halves.half[1], ahead.size), box, DOOR_OUT_OF_TURN);
-        fenced_refused(load_fenced(box, half, 0), box, DOOR_OUT_OF_TURN);
-        fenced_refused(load_fenced(box, half, ahead.size - 1), box, DOOR_OUT_OF_TURN);
-        fenced_refused(door_load(*box, NULL, 0), box, DOOR_OUT_OF_TURN);
+        fenced_refused(load(box, half, ahead.size), box, DOOR_OUT_OF_TURN);
+        fenced_refused(load(box, ahead.halves.half[1], ahead.size), box, DOOR_OUT_OF_TURN);
+        fenced_refused(load(box, half, 0), box, DOOR_OUT_OF_TURN);
+        fenced_refused(load(box, half, ahead.size - 1), box, DOOR_OUT_OF_TURN);
+        fenced_refused(load(box, NULL, 0), box, DOOR_OUT_OF_TURN);
         half[ahead.size - 1] ^= 1;
-        fenced_refused(load_fenced(box, half, ahead.size), box, DOOR_OUT_OF_TURN);
+        fenced_refused(load(box, half, ahead.size), box, DOOR_OUT_OF_TURN);
         half[ahead.size - 1] ^= 1;
     }
 }
@@ -2149,14 +2210,14 @@ static void number_refused(uint32_t phase, uint64_t last, uint64_t open, uint32_
     struct door_party box = stage.at[phase];
     box.last = last;
     box.check.set.number = open;
-    fenced_refused(load_fenced(&box, ahead.halves.half[1], ahead.size), &box, why);
+    fenced_refused(load(&box, ahead.halves.half[1], ahead.size), &box, why);
 }
 
 static void numbers_ahead(uint32_t phase)
 {
     const struct door_party *box = &stage.at[phase];
     fenced_refused(
-        load_fenced(box, stage.halves.half[1], stage.size), box, DOOR_WRONG_NUMBER);
+        load(box, stage.halves.half[1], stage.size), box, DOOR_WRONG_NUMBER);
     number_refused(phase, AHEAD, 41, DOOR_WRONG_NUMBER);
     number_refused(phase, UINT64_MAX, 41, DOOR_WRONG_NUMBER);
     number_refused(phase, 41, AHEAD, DOOR_WRONG_NUMBER);
@@ -2171,7 +2232,7 @@ static void numbers_ahead(uint32_t phase)
 static void all_refused(const struct door_party *box)
 {
     const uint32_t why = DOOR_OUT_OF_TURN;
-    fenced_refused(load_fenced(box, ahead.further.half[1], ahead.size), box, why);
+    fenced_refused(load(box, ahead.further.half[1], ahead.size), box, why);
     fenced_refused(mask_fenced(box, stage.v, stage.n), box, why);
     fenced_refused(take_fenced(box, stage.vector, stage.v), box, why);
     fenced_refused(finish_fenced(box, stage.word, 12345), box, why);
@@ -2208,7 +2269,7 @@ static void none_waits(uint32_t phase)
     box.waiting.number = 1;
     turns(&box, true);
     fenced_refused(
-        load_fenced(&box, ahead.halves.half[1], ahead.size), &box, DOOR_ACCEPTED);
+        load(&box, ahead.halves.half[1], ahead.size), &box, DOOR_ACCEPTED);
 }
 
 static void waiting_states(void)
@@ -2313,6 +2374,207 @@ static void odd_rules(void)
     }
 }
 
+/* Trials, whose answers are held against what was dealt. */
+
+static void trial_says(const struct door_party *box, const uint8_t *half, size_t size,
+    const struct door_trial_answer *said)
+{
+    const struct door_party_answer loaded = load(box, half, size);
+    const struct door_trial_answer t = door_trial(*box, half, size);
+    EXPECT(same_trial(&t, said) && loaded.why == said->why);
+}
+
+static void trial_refused(
+    const struct door_party *box, const uint8_t *half, size_t size, uint32_t why)
+{
+    const struct door_trial_answer said = {.why = why};
+    trial_says(box, half, size, &said);
+}
+
+/* At a box whose name is the half's. */
+static void trial_taken(
+    const struct door_party *box, const uint8_t *half, const struct door_terms *terms)
+{
+    struct door_trial_answer said = {.why = DOOR_ACCEPTED, .terms = *terms};
+    memcpy(said.name, box->who.name, DOOR_NAME);
+    trial_says(box, half, half_size(terms->n), &said);
+}
+
+/* A set of this code and length, every other time between two marks, at a dealer with this name. */
+static struct check trial_set(const uint8_t *name, size_t size, uint64_t number,
+    struct door_terms terms, struct halves *h)
+{
+    struct check k = drawn_check(terms.code, terms.n);
+    if (draw() % 2 == 0)
+        draw_marks(&k);
+    draw_bytes(seed, DOOR_KEY);
+    EXPECT(deal(dealer_of(name, size, number - 1), number, &k, h).why == DOOR_ACCEPTED);
+    return k;
+}
+
+/* A name is told whole, of every length, with blanks at its ends; where one byte of it or of its
+   padding is another, the half is of another door. */
+static void trial_names(void)
+{
+    static const uint8_t name[DOOR_NAME] = " ut 4, back doo ";
+    static struct halves h;
+    for (size_t size = 1; size <= DOOR_NAME; size++) {
+        const struct door_terms terms = {size % 3, 1 + draw() % MOST};
+        trial_set(name, size, 41, terms, &h);
+        for (uint32_t party = 0; party < 2; party++) {
+            struct door_party box = box_of(name, size, party, 40);
+            EXPECT(memcmp(box.who.name, name, size) == 0);
+            EXPECT(all_zero(box.who.name + size, DOOR_NAME - size));
+            trial_taken(&box, h.half[party], &terms);
+            for (size_t i = 0; i < DOOR_NAME; i++) {
+                box.who.name[i] ^= 1;
+                trial_refused(&box, h.half[party], half_size(terms.n), DOOR_BAD_CONTENT);
+                box.who.name[i] ^= 1;
+            }
+        }
+    }
+}
+
+/* Code and L of every set, at a box with none open and at one that has another set open. */
+static void trial_lengths(void)
+{
+    static struct halves h, other;
+    for (size_t i = 0; i < 3 * MOST; i++) {
+        const struct door_terms terms = {i % 3, 1 + i / 3};
+        const struct door_terms open = {(terms.code + 1) % 3, MOST + 1 - terms.n};
+        trial_set(BARE, sizeof BARE, 42, terms, &h);
+        trial_set(BARE, sizeof BARE, 41, open, &other);
+        const uint32_t party = draw() % 2;
+        const struct door_party box = idle(party, 40);
+        const struct door_party_answer a = load(&box, other.half[party], half_size(open.n));
+        EXPECT(a.why == DOOR_ACCEPTED);
+        trial_taken(&box, h.half[party], &terms);
+        trial_taken(&a.party, h.half[party], &terms);
+    }
+}
+
+/* At an office box: the half is of this set, whose number is above the box's or not. */
+static void trial_number(
+    const struct door_party *box, const uint8_t *half, const struct door_terms *terms, bool above)
+{
+    if (above)
+        trial_taken(box, half, terms);
+    else
+        trial_refused(box, half, half_size(terms->n), DOOR_WRONG_NUMBER);
+}
+
+/* The number of a half is compared whole, with the last one and with that of an open set, whichever
+   is higher; not with that of a set which is not open or does not wait. */
+static void trial_numbers(void)
+{
+    static struct halves h, other;
+    const struct door_terms terms = {DOOR_EUCLID, 18};
+    trial_set(BARE, sizeof BARE, 1, terms, &other);
+    for (size_t i = 0; i < sizeof NUMBERS / sizeof *NUMBERS; i++) {
+        const uint64_t last = NUMBERS[i].last, number = NUMBERS[i].number;
+        if (number == 0) /* it cannot be dealt */
+            continue;
+        trial_set(BARE, sizeof BARE, number, terms, &h);
+        const struct door_party unloaded = idle(1, 0);
+        struct door_party open = load(&unloaded, other.half[1], half_size(terms.n)).party;
+        struct door_party closed = idle(1, last);
+        closed.check.set.number = closed.waiting.number = open.waiting.number = UINT64_MAX;
+        trial_number(&closed, h.half[1], &terms, NUMBERS[i].above);
+        for (uint32_t holds = 1; holds < 4; holds++) { /* a bit for each that has the number */
+            open.last = holds & 1 ? last : 0;
+            open.check.set.number = holds & 2 ? last : 0;
+            trial_number(&open, h.half[1], &terms, NUMBERS[i].above);
+        }
+    }
+}
+
+/* A bit of any block: of its number, its place, what is sealed, the tag; and of the box's key. The
+   box's last number is one below the half's, which is odd: without its first bit it is the last. */
+static void trial_flips(const struct door_party *box, const uint8_t *half, size_t size)
+{
+    static const size_t places[] = {0, 7, 8, 11, 12, 200, 495, 496, 511};
+    static uint8_t flipped[DOOR_HALF_MOST];
+    memcpy(flipped, half, size);
+    for (size_t i = 0; i < sizeof places / sizeof *places; i++)
+        for (size_t block = 0; block < size; block += DOOR_BLOCK) {
+            const size_t at = block + places[i];
+            const uint8_t bit = places[i] == 0 ? 1 : (uint8_t)(1 << draw() % 8);
+            flipped[at] ^= bit;
+            trial_refused(box, flipped, size, at == 0 ? DOOR_WRONG_NUMBER : DOOR_BAD_BLOCK);
+            flipped[at] ^= bit;
+        }
+    struct door_party other = *box;
+    for (size_t i = 0; i < DOOR_KEY; i++) {
+        other.who.key[i] ^= (uint8_t)(1 << draw() % 8);
+        trial_refused(&other, half, size, DOOR_BAD_BLOCK);
+        other.who.key[i] = box->who.key[i];
+    }
+}
+
+/* What may be wrong with a load or a trial, in the order in which it is tested. */
+enum load_fault {
+    LOAD_PARTY, LOAD_WAITING, LOAD_EMPTY, LOAD_SIZE, LOAD_LAST, LOAD_OPEN, LOAD_BLOCK, LOAD_DOOR,
+    LOAD_FAULTS
+};
+
+static const uint32_t WHY_LOAD[LOAD_FAULTS] = {
+    [LOAD_PARTY] = DOOR_OUT_OF_TURN, [LOAD_WAITING] = DOOR_OUT_OF_TURN,
+    [LOAD_EMPTY] = DOOR_WRONG_LENGTH, [LOAD_SIZE] = DOOR_WRONG_LENGTH,
+    [LOAD_LAST] = DOOR_WRONG_NUMBER, [LOAD_OPEN] = DOOR_WRONG_NUMBER,
+    [LOAD_BLOCK] = DOOR_BAD_BLOCK, [LOAD_DOOR] = DOOR_BAD_CONTENT,
+};
+
+/* Every choice of faults: the first that is tested refuses. The halves are the door's own and
+   another door's under the same keys, both of set FURTHER. */
+static void trial_faults(const struct door_party *good, const uint8_t *own, const uint8_t *other)
+{
+    static uint8_t half[DOOR_HALF_MOST];
+    const size_t size = ahead.size;
+    for (uint32_t faults = 1; faults < 1 << LOAD_FAULTS; faults++) {
+        struct door_party box = *good;
+        const bool empty = faults >> LOAD_EMPTY & 1;
+        uint32_t first = 0;
+        while (!(faults >> first & 1))
+            first++;
+        if (first == LOAD_OPEN && box.check.phase == DOOR_IDLE)
+            continue; /* it is no fault */
+        memcpy(half, faults >> LOAD_DOOR & 1 ? other : own, size);
+        half[size - 1] ^= (uint8_t)(faults >> LOAD_BLOCK & 1);
+        if (faults >> LOAD_PARTY & 1)
+            box.who.party = 2;
+        if (faults >> LOAD_WAITING & 1)
+            box.waiting = ahead.opened.check.set;
+        if (faults >> LOAD_LAST & 1)
+            box.last = FURTHER;
+        if (faults >> LOAD_OPEN & 1)
+            box.check.set.number = FURTHER;
+        trial_refused(&box, empty ? NULL : half, empty ? 0 : size - (faults >> LOAD_SIZE & 1),
+            WHY_LOAD[first]);
+    }
+}
+
+/* With no set open and with one in each phase, of other terms; and with one that waits, none is
+   looked at. */
+static void trials(uint32_t code)
+{
+    static struct halves other;
+    const struct door_terms terms = {code, ahead.n};
+    trial_set(OTHER, 4, FURTHER, terms, &other);
+    for (uint32_t phase = DOOR_IDLE; phase <= DOOR_TAKEN; phase++) {
+        struct door_party box = stage.at[phase];
+        trial_taken(&box, ahead.halves.half[1], &terms);
+        trial_taken(&box, ahead.further.half[1], &terms);
+        trial_refused(&box, ahead.further.half[0], ahead.size, DOOR_BAD_BLOCK);
+        trial_faults(&box, ahead.further.half[1], other.half[1]);
+        box.last = FURTHER - 1;
+        trial_flips(&box, ahead.further.half[1], ahead.size);
+        if (phase != DOOR_IDLE)
+            trial_refused(
+                &ahead.at[phase], ahead.further.half[1], ahead.size, DOOR_OUT_OF_TURN);
+    }
+    trial_taken(&ahead.opened, ahead.further.half[1], &terms);
+}
+
 static void loads_ahead(uint32_t code, size_t n, bool between)
 {
     set_ahead(code, n, between);
@@ -2324,13 +2586,14 @@ static void loads_ahead(uint32_t code, size_t n, bool between)
     number_refused(DOOR_IDLE, AHEAD - 1, UINT64_MAX, DOOR_ACCEPTED); /* none is open */
     waiting_states();
     messages_ahead();
+    trials(code);
 }
 
 /* Two checks, of which the second is loaded while the first is under way. */
 
 struct overlap {
-    struct check k[2];
-    struct halves halves[2];
+    struct check k[2], tried; /* a third set is tried between the calls, and never loaded */
+    struct halves halves[2], tried_halves;
     struct door_party box[2];
     uint32_t done[2][2];         /* by box and set: how many of calls 1 to 4 */
     uint32_t goal[2][2];         /* how many are to be done */
@@ -2338,6 +2601,8 @@ struct overlap {
     struct vector sent[2][2];    /* by box and set */
     uint32_t words[2][2], answers[2][2];
 };
+
+#define TRIED_NUMBER 90
 
 static uint64_t overlap_number(int set)
 {
@@ -2372,7 +2637,7 @@ static struct door_party_answer next_call(struct overlap *o, int box, int set)
     uint32_t v[MOST];
     switch (o->done[box][set]) {
     case 0:
-        return load_fenced(party, o->halves[set].half[box], half_size(n));
+        return load(party, o->halves[set].half[box], half_size(n));
     case 1:
         words_of(&o->k[set], box, v);
         return mask_fenced(party, v, n);
@@ -2385,8 +2650,31 @@ static struct door_party_answer next_call(struct overlap *o, int box, int set)
     }
 }
 
+/* Trials that are taken and trials that are refused, wherever the check is: it goes on as if there
+   had been none. The sets' own numbers are below the tried one. */
+static void tries(const struct overlap *o, int box)
+{
+    static uint8_t broken[DOOR_HALF_MOST];
+    const struct door_party *party = &o->box[box];
+    const struct door_terms *terms = &o->tried.terms;
+    const uint8_t *half = o->tried_halves.half[box], *other = o->tried_halves.half[1 - box];
+    const bool waits = party->waiting.terms.n != 0;
+    const size_t size = half_size(terms->n);
+    memcpy(broken, half, size);
+    broken[size - 1] ^= 1;
+    if (!waits)
+        trial_taken(party, half, terms);
+    trial_refused(party, broken, size, waits ? DOOR_OUT_OF_TURN : DOOR_BAD_BLOCK);
+    trial_refused(party, other, size, waits ? DOOR_OUT_OF_TURN : DOOR_BAD_BLOCK);
+    trial_refused(party, half, size - 1, waits ? DOOR_OUT_OF_TURN : DOOR_WRONG_LENGTH);
+    if (o->done[box][0] > 0)
+        trial_refused(party, o->halves[0].half[box], half_size(o->k[0].terms.n),
+            waits ? DOOR_OUT_OF_TURN : DOOR_WRONG_NUMBER);
+}
+
 static void go_on(struct overlap *o, int box, int set)
 {
+    tries(o, box);
     struct door_party_answer a = next_call(o, box, set);
     EXPECT(a.why == DOOR_ACCEPTED);
     uint32_t done = ++o->done[box][set];
@@ -2448,6 +2736,8 @@ static void begin_overlap(struct overlap *o)
         deals(&d, overlap_number(set), &o->k[set], &o->halves[set]);
         o->box[set] = d.box[set];
     }
+    o->tried = drawn_check(draw() % 3, lengths[draw() % 4]);
+    deals(&d, TRIED_NUMBER, &o->tried, &o->tried_halves);
     set_goals(o, 0, 4, 4);
     set_goals(o, 1, 4, 4);
 }
@@ -2609,6 +2899,9 @@ int main(int count, char **arguments)
     for (uint32_t code = 0; code < 3; code++)
         for (int between = 0; between < 2; between++)
             refusals_of(code, between);
+    trial_names();
+    trial_lengths();
+    trial_numbers();
     for (int i = 0; i < 4; i++)
         overlaps();
     joins();

@@ -8,7 +8,7 @@ use crate::measure::Who;
 use second::dealer::{Clock, Dealer, Order};
 use second::lock::{self, Answer};
 use second::message::Label;
-use second::party::Party;
+use second::party::{Party, Told};
 use second::refusal;
 
 /// What a box is handed in a call.
@@ -50,6 +50,8 @@ pub trait Calls: Copy {
     fn step(self, party: &mut Self::Party, step: Step) -> Said;
     /// The same, but the state stays and the next one goes elsewhere.
     fn step_to(self, party: &Self::Party, next: &mut Self::Party, step: Step) -> Said;
+    /// What is told of a half that a load would take, or else why it would not.
+    fn trial(self, party: &Self::Party, half: &[u8]) -> Result<Told, u32>;
     /// 0 or 1, or 100 plus the refusal's number.
     fn join(self, name: &[u8], last: u64, answers: [&Answer; 2]) -> u32;
     /// Where both boxes' states go.
@@ -118,6 +120,10 @@ impl Calls for Second {
     fn step_to(self, party: &Party, next: &mut Party, step: Step) -> Said {
         next.clone_from(party);
         self.step(next, step)
+    }
+
+    fn trial(self, party: &Party, half: &[u8]) -> Result<Told, u32> {
+        party.trial(half).map_err(|why| why as u32)
     }
 
     fn join(self, name: &[u8], last: u64, answers: [&Answer; 2]) -> u32 {

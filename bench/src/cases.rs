@@ -6,6 +6,7 @@ use crate::door::{label, Door, Known, Parts, Sent, FLOOR, FULL, MARKS, NUMBER, O
 use crate::foreign::ours::Ours;
 use crate::measure::{row, way, Row, Way};
 use second::message::{Label, MASKED_VECTOR, WORD};
+use second::party::Told;
 use second::rule::Rule;
 
 pub struct Case {
@@ -29,6 +30,11 @@ enum Call {
         phase: usize,
         step: MakeStep,
     },
+    /// A trial there.
+    Trial {
+        phase: usize,
+        half: FindHalf,
+    },
     Join {
         number: u64,
     },
@@ -39,6 +45,8 @@ enum Call {
 /// A masked vector would go to the words.
 type MakeStep = for<'a> fn(&'a Known, &'a mut [u32]) -> Step<'a>;
 
+type FindHalf = fn(&Known) -> &[u8];
+
 const fn deal(name: &'static str, why: u32, rule: Rule) -> Case {
     let call = Call::Deal { rule };
     Case { name, why, call }
@@ -46,6 +54,11 @@ const fn deal(name: &'static str, why: u32, rule: Rule) -> Case {
 
 const fn on_box(name: &'static str, why: u32, phase: usize, step: MakeStep) -> Case {
     let call = Call::Box { phase, step };
+    Case { name, why, call }
+}
+
+const fn trial(name: &'static str, why: u32, phase: usize, half: FindHalf) -> Case {
+    let call = Call::Trial { phase, half };
     Case { name, why, call }
 }
 
@@ -101,12 +114,14 @@ pub const BY_CLOCK: [Case; 2] = [
     },
 ];
 
-/// The calls of a check, in their order.
-pub const ACCEPTED: [Case; 10] = [
+/// The calls of a check, in their order, and the trial of what is loaded.
+pub const ACCEPTED: [Case; 12] = [
     DEAL,
     deal("deal between two marks", 0, MARKS),
     on_box("load", 0, 0, |known, out| known.step(0, out)),
     on_box("load ahead", 0, 1, |known, _| Step::Load(&known.ahead)),
+    trial("trial", 0, 0, |known| &known.sent.halves[PARTY]),
+    trial("trial ahead", 0, 1, |known| &known.ahead),
     MASK,
     on_box("take", 0, 2, |known, out| known.step(2, out)),
     on_box("finish", 0, 3, |known, out| known.step(3, out)),
@@ -116,7 +131,7 @@ pub const ACCEPTED: [Case; 10] = [
 ];
 
 /// A refusal of each call, where it can be had one that comes late among its tests.
-pub const REFUSED: [Case; 11] = [
+pub const REFUSED: [Case; 14] = [
     deal("deal, threshold out of range", 8, Rule::Threshold(i32::MIN)),
     deal("deal, marks out of order", 13, Rule::Between(1, 0)),
     Case {
@@ -133,6 +148,9 @@ pub const REFUSED: [Case; 11] = [
     on_box("load, a bad last tag", 10, 0, |known, _| {
         Step::Load(&known.broken)
     }),
+    trial("trial, a set waits", 3, FULL, |known| &known.ahead),
+    trial("trial, a spent number", 7, 0, |known| &known.spent),
+    trial("trial, a bad last tag", 10, 0, |known| &known.broken),
     on_box("mask, last element out of range", 8, 1, |known, out| {
         Step::Mask(&known.wide, out)
     }),
@@ -155,6 +173,8 @@ pub const REFUSED: [Case; 11] = [
 #[derive(Clone, PartialEq)]
 struct Left {
     said: Said,
+    /// By an accepted trial.
+    told: Option<Told>,
     sent: Sent,
     states: States,
 }
@@ -165,6 +185,7 @@ impl Left {
         let (why, word) = (u32::MAX, 0);
         Left {
             said: Said { why, word },
+            told: None,
             sent: Sent::nothing(door.length),
             states: door.states(),
         }
@@ -223,6 +244,12 @@ impl Call {
                 let next = &mut states.of(who)[PARTY];
                 let step = step(known, &mut sent.masked[PARTY]);
                 who.step_to(&parts.phases[phase], next, step)
+            }
+            Call::Trial { phase, half } => {
+                let tried = who.trial(&parts.phases[phase], half(known));
+                left.told = tried.ok();
+                let why = tried.err().unwrap_or(0);
+                Said { why, word: 0 }
             }
             Call::Join { number } => {
                 let word = known.join(who, number);

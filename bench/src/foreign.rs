@@ -12,7 +12,7 @@ pub type Tag = [u8; 16];
 /// The verified functions of crates/bench_cipher, bench_check, c_door and c_lock, at each level of x86-64,
 /// and what the cipher and the check are handed.
 pub mod ours {
-    use super::door::{ClockAnswer, Dealer, DealerAnswer, Party, PartyAnswer, Terms};
+    use super::door::{ClockAnswer, Dealer, DealerAnswer, Party, PartyAnswer, Terms, TrialAnswer};
     use super::*;
     use crate::level::Level;
     use second::dcf::{self, Seed};
@@ -203,6 +203,7 @@ pub mod ours {
             half: *const u8,
             half_len: usize,
         );
+        fn door_trial(party: Party, half: *const u8, half_len: usize,) -> TrialAnswer;
         fn door_mask(
             answer: *mut PartyAnswer,
             party: Party,
@@ -371,6 +372,7 @@ pub mod door {
     use second::lock::Answer;
     use second::message::Label;
     use second::opened::OpenedSet;
+    use second::party::Told;
     use second::rule::Rule;
     use second::{dcf, party};
     use std::mem::MaybeUninit;
@@ -481,6 +483,14 @@ pub mod door {
         why: u32,
         party: Party,
         word: u32,
+    }
+
+    /// What a trial answers: there is no state in it.
+    #[repr(C)]
+    pub struct TrialAnswer {
+        why: u32,
+        name: [u8; 16],
+        terms: Terms,
     }
 
     impl PartyAnswer {
@@ -616,6 +626,22 @@ pub mod door {
             next.said()
         }
 
+        /// Not taken into its callers, as `call` is not.
+        #[inline(never)]
+        fn trial(self, party: &PartyAnswer, half: &[u8]) -> Result<Told, u32> {
+            let trial = self.functions.door_trial;
+            let TrialAnswer { why, name, terms } =
+                unsafe { trial(party.party, half.as_ptr(), half.len()) };
+            match why {
+                0 => Ok(Told {
+                    name,
+                    code: terms.code,
+                    length: terms.n as u32,
+                }),
+                _ => Err(why),
+            }
+        }
+
         fn join(self, name: &[u8], last: u64, answers: [&Answer; 2]) -> u32 {
             let [(kind0, name0, len0, sender0, number0), (kind1, name1, len1, sender1, number1)] =
                 answers.map(|answer| apart(&answer.label));
@@ -671,13 +697,14 @@ pub mod door {
     }
 
     /// The structs of the calls, with their sizes in bytes.
-    pub const SIZES: [(&str, usize); 6] = [
+    pub const SIZES: [(&str, usize); 7] = [
         ("door_dealer", size_of::<Dealer>()),
         ("door_dealer_answer", size_of::<DealerAnswer>()),
         ("door_clock_answer", size_of::<ClockAnswer>()),
         ("door_set", size_of::<Set>()),
         ("door_party", size_of::<Party>()),
         ("door_party_answer", size_of::<PartyAnswer>()),
+        ("door_trial_answer", size_of::<TrialAnswer>()),
     ];
 }
 

@@ -267,6 +267,8 @@ pub fn accepted(timings: &[Timing]) -> Vec<Table> {
          last",
         "the second implementation works in place, on a copy of the state, which is in the time of \
          a single call, and once for each box in that of a whole check",
+        "trial: the state goes into ours by value and none comes out; the second implementation \
+         copies none",
     ];
     for_each_level(table, strings(notes))
 }
@@ -289,9 +291,9 @@ pub fn refused(timings: &[Timing]) -> Vec<Table> {
         table
     };
     let notes = [
-        "a load with a bad tag tests every block before it answers, whichever it is",
-        "a box's state goes in and comes out by value in ours; the second implementation works in \
-         place, and has one copy of the state in its time",
+        "a load or a trial with a bad tag tests every block before it answers, whichever it is",
+        "a box's state goes in and, but for a trial, comes out by value in ours; the second \
+         implementation works in place, and has one copy of the state in its time, a trial's none",
     ];
     for_each_level(table, strings(notes))
 }

@@ -1,6 +1,6 @@
 /*
- * Every call of door.h that a check makes, on the states and messages of one check. bench/against
- * compiles this for each of two archives, with the door.h of each.
+ * Every call of door.h that a check makes, and the trial, on the states and messages of one check.
+ * bench/against compiles this for each of two archives, with the door.h of each.
  */
 #include "calls.h"
 #include "door.h"
@@ -83,6 +83,11 @@ static struct door_party_answer load(const struct door_party *box, const uint8_t
     return door_load(*box, half, DOOR_HALF(at->terms.n));
 }
 
+static uint32_t trial(const struct door_party *box, const uint8_t *half)
+{
+    return door_trial(*box, half, DOOR_HALF(at->terms.n)).why;
+}
+
 static struct door_party_answer mask(const struct door_party *box, uint32_t party)
 {
     const size_t n = at->terms.n;
@@ -147,6 +152,8 @@ static void make_deal_by_32_rows(void) { heard = deal_by_clock(DOOR_ROWS_MOST, a
 static void make_refused_by_clock(void) { heard = refuse_by_clock(); }
 static void make_load(void) { heard = load(&at->idle[1], at->half[1]).why; }
 static void make_load_ahead(void) { heard = load(&at->loaded[1], at->next_half[1]).why; }
+static void make_trial(void) { heard = trial(&at->idle[1], at->half[1]); }
+static void make_trial_ahead(void) { heard = trial(&at->loaded[1], at->next_half[1]); }
 static void make_mask(void) { heard = mask(&at->loaded[1], 1).why; }
 static void make_mask_euclid(void) { heard = mask(&at->loaded_euclid, 1).why; }
 static void make_take(void) { heard = take(1).word; }
@@ -196,6 +203,8 @@ static void prepare(size_t n)
     expect(deal(NEXT, at->next_half), "deal");
     check();
     expect(load(&at->loaded[1], at->next_half[1]).why, "load ahead");
+    expect(trial(&at->idle[1], at->half[1]), "trial");
+    expect(trial(&at->loaded[1], at->next_half[1]), "trial ahead");
     expect(door_drop(at->taken[1]).why, "drop");
 }
 
@@ -219,6 +228,8 @@ struct calls calls_for(size_t n, void *room, size_t room_size)
         {"bad table", make_refused_by_clock},
         {"load", make_load},
         {"load ahead", make_load_ahead},
+        {"trial", make_trial},
+        {"trial ahead", make_trial_ahead},
         {"mask", make_mask},
         {"mask, Euclid", make_mask_euclid},
         {"take", make_take},

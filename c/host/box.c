@@ -45,30 +45,36 @@ static bool is_waiting(const struct box *box)
 }
 
 /* The state goes on and the answer's copy of it goes away; the refusal is handed back. */
-static uint32_t adopt(struct box *box, struct door_party_answer *a)
+static uint32_t adopt(struct door_party *party, struct door_party_answer *a)
 {
     uint32_t why = a->why;
-    box->party = a->party;
+    *party = a->party;
     explicit_bzero(a, sizeof *a);
     return why;
 }
 
-static bool start_box(struct box *box, enum part self)
+bool read_box(enum part self, struct door_party *party)
 {
     struct door_name name;
     uint8_t key[DOOR_KEY];
     uint64_t last;
-    if (!start_part(self, &name, &last) || !read_key(PART[self].command, "key", key))
+    if (!read_part(self, &name, &last) || !read_key(PART[self].command, "key", key))
         return false;
     struct door_party_answer a =
         door_start_party(name.bytes, name.size, self, key, DOOR_KEY, last);
-    uint32_t why = adopt(box, &a);
+    uint32_t why = adopt(party, &a);
     explicit_bzero(key, sizeof key);
-    if (why != DOOR_ACCEPTED) {
-        say_refused("the start", last, why, "the box does not start");
+    if (why != DOOR_ACCEPTED)
+        say("with what its folder has, the start of the %s is refused (%" PRIu32 "): %s; the box "
+            "does not start", PART[self].title, why, refusal_words(why));
+    return why == DOOR_ACCEPTED;
+}
+
+static bool start_box(struct box *box, enum part self)
+{
+    if (!enter_part(self) || !read_box(self, &box->party))
         return false;
-    }
-    remove_halves(self, last);
+    remove_halves(self, box->party.last);
     return true;
 }
 
@@ -89,7 +95,7 @@ static void drop_open_set(struct box *box, const char *because)
         return;
     uint64_t number = box->party.check.set.number;
     struct door_party_answer a = door_drop(box->party);
-    uint32_t why = adopt(box, &a);
+    uint32_t why = adopt(&box->party, &a);
     if (why == DOOR_ACCEPTED)
         say("set %" PRIu64 ": dropped, %s; its number stays spent", number, because);
     else
@@ -118,7 +124,7 @@ static bool load(struct box *box, uint64_t number, const uint8_t *half, size_t s
 {
     static const char *const because = "since a last number could not be forced to disk";
     struct door_party_answer a = door_load(box->party, half, size);
-    *why = adopt(box, &a);
+    *why = adopt(&box->party, &a);
     if (*why != DOOR_ACCEPTED) {
         say_refused("the load", number, *why, "the half is not used");
         return false;
@@ -174,7 +180,7 @@ static bool mask(
     uint64_t number = box->party.check.set.number;
     struct door_party_answer a =
         door_mask(box->party, vector->words, vector->length, masked, DOOR_LENGTH_MOST);
-    *why = adopt(box, &a);
+    *why = adopt(&box->party, &a);
     if (*why != DOOR_ACCEPTED) {
         say_refused("the mask call", number, *why, "nothing has left the box");
         drop_open_set(box, "since it cannot be used for this vector");
@@ -196,7 +202,7 @@ static void hand_in(struct box *box, const struct link *link, const struct messa
         : door_take(
               box->party, m->kind, m->name, DOOR_NAME, m->sender, m->number, m->words, m->count);
     uint32_t word = a.word;
-    uint32_t why = adopt(box, &a);
+    uint32_t why = adopt(&box->party, &a);
     if (why != DOOR_ACCEPTED)
         say_refused(finishes ? "the finish call" : "the take call", m->number, why,
             "the message is dropped");

@@ -18,6 +18,7 @@
 bool deals_ahead = true;
 
 static const char *program;
+static const char *output = "log";
 static pid_t children[PARTS];
 
 void name_program(const char *path)
@@ -25,11 +26,16 @@ void name_program(const char *path)
     program = path;
 }
 
+static bool direct(int stream, const char *path)
+{
+    int file = open(path, O_WRONLY | O_CREAT | O_APPEND | O_CLOEXEC, 0600);
+    return file >= 0 && dup2(file, stream) >= 0;
+}
+
 /* In the child: what it says goes to the log, of which a failed test shows where it is. */
 static void become(char *const arguments[])
 {
-    int log = open("log", O_WRONLY | O_CREAT | O_APPEND, 0600);
-    if (log < 0 || dup2(log, STDOUT_FILENO) < 0 || dup2(log, STDERR_FILENO) < 0)
+    if (!direct(STDOUT_FILENO, output) || !direct(STDERR_FILENO, "log"))
         _exit(127);
     execv(program, arguments);
     _exit(127);
@@ -76,6 +82,14 @@ void hear_log(long since, char said[SAID_ROOM])
     EXPECT(log != NULL && fseek(log, since, SEEK_SET) == 0, "no log");
     said[fread(said, 1, SAID_ROOM - 1, log)] = '\0';
     fclose(log);
+}
+
+int run_with_output(char *const arguments[], const char *path)
+{
+    output = path;
+    int status = run_to_end(arguments);
+    output = "log";
+    return status;
 }
 
 int run_and_hear(char *const arguments[], char said[SAID_ROOM])
@@ -137,6 +151,21 @@ void stop_child(enum part part)
     EXPECT(child_runs(part) && kill(process, SIGTERM) == 0, "no %s to stop", PART[part].title);
     children[part] = 0;
     EXPECT(end_of(process) == 0, "the %s does not stop well", PART[part].title);
+}
+
+void stop_all(void)
+{
+    for (enum part part = CAMERA; part <= LOCK; part++) {
+        stop_child(part);
+        lose_stock(part);
+    }
+}
+
+void start_all(void)
+{
+    for (enum part part = CAMERA; part <= LOCK; part++)
+        start_child(part);
+    settle();
 }
 
 void kill_what_is_left(void)

@@ -17,6 +17,14 @@
 #define VECTOR_TEXT_MOST 16384 /* bytes of a vector's file: ample for 512 lines */
 #define TABLE_TEXT_MOST 16384  /* of a table's file: ample for 32 rows with comments */
 
+bool go_to(const char *folder)
+{
+    if (chdir(folder) == 0)
+        return true;
+    say_trouble("cannot go to", folder);
+    return false;
+}
+
 bool make_folder(const char *folder)
 {
     if (mkdir(folder, 0700) == 0)
@@ -414,6 +422,61 @@ bool read_half(uint32_t party, uint64_t number, uint8_t half[DOOR_HALF_MOST + 1]
     stick_of(party, folder);
     snprintf(path, sizeof path, "%s/%" PRIu64 ".half", folder, number);
     return read_file(path, half, DOOR_HALF_MOST + 1, size);
+}
+
+static void say_no_half(const char *path)
+{
+    say("cannot open %s: %s; expected is the file of a half, as the dealer wrote it: see that the "
+        "path is right, that the stick is there, and that you may read it",
+        path, strerror(errno));
+}
+
+static bool is_plain(const char *path, mode_t mode)
+{
+    if (S_ISREG(mode))
+        return true;
+    say("%s is %s; expected is the file of a half, as the dealer wrote it: give that file's path",
+        path,
+        S_ISDIR(mode)        ? "a folder"
+            : S_ISFIFO(mode) ? "a pipe"
+            : S_ISSOCK(mode) ? "a socket"
+                             : "a device");
+    return false;
+}
+
+/* Another file may have come into the place of the one that was looked at before. */
+static bool read_plain(int file, const char *path, struct carried_half *half)
+{
+    struct stat found;
+    if (fstat(file, &found) != 0) {
+        say_trouble("cannot look at", path);
+        return false;
+    }
+    if (!is_plain(path, found.st_mode)
+        || !read_all(file, path, half->bytes, sizeof half->bytes, &half->size))
+        return false;
+    bool goes_on = half->size == sizeof half->bytes && found.st_size > (off_t)half->size;
+    half->file_size = goes_on ? (size_t)found.st_size : half->size;
+    return true;
+}
+
+/* To open a pipe may take for ever, and a device may act upon it: so what it is comes first. */
+bool read_carried_half(const char *path, struct carried_half *half)
+{
+    struct stat found;
+    if (stat(path, &found) != 0) {
+        say_no_half(path);
+        return false;
+    }
+    if (!is_plain(path, found.st_mode))
+        return false;
+    int file = open(path, O_RDONLY | O_NONBLOCK | O_NOCTTY | O_CLOEXEC);
+    if (file < 0) {
+        say_no_half(path);
+        return false;
+    }
+    bool is_read = read_plain(file, path, half);
+    return close_file(file, path) && is_read;
 }
 
 /* Whether a file on the stick is a half, or what a power cut left of one, of a set up to this

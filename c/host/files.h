@@ -19,6 +19,9 @@
 #define PATH_ROOM 128
 #define NAME_ROOM 64 /* more than any name has, so that one that is too long is seen as such */
 
+/* Makes it the working folder. */
+bool go_to(const char *folder);
+
 /* Makes a folder of its owner alone. It is there for good when the folder above was forced. */
 bool make_folder(const char *folder);
 bool force_folder(const char *folder);
@@ -92,6 +95,16 @@ bool read_vector(const char *path, struct vector *vector);
 /* Halves lie on the stick of the box with that party number, one file for each set. */
 bool write_half(uint32_t party, uint64_t number, const uint8_t *half, size_t size);
 bool read_half(uint32_t party, uint64_t number, uint8_t half[DOOR_HALF_MOST + 1], size_t *size);
+
+/* A half that someone has under whatever path. Its size is not judged here. */
+struct carried_half {
+    uint8_t bytes[DOOR_HALF_MOST + 1];
+    size_t size;      /* of these, one more than a half has at the most where the file is longer */
+    size_t file_size; /* of the whole file */
+};
+
+/* Reads a plain file, and waits for nothing: with anything else it says what was found. */
+bool read_carried_half(const char *path, struct carried_half *half);
 
 /* Removes the halves of all sets up to this number, those included that a power cut had left, and
    says of each that stays. A load refuses a spent half anyway: a box does without the answer. */

@@ -1,5 +1,6 @@
 /*
- * The commands of door-host. Each runs in the state folder and answers the process's exit status.
+ * The commands of door-host. Each runs in the state folder, or goes there, and answers the exit
+ * status of the process.
  */
 #ifndef HOST_H
 #define HOST_H
@@ -9,7 +10,7 @@
 
 enum exit_status {
     EXIT_OPEN = 0, /* also of every command that is no check and went well */
-    EXIT_SHUT = 1,
+    EXIT_SHUT = 1, /* also of a trial: no box would take the half */
     EXIT_TROUBLE = 2
 };
 
@@ -23,6 +24,7 @@ int run_check(const struct vector *vector);
 int run_status(void);
 int run_watch(void);
 int run_upgrade(void);
+int run_trial(const char *folder, const char *half_file);
 
 /* How many sets a check may take: a box that was switched off has lost the set that it had loaded
    ahead, and the check begins again with the next one. */
@@ -42,9 +44,17 @@ int serve(enum part self, const char *via, const struct served *served);
 bool claim_part(enum part part);
 void say_newer(const char *folder);
 
-/* Claims the part's folder for this process and reads the name and the last number in it; false as
-   well where it is of another version. */
-bool start_part(enum part self, struct door_name *name, uint64_t *last);
+/* Claims the part's folder for this process, which is that part from here on. */
+bool enter_part(enum part self);
+
+/* Reads a part's name and last number, and does no more; false as well where its folder is of
+   another version. */
+bool read_part(enum part part, struct door_name *name, uint64_t *last);
+
+bool start_part(enum part self, struct door_name *name, uint64_t *last); /* both of these */
+
+/* The state that a box starts with, from its files, which are only read: no set is open. */
+bool read_box(enum part box, struct door_party *party);
 
 /* Both halves of one set, by the box. */
 struct halves {

@@ -8,7 +8,6 @@
 #include <string.h>
 #include <sys/resource.h>
 #include <sys/stat.h>
-#include <unistd.h>
 
 static int usage(void)
 {
@@ -20,7 +19,9 @@ static int usage(void)
           "       door-host check FOLDER VECTORFILE\n"
           "       door-host status FOLDER\n"
           "       door-host watch FOLDER\n"
-          "       door-host upgrade FOLDER\n",
+          "       door-host upgrade FOLDER\n"
+          "       door-host trial FOLDER HALF    (exit status: 0 a box would take it, 1 none would, "
+          "2 trouble)\n",
         stderr);
     return EXIT_TROUBLE;
 }
@@ -33,14 +34,6 @@ static bool keep_secrets_in(void)
     if (setrlimit(RLIMIT_CORE, &none) == 0)
         return true;
     say_trouble("cannot turn off", "core files");
-    return false;
-}
-
-static bool go_to(const char *folder)
-{
-    if (chdir(folder) == 0)
-        return true;
-    say_trouble("cannot go to", folder);
     return false;
 }
 
@@ -122,5 +115,7 @@ int main(int count, char **arguments)
         return run_setup(count - 2, arguments + 2);
     if (count == 4 && strcmp(arguments[1], "check") == 0)
         return run_check_of(arguments[2], arguments[3]);
+    if (count == 4 && strcmp(arguments[1], "trial") == 0)
+        return run_trial(arguments[2], arguments[3]);
     return run_part_with(count - 1, arguments + 1);
 }

@@ -18,10 +18,14 @@
 ssize_t __real_write(int file, const void *bytes, size_t size);
 int __real_rename(const char *from, const char *to);
 int __real_unlink(const char *path);
+int __real_flock(int file, int operation);
+int __real_socket(int family, int type, int protocol);
 ssize_t __wrap_write(int file, const void *bytes, size_t size);
 int __wrap_fsync(int file);
 int __wrap_rename(const char *from, const char *to);
 int __wrap_unlink(const char *path);
+int __wrap_flock(int file, int operation);
+int __wrap_socket(int family, int type, int protocol);
 
 /* Counts on, and ends the process where the environment says so. */
 static void come_to(const char *moment, unsigned long *count)
@@ -36,6 +40,12 @@ static void come_to_step(void)
 {
     static unsigned long steps;
     come_to(BEFORE_STEP, &steps);
+}
+
+static void come_to_contact(void)
+{
+    static unsigned long contacts;
+    come_to(BEFORE_CONTACT, &contacts);
 }
 
 static void marked(const char *path, const char *mark, char name[ROOM])
@@ -161,4 +171,16 @@ int __wrap_unlink(const char *path)
     come_to_step();
     marked(path, MARK_GONE, gone);
     return __real_rename(path, gone);
+}
+
+int __wrap_flock(int file, int operation)
+{
+    come_to_contact();
+    return __real_flock(file, operation);
+}
+
+int __wrap_socket(int family, int type, int protocol)
+{
+    come_to_contact();
+    return __real_socket(family, type, protocol);
 }

@@ -32,13 +32,23 @@ static bool is_of_this_version(const char *folder, uint64_t version)
 
 /* Forces to disk what a process that was killed had put in place and no more: a part never starts
    from what a power cut would take back. */
+bool enter_part(enum part self)
+{
+    speak_as(self);
+    return claim_part(self) && force_folder(PART[self].command);
+}
+
+bool read_part(enum part part, struct door_name *name, uint64_t *last)
+{
+    const char *folder = PART[part].command;
+    uint64_t version;
+    return read_name(folder, name) && read_last(folder, last, &version)
+        && is_of_this_version(folder, version);
+}
+
 bool start_part(enum part self, struct door_name *name, uint64_t *last)
 {
-    const char *folder = PART[self].command;
-    uint64_t version;
-    speak_as(self);
-    return claim_part(self) && force_folder(folder) && read_name(folder, name)
-        && read_last(folder, last, &version) && is_of_this_version(folder, version);
+    return enter_part(self) && read_part(self, name, last);
 }
 
 void send_failed_at(const struct link *link, uint64_t number, uint32_t why, uint32_t place)

@@ -4,7 +4,6 @@
 #include <inttypes.h>
 #include <stdio.h>
 #include <string.h>
-#include <unistd.h>
 
 /* A new door: its name, the two boxes' keys and what is dealt for. */
 struct plan {
@@ -50,16 +49,10 @@ static bool set_up_part(enum part part, const struct plan *plan)
 
 static bool set_up_all(const char *folder, const struct plan *plan)
 {
-    if (!make_folder(folder))
-        return false;
-    if (chdir(folder) != 0) {
-        say_trouble("cannot go to", folder);
-        return false;
-    }
-    return make_folder("stick") && make_folder("stick/camera") && make_folder("stick/office")
-        && force_folder("stick") && set_up_part(DEALER, plan) && set_up_part(CAMERA, plan)
-        && set_up_part(OFFICE, plan) && set_up_part(LOCK, plan) && force_folder(".")
-        && force_folder("..");
+    return make_folder(folder) && go_to(folder) && make_folder("stick")
+        && make_folder("stick/camera") && make_folder("stick/office") && force_folder("stick")
+        && set_up_part(DEALER, plan) && set_up_part(CAMERA, plan) && set_up_part(OFFICE, plan)
+        && set_up_part(LOCK, plan) && force_folder(".") && force_folder("..");
 }
 
 static bool plan_settings(struct plan *plan, const char *settings_text)

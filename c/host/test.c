@@ -657,6 +657,14 @@ void deal_and_leave(void)
     settle(); /* nobody looks at the sticks any more */
 }
 
+void answer_what_was_left(void)
+{
+    check.told_later = PARTS;
+    begin_when_due();
+    expect_answer();
+    settle();
+}
+
 /* A half that was cut to so many bytes, or has one bit changed at that place, of a set that was not
    dealt ahead: one that was is in the box already. */
 static void refuses_half(enum part box, size_t cut_to, size_t changed, uint32_t why)
@@ -996,6 +1004,10 @@ static void summary(void)
         tally.other_row, killed_waiting(),
         kills_with[CAMERA][READY_AHEAD] + kills_with[OFFICE][READY_AHEAD],
         kills_with[DEALER][READY_AHEAD], begun_anew);
+    printf("c/host/test: trials that leave no trace: %lu in which a box would take the half, %lu in "
+           "which none would, %lu in trouble, and %lu beside checks\n",
+        trial_tally.by_status[EXIT_OPEN], trial_tally.by_status[EXIT_SHUT],
+        trial_tally.by_status[EXIT_TROUBLE], trial_tally.beside);
     printf("c/host/test: upgrades cut short %lu times, %lu of them with a power cut; %lu between "
            "the first part's and the last one's; each was then finished\n",
         upgrade_tally.cuts, upgrade_tally.power, upgrade_tally.between);
@@ -1014,6 +1026,7 @@ static int by_size(const void *a, const void *b)
 static double turn_ms(bool at_once)
 {
     int64_t turns[TURNS], start;
+    settle(); /* the next check may set the clock: the set that is dealt ahead comes first */
     undisturbed_check(VECTORS);
     start = check.report_ns;
     for (int i = 0; i < TURNS; i++) {
@@ -1107,9 +1120,7 @@ static void set_up_door(const char *folder)
     EXPECT(chdir("door") == 0, "cannot go to %s/door", folder);
     set_clock(0);
     open_network();
-    for (enum part part = CAMERA; part <= LOCK; part++)
-        start_child(part);
-    settle();
+    start_all();
 }
 
 int main(int count, char **arguments)
@@ -1132,6 +1143,7 @@ int main(int count, char **arguments)
     for (int i = 0; i < 10; i++)
         undisturbed_check(ALL);
     tables();
+    trials();
     checks_at_the_turn();
     while (!killed_enough() && killed() < KILLS_MOST) {
         disturbed_check();
@@ -1150,8 +1162,7 @@ int main(int count, char **arguments)
     operator_asks_again(CAMERA);
     operator_asks_again(OFFICE);
     print_times();
-    for (enum part part = CAMERA; part <= LOCK; part++)
-        stop_child(part);
+    stop_all();
     expect_enough();
     summary();
 }

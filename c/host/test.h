@@ -33,10 +33,13 @@ void start_child(enum part part);
 void kill_child(enum part part); /* SIGKILL, and waits until it is dead */
 void stop_child(enum part part); /* SIGTERM, upon which it must end with status 0 */
 bool child_runs(enum part part);
+void stop_all(void);
+void start_all(void); /* and waits until each is there */
 void kill_what_is_left(void); /* at the end of a failed test */
 
 /* Runs the program to its end and answers its exit status; one that does not end is killed. */
 int run_to_end(char *const arguments[]);
+int run_with_output(char *const arguments[], const char *path); /* which else goes to the log */
 int start_program(char *const arguments[]); /* answers the process */
 int end_of(int process);
 
@@ -255,8 +258,25 @@ void undisturbed_check(enum change change);
    do those of the set behind it. */
 void deal_and_leave(void);
 
+/* A check with that set, which must be answered. */
+void answer_what_was_left(void);
+
 /* Someone begins with a set of which the half is on the stick again. */
 void refuses_spent_half(enum part box, uint64_t number);
+
+/* trials.c: whether a box would take a half. All parts run before and after. */
+
+struct trial_tally {
+    unsigned long by_status[3]; /* the exit status */
+    unsigned long beside; /* of more, which were run beside checks */
+};
+
+extern struct trial_tally trial_tally;
+
+void trials(void);
+
+/* A trial ends in trouble, and says so among other things. */
+void trial_in_trouble(const char *folder, const char *half, const char *words);
 
 /* versions.c: folders of other versions, and the upgrade. All parts run before and after. */
 

@@ -240,12 +240,22 @@ static void expect_trouble(const char *command, const char *words)
     EXPECT(hash_of_all(is_state) == before, "%s is refused, and has changed something", command);
 }
 
+/* Nor is a half tried at a box that would not start. */
+static void expect_no_trial(enum part box, const char *words)
+{
+    char path[PATH_ROOM];
+    snprintf(path, sizeof path, "%s/%" PRIu64 ".half", STICK[box], older.dealt);
+    trial_in_trouble(".", path, words);
+}
+
 /* With all parts of this version but for this one. */
 static void other_version(enum part part, const char *text, const char *words)
 {
     for (enum part other = CAMERA; other <= LOCK; other++)
         put_version(other, other == part ? text : THIS_VERSION);
     expect_trouble(PART[part].command, words);
+    if (part == CAMERA || part == OFFICE)
+        expect_no_trial(part, words);
     if (words != ASKS_FOR_UPGRADE)
         expect_trouble("upgrade", words);
 }
@@ -586,9 +596,7 @@ static bool cut_twice(unsigned first)
 
 static void start_again(void)
 {
-    for (enum part part = CAMERA; part <= LOCK; part++)
-        start_child(part);
-    settle();
+    start_all();
     for (uint64_t i = 0; i < HALVES; i++) {
         refuses_spent_half(CAMERA, older.dealt - i);
         refuses_spent_half(OFFICE, older.dealt - i);
@@ -601,10 +609,7 @@ void versions(void)
 {
     for (int i = 0; i < DEALS; i++)
         deal_and_leave();
-    for (enum part part = CAMERA; part <= LOCK; part++) {
-        stop_child(part);
-        lose_stock(part);
-    }
+    stop_all();
     take_down_older();
     for (enum part part = CAMERA; part <= LOCK; part++) {
         other_versions(part);

@@ -67,7 +67,7 @@ static void put_little(uint8_t *bytes, size_t size, uint64_t number)
         bytes[i] = (uint8_t)(number >> 8 * i);
 }
 
-static uint64_t get_little(const uint8_t *bytes, size_t size)
+uint64_t get_little(const uint8_t *bytes, size_t size)
 {
     uint64_t number = 0;
     for (size_t i = 0; i < size; i++)

@@ -54,6 +54,9 @@ const char *kind_words(uint32_t kind);
 /* To whom a part's message goes: what one needs who hands messages on. */
 enum part destination(enum part from, const struct message *message);
 
+/* A number of so many bytes, little-endian. */
+uint64_t get_little(const uint8_t *bytes, size_t size);
+
 size_t encode(const struct message *message, uint8_t bytes[DATAGRAM_MOST]);
 
 /* NULL, or in words why these bytes are no message. */
