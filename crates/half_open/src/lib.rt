@@ -3,13 +3,14 @@
 ghost use mathlib.Core.Path.{_≡_};
 ghost use mathlib.Core.Bool.{true, _&&_};
 ghost use Prim.Native.Nat.{_+_, _*_, _/_, _%_, _^_, _≤_};
-ghost use lib.Dec.{eqb, leb};
+ghost use lib.Dec.{eqb, leb, ltb};
 ghost use lib.ListN.{length, take};
 ghost use Rattle.base_words.specs.Bytes.{wordAt, wordsAt};
 ghost use Rattle.aead_seal.specs.Aead.{polyKey, opens};
-ghost use Rattle.half_content.specs.Content.{blockBytes, textBytes, mostBlocks, roomBytes, part};
+ghost use Rattle.base_messages.specs.Messages.{wrongLength, wrongNumber, unless};
+ghost use Rattle.half_content.specs.Content.{blockBytes, textBytes, mostBlocks, roomBytes, part, noTerms};
 ghost use Rattle.half_seal.specs.Half.{header, textIn, blockFits, firstFit, openedBlocks, openedContent, setNumber};
-ghost use Rattle.half_seal.specs.Half.{whyNotOpened, whyNot};
+ghost use Rattle.half_seal.specs.Half.{wholeBlocks, whyNotOpened};
 ghost use Rattle.half_open.specs.Examined.{refused as refusedFor, examined, told};
 use base_messages::NAME;
 use half_content::BLOCK;
@@ -141,6 +142,15 @@ fn refused(why: u32) -> Examined
     }
 }
 
+fn nothing_told(why: u32) -> Told
+    ensures { λ r. ⌜ r ≡ record { why = why; terms = noTerms } ⌝ }
+{
+    Told {
+        why,
+        terms: Terms { code: 0, n: 0 },
+    }
+}
+
 // Why whole blocks are turned down (0 if they are not): they are then opened into `text`.
 fn why_not_opened(
     key: &[u8; 32],
@@ -165,19 +175,10 @@ fn why_not_opened(
     0
 }
 
-// Why a half is turned down (0 if it is not): its text then stands at the start of `room`.
-fn why_not(
-    key: &[u8; 32],
-    name: [u8; NAME],
-    party: u32,
-    last: u64,
-    h: &[u8],
-    room: &mut [u8],
-) -> u32
-    requires { ⌜ length (now room) ≡ roomBytes ⌝ }
-    ensures { λ r. ⌜ r ≡ whyNot (now (key .entry)) name party last (now (h .entry)) ⌝ }
-    ensures { λ r. ⌜ (r ≡ 0 → take (textBytes * (length (now (h .entry)) / blockBytes)) (now (room .exit))
-        ≡ openedContent (now (key .entry)) (now (h .entry))) ⌝ }
+// Why any bytes are turned down before a block is opened, 0 if they are not.
+fn why_not_numbered(last: u64, h: &[u8]) -> u32
+    ensures { λ r. ⌜ r ≡ unless (wholeBlocks (now (h .entry))) wrongLength
+        (unless (ltb last (setNumber (now (h .entry)))) wrongNumber 0) ⌝ }
 {
     if !is_whole(h.len()) {
         return base_messages::WRONG_LENGTH;
@@ -186,17 +187,40 @@ fn why_not(
     if !(last < number) {
         return base_messages::WRONG_NUMBER;
     }
+    0
+}
+
+// Why whole blocks are turned down (0 if they are not): their text then stands at the start of `room`.
+fn why_not_within(
+    key: &[u8; 32],
+    name: [u8; NAME],
+    party: u32,
+    h: &[u8],
+    room: &mut [u8],
+) -> u32
+    requires { ⌜ (3 ≤ length (now h) / blockBytes) × (length (now h) / blockBytes ≤ mostBlocks)
+        × (length (now room) ≡ roomBytes) ⌝ }
+    ensures { λ r. ⌜ r ≡ whyNotOpened (now (key .entry)) name party (now (h .entry)) ⌝ }
+    ensures { λ r. ⌜ (r ≡ 0 → take (textBytes * (length (now (h .entry)) / blockBytes)) (now (room .exit))
+        ≡ openedContent (now (key .entry)) (now (h .entry))) ⌝ }
+{
+    let number = load_number(h);
     let size = TEXT * (h.len() / BLOCK);
     why_not_opened(key, name, party, number, h, &mut room[..size])
 }
 
 // Examines a half for a box of this key, padded name and party whose last number is `last`. Any
-// bytes may be handed in, and nothing is committed.
+// bytes may be handed in, and nothing is committed. (Bytes that are turned down by length or number
+// need no room for their text.)
 pub fn examine(key: &[u8; 32], name: [u8; NAME], party: u32, last: u64, h: &[u8]) -> Examined
     ensures { λ r. ⌜ r ≡ examined (now (key .entry)) name party last (now (h .entry)) ⌝ }
 {
+    let early = why_not_numbered(last, h);
+    if early != 0 {
+        return refused(early);
+    }
     let mut room = [0u8; ROOM];
-    let why = why_not(key, name, party, last, h, &mut room);
+    let why = why_not_within(key, name, party, h, &mut room);
     if why != 0 {
         return refused(why);
     }
@@ -211,13 +235,14 @@ pub fn examine(key: &[u8; 32], name: [u8; NAME], party: u32, last: u64, h: &[u8]
 pub fn tell(key: &[u8; 32], name: [u8; NAME], party: u32, last: u64, h: &[u8]) -> Told
     ensures { λ r. ⌜ r ≡ told (now (key .entry)) name party last (now (h .entry)) ⌝ }
 {
+    let early = why_not_numbered(last, h);
+    if early != 0 {
+        return nothing_told(early);
+    }
     let mut room = [0u8; ROOM];
-    let why = why_not(key, name, party, last, h, &mut room);
+    let why = why_not_within(key, name, party, h, &mut room);
     if why != 0 {
-        return Told {
-            why,
-            terms: Terms { code: 0, n: 0 },
-        };
+        return nothing_told(why);
     }
     let size = TEXT * (h.len() / BLOCK);
     Told {
