@@ -24,8 +24,8 @@ use Rattle.call_lock.specs.Lock as LockCalls
 use Rattle.call_lock.specs.Lock.{whyNotJoin}
 use Rattle.door_lists.specs.Lists.{Box, camera, office, other, World, Starts, Message, Call, deal, load, trial}
 use Rattle.door_lists.specs.Lists.{dealByClock, mask, take, finish, drop, join, Event, dealt, tried, sent}
-use Rattle.door_lists.specs.Lists.{joined, refused, vector, answer, put, eventOf, onBox, written, step, Fits, SentAnswer}
-use Rattle.door_lists.specs.Lists.{Admits}
+use Rattle.door_lists.specs.Lists.{joined, refused, vector, answer, put, eventOf, onBox, written, step, Fits}
+use Rattle.door_lists.specs.Lists.{SentAnswer, Admits}
 use Rattle.door_lists.specs.Demand.{deals, lastDealt}
 use Rattle.door_lists.proofs.Clock.{by-clock}
 use Rattle.door_lists.proofs.Accepted.{Heard, join-tells}

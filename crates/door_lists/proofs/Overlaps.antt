@@ -14,8 +14,8 @@ use Rattle.call_party.specs.declared.PartyAnswer.{PartyAnswer}
 use Rattle.call_party.specs.Party as BoxCalls
 use Rattle.call_party.specs.Laws.{waterOf, water-below}
 use Rattle.door_lists.specs.Lists.{Box, camera, office, World, Starts, Call, deal, load, mask, take, finish, drop}
-use Rattle.door_lists.specs.Lists.{join, Body, vector, word, answer, Event, dealt, loaded, tried, sent, dropped, joined}
-use Rattle.door_lists.specs.Lists.{refused, put, onBox, maskedBy, step, after, events, In, here, there}
+use Rattle.door_lists.specs.Lists.{join, Body, vector, word, answer, Event, dealt, loaded, tried, sent, dropped}
+use Rattle.door_lists.specs.Lists.{joined, refused, put, onBox, maskedBy, step, after, events, In, here, there}
 use Rattle.door_lists.specs.Lists.{dealByClock}
 use Rattle.call_dealer.specs.Dealer.{halfSize}
 use Rattle.call_dealer.specs.Clock.{dealAt}

@@ -11,8 +11,8 @@ use lib.ListN.{length, replicate}
 use Rattle.half_deal.specs.Dealing.{Deal}
 use Rattle.call_dealer.specs.Dealer.{halfSize}
 use Rattle.door_lists.specs.Lists.{Box, camera, office, other, World, Starts, Call, deal, load, mask, take}
-use Rattle.door_lists.specs.Lists.{trial, finish, drop, join, Event, dealt, loaded, tried, sent, dropped, joined, refused}
-use Rattle.door_lists.specs.Lists.{events, In, here, there, after, dealByClock}
+use Rattle.door_lists.specs.Lists.{trial, finish, drop, join, Event, dealt, loaded, tried, sent, dropped}
+use Rattle.door_lists.specs.Lists.{joined, refused, events, In, here, there, after, dealByClock}
 use Rattle.door_lists.specs.Demand.{Progress, nothingMade, madeOne, onward, Ready, Whole, InRange}
 use Rattle.door_lists.specs.Overlap.{Both, nothingYet, endedAt, UnderWay, FirstInOrder, SecondInOrder, FirstReady}
 use Rattle.door_lists.specs.Overlap.{SecondReady, Overlap, begin, of-first, of-second, first-dropped, still}

@@ -20,8 +20,9 @@ use Rattle.call_party.specs.declared.Party.{Party}
 use Rattle.call_party.specs.Party as BoxCalls
 use Rattle.call_lock.specs.declared.Lock.{Lock}
 use Rattle.call_lock.specs.Lock as LockCalls
-use Rattle.door_lists.specs.Lists.{Box, put, World, Call, deal, load, trial, mask, take, finish, drop, join, Event}
-use Rattle.door_lists.specs.Lists.{dealt, loaded, tried, sent, dropped, joined, refused, eventOf, step, dealByClock}
+use Rattle.door_lists.specs.Lists.{Box, put, World, Call, deal, dealByClock, load, trial, mask, take, finish}
+use Rattle.door_lists.specs.Lists.{drop, join, Event, dealt, loaded, tried, sent, dropped, joined, refused}
+use Rattle.door_lists.specs.Lists.{eventOf, step}
 use Rattle.door_lists.specs.Refusals.{lent, lentAfter, said, placed, noneTold, told, NothingChanges}
 use Rattle.door_lists.specs.Refusals.{RefusalsChangeNothing, UnsoundRefused}
 use Rattle.door_lists.proofs.Boxes.{put-same}
@@ -89,10 +90,12 @@ alone w c k why e n q f g p =
 
 pub refusals-change-nothing : RefusalsChangeNothing
 unfolding RefusalsChangeNothing DealerCalls.deal DealerCalls.dealOut ClockCalls.dealByClock ClockCalls.clockOut
-    BoxCalls.load BoxCalls.trial BoxCalls.mask BoxCalls.maskOut BoxCalls.takeVector BoxCalls.finish BoxCalls.dropSet LockCalls.join
+    BoxCalls.load BoxCalls.trial BoxCalls.mask BoxCalls.maskOut BoxCalls.takeVector BoxCalls.finish BoxCalls.dropSet
+    LockCalls.join
 refusals-change-nothing w (deal d out0 out1) k =
     alone w _ k _ _ refl refl
-    (λ z. (same-dealer w _ (old _ _ _ z), buffers (old _ _ out0 z) (buffers (old _ _ out1 z) refl), refl, λ l. refl)) (λ z. refl)
+    (λ z. (same-dealer w _ (old _ _ _ z), buffers (old _ _ out0 z) (buffers (old _ _ out1 z) refl), refl, λ l. refl))
+    (λ z. refl)
 refusals-change-nothing w (dealByClock d out0 out1) k =
     alone w _ k _ _ refl refl
     (λ z. (

@@ -16,8 +16,8 @@ use Rattle.call_party.specs.declared.Party.{Party}
 use Rattle.call_party.specs.Party as BoxCalls
 use Rattle.call_party.specs.Party.{masked, worded}
 use Rattle.call_party.specs.Laws.{load-tells}
-use Rattle.door_lists.specs.Lists.{Box, other, put, World, Call, deal, load, trial, mask, take, finish, drop, join}
-use Rattle.door_lists.specs.Lists.{Event, refused, eventOf, step, after, here, there, dealByClock}
+use Rattle.door_lists.specs.Lists.{Box, other, put, World, Call, deal, load, trial, mask, take, finish, drop}
+use Rattle.door_lists.specs.Lists.{join, Event, refused, eventOf, step, after, here, there, dealByClock}
 use Rattle.door_lists.specs.States.{Ends, by-call-4, by-drop, Stays, StaysUntilEnded}
 use Rattle.door_lists.proofs.Accepted.{mask-tells, take-tells}
 use Rattle.door_lists.proofs.Boxes.{put-all}

@@ -25,8 +25,8 @@ use Rattle.call_party.specs.Party.{closed}
 use Rattle.door_lists.specs.Lists.{Box, camera, office, partyOf, other, sameBox, put, World, Starts, Started}
 use Rattle.door_lists.specs.Lists.{beginning, Message, Call, deal, dealByClock, load, trial, mask, take}
 use Rattle.door_lists.specs.Lists.{finish, drop, join, Body, vector, word, answer, Event, dealt, loaded, tried}
-use Rattle.door_lists.specs.Lists.{sent, dropped, joined, refused, step, after, events, In, SentVector, SentWord, SentAnswer, history}
-use Rattle.door_lists.specs.Lists.{Admissible}
+use Rattle.door_lists.specs.Lists.{sent, dropped, joined, refused, step, after, events, In, SentVector, SentWord}
+use Rattle.door_lists.specs.Lists.{SentAnswer, history, Admissible}
 
 -- ---- what a list's accepted calls were
 

@@ -258,7 +258,7 @@ abbrev pub Admits : List ℕ → List Event → Call → Type 0
 Admits door e (deal d out0 out1) = Unit {0}
 Admits door e (dealByClock k out0 out1) = Unit {0}
 Admits door e (load b h) = (i : ℕ) → i < length h / blockBytes → Written e b (blockAt h i)
--- of blocks handed to a trial nothing is asked [SPEC 26.5]
+-- of blocks handed to a trial nothing is asked [SPEC 26.6]
 Admits door e (trial b h) = Unit {0}
 Admits door e (mask b v out) = Unit {0}
 Admits door e (take b m) = Sent door vectorKind (SentVector e) m

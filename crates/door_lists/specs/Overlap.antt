@@ -12,8 +12,8 @@ use Rattle.measure_table.specs.Measure.{markOf}
 use Rattle.base_messages.specs.Messages.{padded}
 use Rattle.half_deal.specs.Dealing.{Deal}
 use Rattle.door_lists.specs.Lists.{Box, camera, office, other, put, World, Starts, Started, beginning, Call, deal}
-use Rattle.door_lists.specs.Lists.{dealByClock, load, trial, mask, take, finish, drop, join, Event, dropped, joined}
-use Rattle.door_lists.specs.Lists.{refused, step, after, events, In, history, Admissible}
+use Rattle.door_lists.specs.Lists.{dealByClock, load, trial, mask, take, finish, drop, join, Event, dropped}
+use Rattle.door_lists.specs.Lists.{joined, refused, step, after, events, In, history, Admissible}
 use Rattle.door_lists.specs.Demand.{verdict, Progress, nothingMade, onward, Ready, Answered, InRange, Free, Whole}
 
 -- how far the two are. Where the first was dropped at a box, all four of its calls there count as made.

@@ -1,6 +1,6 @@
 -- Trial load over lists of calls (02, §7): a trial leaves no trace; what it says is what a load would say; and a half
--- that a right-order run is about to load is told to be taken, of this door and of what was dealt. No proof stands here.
--- Assumes nothing. [SPEC 34.1 to 34.7]
+-- that a right-order run is about to load is told to be taken, of this door and of what was dealt. No proof stands
+-- here. Assumes nothing. [SPEC 34.1 to 34.8]
 use mathlib.Core.Path.{_≡_}
 use mathlib.Core.Bool.{Bool, true, false, cond}
 use mathlib.Core.List.{List, [], _∷_}
@@ -61,16 +61,16 @@ pub record Foretold (w : World) (b : Box) (h : List ℕ) (cs : List Call) : Type
       × (name ≡ w .box b .who .name)
       × (t ≡ brought (w .box b) (step (after w cs) (load b h) .world .box b) .terms)
 
--- "says what a load would say": for any states, any box and any half, now, and after any calls that leave this box as it
--- is
+-- "says what a load would say": for any states, any box and any half, now, and after any calls that leave this box as
+-- it is
 unfoldable pub Foretells : Type 0
 Foretells = (w : World) (b : Box) (h : List ℕ) (cs : List Call) → after w cs .box b ≡ w .box b → Foretold w b h cs
 
 -- ---- in a run in the right order
 
--- after every admissible list that leaves no set open, however far a run is and whatever came in between: a trial of any
--- half at either box may be mixed into it; and one of the half that a box is about to load tells this door and what was
--- dealt
+-- after every admissible list that leaves no set open, however far a run is and whatever came in between: a trial of
+-- any half at either box may be mixed into it; and one of the half that a box is about to load tells this door and what
+-- was dealt
 pub record TriedIn (s : Starts) (d : Deal) (v : Box → List ℕ) (w : World) (rs : List Call) (g : Progress) : Type 0 where
   pub mixed : (b : Box) (h : List ℕ) → Run (padded (s .name)) d v w (trial b h ∷ rs) g
   pub taken : (b : Box) (h : List ℕ) → Ready (padded (s .name)) d v g (events w rs) (load b h)

@@ -191,13 +191,7 @@ fn why_not_numbered(last: u64, h: &[u8]) -> u32
 }
 
 // Why whole blocks are turned down (0 if they are not): their text then stands at the start of `room`.
-fn why_not_within(
-    key: &[u8; 32],
-    name: [u8; NAME],
-    party: u32,
-    h: &[u8],
-    room: &mut [u8],
-) -> u32
+fn why_not_within(key: &[u8; 32], name: [u8; NAME], party: u32, h: &[u8], room: &mut [u8]) -> u32
     requires { ⌜ (3 ≤ length (now h) / blockBytes) × (length (now h) / blockBytes ≤ mostBlocks)
         × (length (now room) ≡ roomBytes) ⌝ }
     ensures { λ r. ⌜ r ≡ whyNotOpened (now (key .entry)) name party (now (h .entry)) ⌝ }

@@ -9,7 +9,7 @@ use crate::memory::NUMBERS;
 use crate::memory::SLOT;
 use crate::memory::WORDS;
 
-// The commands, in the order of the table in `read`.
+// The commands, in the order of the tables in `command_of`.
 pub const DEALER: usize = 0;
 
 pub const DEAL: usize = 1;
@@ -259,20 +259,48 @@ fn read_fields(
     line_of(if ok { command } else { BAD_LINE }, f)
 }
 
-// Reads a line. A letter is the kind of a field: B for bytes, V for a vector, N for a number below
-// 2^64, W for one below 2^32, R, M, J and K for one of at most 8704, 520, 15 and 3, T for a rule, X for
-// a box, P for a part, and v, w and a for a vector, a word and an answer, each of which may be a box's last.
+// A line's command, or BAD_LINE. The table is in two pieces, at PUT.
+fn command_of(word: &[u8]) -> usize {
+    let first = place_of(
+        word,
+        b"dealer deal lock join host show party load mixed bytes mask take finish drop",
+    );
+    if first < PUT {
+        return first;
+    }
+    let later = place_of(
+        word,
+        b"put waiting width clock trial trial-mixed trial-bytes",
+    );
+    PUT + base_slices::least(later, BAD_LINE - PUT)
+}
+
+// The line of a command, with its fields by their kinds. A letter is the kind of a field: B for bytes,
+// V for a vector, N for a number below 2^64, W for one below 2^32, R, M, J and K for one of at most 8704,
+// 520, 15 and 3, T for a rule, X for a box, P for a part, and v, w and a for a vector, a word and an
+// answer, each of which may be a box's last.
+fn read_command(command: usize, line: &[u8], b: &mut [u8; BYTES], n: [u64; NUMBERS]) -> Line {
+    let first =
+        b"BBBN NBWWTRR BN WBWNaWBWNa BNWBWNaWBWNa P XBWBN XXKWW XJKJ XB XVM XWBWNv XWBWNw X";
+    let later = b"XWWWW XNWW XWW NBWWVVVWRR XXKWW XJKJ XB ";
+    if command < PUT {
+        return read_fields(command, test_script::part(first, b' ', command), line, b, n);
+    }
+    read_fields(
+        command,
+        test_script::part(later, b' ', command - PUT),
+        line,
+        b,
+        n,
+    )
+}
+
+// Reads a line.
 pub fn read(line: &[u8], b: &mut [u8; BYTES], n: [u64; NUMBERS]) -> Line {
     if (line.len() == 0) | (test_script::first_byte(line) == b'#') {
         return line_of(COMMENT, [0; FIELDS]);
     }
-    let command = place_of(
-        test_script::field(line, 0),
-        b"dealer deal lock join host show party load mixed bytes mask take finish drop put waiting width clock trial trial-mixed trial-bytes",
-    );
-    let kinds =
-        b"BBBN NBWWTRR BN WBWNaWBWNa BNWBWNaWBWNa P XBWBN XXKWW XJKJ XB XVM XWBWNv XWBWNw X XWWWW XNWW XWW NBWWVVVWRR XXKWW XJKJ XB ";
-    let mut l = read_fields(command, test_script::part(kinds, b' ', command), line, b, n);
+    let mut l = read_command(command_of(test_script::field(line, 0)), line, b, n);
     let rule = test_script::read_one_or_two(test_script::field(line, 5));
     if (l.command == DEAL) & rule.two {
         l.command = BETWEEN;
