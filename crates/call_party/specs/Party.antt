@@ -1,5 +1,6 @@
 -- A box (01, "One check at a box" and "When a call is turned down"; 02, §1, §4 and §7): for each call why it is turned
--- down, the next state, what it sends, and what it leaves in a lent buffer, for any state and anything handed in.
+-- down, the next state, what it sends or tells, and what it leaves in a lent buffer, for any state and anything handed
+-- in.
 -- Assumes nothing.
 -- [SPEC 12.5, 13.3, 15.3, 16.3, 17.5, 18.5, 19.2, 24.2, 24.5 to 24.9]
 use mathlib.Core.Bool.{Bool, cond, _&&_, not}
@@ -61,6 +62,7 @@ isOpen s = not (eqb (s .check .phase) idlePhase)
 abbrev pub waits : Party → Bool
 waits s = not (eqb (s .waiting .terms .n) 0)
 
+-- 16 zero bytes, where no name is told
 abbrev pub noName : List ℕ
 noName = replicate 16 0
 
@@ -149,8 +151,8 @@ load s h = answered (whyNotLoad s h) (loaded s (openedSet (s .who .key) h)) s 0
 -- ---- trial (02, §7)
 
 -- "says what a load would say, with the door, measure code and L if it would be taken": the name and the terms that
--- stand in the half; of one that is turned down the number alone. There is no next state: "The box's own state and last
--- number are untouched" [SPEC 34.1 to 34.3]
+-- stand in the half; of one that is turned down the number, and zeros. The state goes in by value and none comes back:
+-- "The box's own state and last number are untouched", since the host still has them [SPEC 34.1 to 34.3]
 unfoldable pub trial : Party → List ℕ → TrialAnswer
 trial s h =
     let why : ℕ = whyNotLoad s h in

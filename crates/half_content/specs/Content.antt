@@ -180,11 +180,11 @@ setIn set b =
     }
 
 -- no set: all that a set brings is zero, "code and L included" [SPEC 12.10]
-abbrev pub noTerms : Terms
-noTerms = record { code = 0; n = 0 }
-
 unfoldable pub noCorrection : Correction
 noCorrection = record { seed = replicate 8 0; word = 0; flags = 0 }
+
+abbrev pub noTerms : Terms
+noTerms = record { code = 0; n = 0 }
 
 unfoldable pub noSet : Set
 noSet =

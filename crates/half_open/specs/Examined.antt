@@ -1,5 +1,5 @@
--- What examining a half answers: why it is turned down, 0 if it is not, and the set that it opens to, or no set; and
--- what is told of it where no set is wanted: code and L alone. Assumes nothing.
+-- What examining a half answers where its number has to be above `last`: why it is turned down, 0 if it is not, and the
+-- set that it opens to, or no set; and what a trial is told of it (02, §7): code and L alone. Assumes nothing.
 use mathlib.Core.List.{List}
 use Prim.Native.Nat.{ℕ}
 use Rattle.base_messages.specs.Messages.{ifTaken}
@@ -16,7 +16,7 @@ examined key name party last h =
     let why : ℕ = whyNot key name party last h in
     record { why = why; set = ifTaken why (openedSet key h) noSet }
 
--- the terms of that set
+-- the terms of that set, or zeros
 unfoldable pub told : List ℕ → List ℕ → ℕ → ℕ → List ℕ → T.Told
 told key name party last h =
     let why : ℕ = whyNot key name party last h in

@@ -1,5 +1,5 @@
 -- A half as blocks (01, "The sealed half"), and why one is turned down (01, "When a call is turned down", 4, 7, 10 and
--- 11). Assumes nothing. [SPEC 10.1, 10.2, 10.6, 23.4, 23.7, 23.10, 23.11]
+-- 11), at a load and at a trial (02, §7). Assumes nothing. [SPEC 10.1, 10.2, 10.6, 23.4, 23.7, 23.10, 23.11]
 use mathlib.Core.Bool.{Bool, true, _&&_}
 use mathlib.Core.List.{List, [], _++_}
 use Prim.Native.Nat.{ℕ, zero, suc, _+_, _*_, _/_, _%_}
@@ -65,7 +65,7 @@ unfoldable pub openedBlocks : List ℕ → List ℕ → ℕ → List ℕ
 openedBlocks key h zero = []
 openedBlocks key h (suc i) = openedBlocks key h i ++ textIn key (blockAt h i)
 
--- all of a half's blocks
+-- what all of its blocks open to: the plain content, where it is whole blocks and each of them fits
 abbrev pub openedContent : List ℕ → List ℕ → List ℕ
 openedContent key h = openedBlocks key h (length h / blockBytes)
 
@@ -81,12 +81,12 @@ whyNotOpened key name party h =
     unless (firstFit key h count) badBlock
     (unless (contentFits name party count (openedContent key h)) badContent 0)
 
--- why a half is turned down where the box's last number is `last`
+-- why a half is turned down where its number has to be above `last`
 unfoldable pub whyNot : List ℕ → List ℕ → ℕ → ℕ → List ℕ → ℕ
 whyNot key name party last h =
     unless (wholeBlocks h) wrongLength (unless (ltb last (setNumber h)) wrongNumber (whyNotOpened key name party h))
 
--- the set that it opens to, and the door's name that stands in it
+-- where it is not: the set that it opens to, and the door's name that stands in it
 unfoldable pub openedSet : List ℕ → List ℕ → Set
 openedSet key h = setIn (setNumber h) (openedContent key h)
 
