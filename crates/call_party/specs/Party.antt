@@ -1,8 +1,7 @@
 -- A box (01, "One check at a box" and "When a call is turned down"; 02, §1, §4 and §7): for each call why it is turned
 -- down, the next state, what it sends or tells, and what it leaves in a lent buffer, for any state and anything handed
--- in.
--- Assumes nothing.
--- [SPEC 12.5, 13.3, 15.3, 16.3, 17.5, 18.5, 19.2, 24.2, 24.5 to 24.9]
+-- in. Assumes nothing.
+-- [SPEC 12.5, 13.3, 15.3, 16.3, 17.5, 18.5, 19.2, 24.2, 24.5 to 24.9, 24.13, 34.2]
 use mathlib.Core.Bool.{Bool, cond, _&&_, not}
 use mathlib.Core.List.{List}
 use Prim.Native.Nat.{ℕ, suc, _-_}
