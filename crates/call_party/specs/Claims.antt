@@ -1,7 +1,7 @@
 -- What a box may rely on when it loads ahead (02, §1): when the open set ends the waiting one is open, just as if it
 -- had been loaded then; and a message for a set that waits is refused. And an ordinary set answers as before (02, §4).
 -- And what a trial says is what a load would say (02, §7).
--- Assumes nothing. [SPEC 15.7, 18.4, 18.5, 19.2, 27.8]
+-- Assumes nothing. [SPEC 15.7, 18.4, 18.5, 19.2, 27.8, 34.1 to 34.5]
 use mathlib.Core.Path.{_≡_, refl, sym, ap, _∙_, subst}
 use mathlib.Core.Bool.{Bool, true, false, not, cond}
 use mathlib.Core.List.{List}
@@ -29,7 +29,7 @@ use Rattle.call_party.specs.declared.Check.{Check}
 use Rattle.call_party.specs.declared.Party.{Party}
 use Rattle.call_party.specs.declared.TrialAnswer.{TrialAnswer}
 use Rattle.call_party.specs.Party.{idlePhase, noCheck, idle, isOpen, waits, stateFits, waitingFits, sound, inTurn}
-use Rattle.call_party.specs.Party.{noName, trial}
+use Rattle.call_party.specs.Party.{noName, trial, loadedPhase, maskedPhase, masked, worded}
 use Rattle.call_party.specs.Party.{highWater, whyNotLoad, opened, loaded, load, nextCheck, closed, whyNotMessage}
 use Rattle.call_party.specs.Party.{whyNotFinish, boxShare, wordOf, answerOf, finish, whyNotDrop, dropSet}
 use Rattle.call_party.specs.Laws.{waterOf, load-tells, opened-long, opened-width, opened-name}
@@ -85,6 +85,11 @@ ahead-would-be-taken s h e =
     let tells = load-tells s h e in
     rw (party-fits s (tells .sound-is))
     (less (s .who .key) (s .who .name) (s .who .party) (s .last) (waterOf s) h (tells .above) (tells .examined))
+
+idle-taken : (s : Party) (h : List ℕ) → whyNotLoad s h ≡ 0
+    → whyNotLoad (record { who = s .who; last = s .last; check = noCheck; waiting = noSet }) h ≡ 0
+unfolding idle
+idle-taken s h e = ahead-would-be-taken s h e
 
 next-is : (set : Set) → 1 ≤ set .terms .n → nextCheck set ≡ opened set
 unfolding nextCheck
@@ -251,7 +256,28 @@ trial-refused s h some =
       terms = sym (refused (openedSet (s .who .key) h .terms) noTerms refl some) i;
     }
 
--- with a set open and none waiting "it speaks of a load ahead", with one waiting it is 3 whatever the half is
+-- a load with a set waiting is out of turn, and so is a trial, whatever the half is
 pub waiting-refused : (s : Party) (h : List ℕ) → waits s ≡ true → trial s h .why ≡ outOfTurn
 unfolding trial whyNotLoad unless
 waiting-refused s h w = rw w refl
+
+-- ---- a half that would be taken still would be, until another one is loaded [SPEC 34.6]
+
+-- after calls 2 and 3 the same is asked of it: of the check they move the phase alone, from 1 to 2 and from 2 to 3, ..
+pub masked-same : (s : Party) (v h : List ℕ) → s .check .phase ≡ loadedPhase
+    → whyNotLoad (masked s v) h ≡ whyNotLoad s h
+unfolding whyNotLoad masked sound stateFits waitingFits highWater
+masked-same s v h e = rw e refl
+
+pub worded-same : (s : Party) (w : ℕ) (h : List ℕ) → s .check .phase ≡ maskedPhase
+    → whyNotLoad (worded s w) h ≡ whyNotLoad s h
+unfolding whyNotLoad worded sound stateFits waitingFits highWater
+worded-same s w h e = rw e refl
+
+-- .. and where call 4 or drop ends the open set, its number need no longer be below the half's
+pub closed-taken : (s : Party) (h : List ℕ) → whyNotLoad s h ≡ 0 → whyNotLoad (closed s) h ≡ 0
+unfolding closed nextCheck
+closed-taken s h e =
+    let none : s .waiting .terms .n ≡ 0 = load-tells s h e .none-waits in
+    subst (λ (c : Check). whyNotLoad (record { who = s .who; last = s .last; check = c; waiting = noSet }) h ≡ 0)
+    (sym (rw none refl)) (idle-taken s h e)

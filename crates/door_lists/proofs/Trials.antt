@@ -9,7 +9,8 @@ use borrow.Author.Tests.{eqb-true, eqb-false}
 use lib.Dec.{eqb}
 use lib.ListN.{length}
 use Rattle.measure_table.specs.declared.Terms.{Terms}
-use Rattle.base_messages.specs.Messages.{outOfTurn, ifTaken}
+use Rattle.base_messages.specs.declared.Identity.{Identity}
+use Rattle.base_messages.specs.Messages.{outOfTurn, wordKind, answerKind, ifTaken}
 use Rattle.base_messages.specs.Laws as Laws
 use Rattle.half_content.specs.declared.Set.{Set}
 use Rattle.half_content.specs.Content.{noTerms}
@@ -20,18 +21,20 @@ use Rattle.call_party.specs.declared.Party.{Party}
 use Rattle.call_party.specs.declared.PartyAnswer.{PartyAnswer}
 use Rattle.call_party.specs.declared.TrialAnswer.{TrialAnswer}
 use Rattle.call_party.specs.Party as BoxCalls
-use Rattle.call_party.specs.Claims.{brought, trial-agrees, TrialTells, trial-tells}
+use Rattle.call_party.specs.Claims.{brought, trial-agrees, TrialTells, trial-tells, masked-same, worded-same}
+use Rattle.call_party.specs.Claims.{closed-taken}
 use Rattle.call_party.specs.Laws.{opened-name}
-use Rattle.door_lists.specs.Lists.{Box, partyOf, World, Starts, Started, beginning, Call, deal, dealByClock, load}
-use Rattle.door_lists.specs.Lists.{trial, mask, take, finish, drop, join, Event, dealt, loaded, tried, sent}
-use Rattle.door_lists.specs.Lists.{dropped, joined, refused, eventOf, put, step, after, events, here, history}
-use Rattle.door_lists.specs.Lists.{Admissible}
+use Rattle.door_lists.specs.Lists.{Box, partyOf, other, World, Starts, beginning, Message, Call, deal}
+use Rattle.door_lists.specs.Lists.{dealByClock, load, trial, mask, take, finish, drop, join, Event, dealt, loaded}
+use Rattle.door_lists.specs.Lists.{tried, sent, word, answer, dropped, joined, refused, eventOf, put, step, after}
+use Rattle.door_lists.specs.Lists.{events, In, here, there, history, Fits, Sent, Admits, Admissible}
 use Rattle.door_lists.specs.Demand.{Progress, nothingMade, onward, Ready, Run, start, own, aside, Begins}
 use Rattle.door_lists.specs.Numbers.{NumbersKept}
-use Rattle.door_lists.specs.Overlap.{Both, Overlap, FirstReady, SecondReady, Two}
-use Rattle.door_lists.specs.Trial.{withoutTrials, otherEvents, NoTrace, Foretold, Foretells, TriedIn, TriedInRun}
-use Rattle.door_lists.specs.Trial.{CanTry, TriedAhead, FullRefused, TrialLoad}
-use Rattle.door_lists.proofs.Boxes.{put-own}
+use Rattle.door_lists.specs.Overlap.{Both, Overlap, still, Two}
+use Rattle.door_lists.specs.Trial.{isTrial, withoutTrials, otherEvents, NoTrace, HalvesFree, Foretold}
+use Rattle.door_lists.specs.Trial.{Foretells, StaysTaken, TriedIn, TriedInRun, TriedBeside, CanTry, TriedAhead, FullRefused, TrialLoad}
+use Rattle.door_lists.proofs.Accepted.{mask-tells, take-tells}
+use Rattle.door_lists.proofs.Boxes.{put-own, put-all}
 use Rattle.door_lists.proofs.Claims.{always, begins}
 use Rattle.door_lists.proofs.Ends.{ended}
 use Rattle.door_lists.proofs.Dealt.{setOf, set-terms, set-proper, Sound}
@@ -65,6 +68,59 @@ no-trace w (take b m ∷ cs) = other-call w (take b m) cs (no-trace w cs)
 no-trace w (finish b m ∷ cs) = other-call w (finish b m) cs (no-trace w cs)
 no-trace w (drop b ∷ cs) = other-call w (drop b) cs (no-trace w cs)
 no-trace w (join m n ∷ cs) = other-call w (join m n) cs (no-trace w cs)
+
+-- ---- its half is free
+
+-- what the other calls did is among what all did
+one-more : (x e : Event) (g h : List Event) → (In x g → In x h) → (t : Bool) → In x (cond t g (e ∷ g)) → In x (e ∷ h)
+one-more x e g h f true j = there (f j)
+one-more x e g h f false (here p) = here p
+one-more x e g h f false (there j) = there (f j)
+
+among : (w : World) (cs : List Call) (x : Event) → In x (otherEvents w cs) → In x (events w cs)
+among w [] x i = i
+among w (c ∷ cs) x i = one-more x _ (otherEvents w cs) (events w cs) (λ j. among w cs x j) (isTrial c) i
+
+-- what is asked of a call is that something was done before: more may have been
+module _ (door : List ℕ) (g h : List Event) (more : (x : Event) → In x g → In x h) where
+  sent-more : {A : Type 0} (kind : ℕ) (f : Box → ℕ → A → Event) (m : Message A)
+      → Sent door kind (λ b n c. In (f b n c) g) m → Sent door kind (λ b n c. In (f b n c) h) m
+  sent-more kind f m s k n = let (b, p, i) = s k n in (b, p, more _ i)
+
+  admits-more : (c : Call) → Admits door g c → Admits door h c
+  admits-more (deal d out0 out1) a = a
+  admits-more (dealByClock k out0 out1) a = a
+  admits-more (load b x) a = λ i l. let (d, f, was, j, k, is) = a i l in (d, f, more _ was, j, k, is)
+  admits-more (trial b x) a = a
+  admits-more (mask b v out) a = a
+  admits-more (take b m) a = λ k n. let (c, p, i) = a k n in (c, p, (i .0, more _ (i .1)))
+  admits-more (finish b m) a = sent-more wordKind (λ c n y. sent c n (word y)) m a
+  admits-more (drop b) a = a
+  admits-more (join m n) (p, q) =
+      (sent-more answerKind (λ c k y. sent c k (answer y)) m p, sent-more answerKind (λ c k y. sent c k (answer y)) n q)
+
+free-call : (s : Starts) (c : Call) (cs : List Call) → Admissible s cs
+    → Fits c × Admits (door s) (history s (withoutTrials cs)) c → Admissible s (c ∷ cs)
+unfolding NoTrace
+free-call s c cs a (f, m) =
+    let w : World = beginning s in
+    let more : (x : Event) → In x (history s (withoutTrials cs)) → In x (history s cs) =
+    λ x i. among w cs x (subst (In x) (sym (no-trace w cs .1)) i) in
+    (a, f, admits-more (door s) _ (history s cs) more c m)
+
+halves-free : HalvesFree
+unfolding HalvesFree
+halves-free s [] a = tt
+halves-free s (trial b h ∷ cs) a = (halves-free s cs a, tt, tt)
+halves-free s (deal d out0 out1 ∷ cs) a = free-call s (deal d out0 out1) cs (halves-free s cs (a .0)) (a .1, a .2)
+halves-free s (dealByClock k out0 out1 ∷ cs) a =
+    free-call s (dealByClock k out0 out1) cs (halves-free s cs (a .0)) (a .1, a .2)
+halves-free s (load b h ∷ cs) a = free-call s (load b h) cs (halves-free s cs (a .0)) (a .1, a .2)
+halves-free s (mask b v out ∷ cs) a = free-call s (mask b v out) cs (halves-free s cs (a .0)) (a .1, a .2)
+halves-free s (take b m ∷ cs) a = free-call s (take b m) cs (halves-free s cs (a .0)) (a .1, a .2)
+halves-free s (finish b m ∷ cs) a = free-call s (finish b m) cs (halves-free s cs (a .0)) (a .1, a .2)
+halves-free s (drop b ∷ cs) a = free-call s (drop b) cs (halves-free s cs (a .0)) (a .1, a .2)
+halves-free s (join m n ∷ cs) a = free-call s (join m n) cs (halves-free s cs (a .0)) (a .1, a .2)
 
 -- ---- what it says
 
@@ -183,6 +239,81 @@ foretells w b h cs p =
           (then ∙ k .0, k .1, k .2 ∙ ap (λ (z : Party). brought s z .terms) (sym left));
     }
 
+-- ---- a half that would be taken still would be, until another one is loaded
+
+-- box b takes h, and is who it was
+abbrev Takes : List ℕ → Party → Party → Type 0
+Takes h s t = (BoxCalls.whyNotLoad t h ≡ 0) × (t .who ≡ s .who)
+
+-- what holds of box b's state s, of the state t that a call leaves, and of the call's event
+module _ (h : List ℕ) where
+  abbrev Spares : Box → Party → Event → Party → Type 0
+  Spares b s e t = ((n : ℕ) → loaded b n ≡ e → ⊥) → BoxCalls.whyNotLoad s h ≡ 0 → Takes h s t
+
+  unmoved : (b : Box) (s : Party) (e : Event) → Spares b s e s
+  unmoved b s e = λ n z. (z, refl)
+
+  either : (b : Box) (why : ℕ) (next s : Party) (e : Event) → (why ≡ 0 → Spares b s e next)
+      → Spares b s (eventOf why e) (ifTaken why next s)
+  unfolding ifTaken
+  either b why next s e f = go (eqb why 0) refl
+    where
+      go : (t : Bool) → eqb why 0 ≡ t → Spares b s (cond t e (refused why)) (cond t next s)
+      go true q = f (eqb-true why 0 q)
+      go false q = unmoved b s (refused why)
+
+  on-box : (w : World) (b : Box) (why : ℕ) (next : Party) (e : Event) → (why ≡ 0 → Spares b (w .box b) e next)
+      → (c : Box) → Spares c (w .box c) (eventOf why e) (put (w .box) b (ifTaken why next (w .box b)) c)
+  on-box w b why next e f =
+      put-all (λ c t. Spares c (w .box c) (eventOf why e) t) (w .box) b _ (either b why next (w .box b) e f)
+      (unmoved (other b) (w .box (other b)) (eventOf why e))
+
+  step-takes : (w : World) (c : Call) (b : Box) → Spares b (w .box b) (step w c .event) (step w c .world .box b)
+  unfolding BoxCalls.load BoxCalls.mask BoxCalls.takeVector BoxCalls.finish BoxCalls.dropSet BoxCalls.masked
+      BoxCalls.worded BoxCalls.closed
+  step-takes w (deal d out0 out1) = λ b. unmoved b (w .box b) _
+  step-takes w (dealByClock k out0 out1) = λ b. unmoved b (w .box b) _
+  step-takes w (load b x) = on-box w b _ _ _ (λ z n e. absurd (n _ refl))
+  step-takes w (trial b x) = λ c. unmoved c (w .box c) _
+  step-takes w (mask b v out) =
+      on-box w b _ _ _ (λ z n e.
+      (masked-same (w .box b) v h (mask-tells (w .box b) v (length out) z .turn) ∙ e, refl))
+  step-takes w (take b m) =
+      on-box w b _ _ _ (λ z n e.
+      (worded-same (w .box b) _ h (take-tells (w .box b) (m .label) (m .name) (m .content) z .turn) ∙ e, refl))
+  step-takes w (finish b m) = on-box w b _ _ _ (λ z n e. (closed-taken (w .box b) h e, refl))
+  step-takes w (drop b) = on-box w b _ _ _ (λ z n e. (closed-taken (w .box b) h e, refl))
+  step-takes w (join m n) = λ b. unmoved b (w .box b) _
+
+  list-takes : (w : World) (b : Box) → BoxCalls.whyNotLoad (w .box b) h ≡ 0 → (cs : List Call)
+      → ((n : ℕ) → In (loaded b n) (events w cs) → ⊥) → Takes h (w .box b) (after w cs .box b)
+  list-takes w b e [] f = (e, refl)
+  list-takes w b e (c ∷ cs) f =
+      let (k, who) = list-takes w b e cs (λ n i. f n (there i)) in
+      let (k', who') = step-takes (after w cs) c b (λ n q. f n (here q)) k in
+      (k', who' ∙ who)
+
+-- of the same half the same is told
+same-told : (h : List ℕ) (s t : Party) → BoxCalls.whyNotLoad s h ≡ 0 → Takes h s t
+    → BoxCalls.trial t h ≡ BoxCalls.trial s h
+unfolding BoxCalls.trial
+same-told h s t e (k, who) =
+    ap₂ (λ (why : ℕ) (i : Identity).
+    record {
+      why = why;
+      name = ifTaken why (openedName (i .key) h) BoxCalls.noName;
+      terms = ifTaken why (openedSet (i .key) h .terms) noTerms;
+    })
+    (k ∙ sym e) who
+
+stays-taken : StaysTaken
+unfolding StaysTaken BoxCalls.trial
+stays-taken w b h name t p cs f =
+    let s : Party = w .box b in
+    let e : BoxCalls.whyNotLoad s h ≡ 0 = none s b h name t p in
+    let told = same-told h s (after w cs .box b) e (list-takes h w b e cs f) in
+    ap (λ (a : TrialAnswer). eventOf (a .why) (tried b (a .name) (a .terms))) told ∙ p
+
 -- ---- the half that a run is about to load
 
 -- a box of this door tells of a half that was dealt for it, and that it takes, the door and what was dealt
@@ -254,18 +385,20 @@ tried-ahead s cs d e v u T rs g o =
     let Q = T .second-in-range in
     let B = Overlaps.ready s d e v u (T .above) (history s cs) w (always s (T .started) cs (T .admissible)) (T .free) in
     let A = Overlaps.running s d e v u (T .above) long R Q w B o in
-    let who : (b : Box) → after w rs .box b .who ≡ whoAt s b = λ b. ap (λ (p : Party). p .who) (A .box-at b .shows) in (
-      λ b h q.
+    let who : (b : Box) → after w rs .box b .who ≡ whoAt s b = λ b. ap (λ (p : Party). p .who) (A .box-at b .shows) in
+    record {
+      mixed = λ b h. still o (trial b h) refl;
+      first-taken = λ b h q.
           let (m, dealt-by, i, is) = q .0 in
           half-told s d (sound s d v long R) long b (after w rs .box b) h (who b)
           (is ∙ A .exact-at (dealt d dealt-by) i b)
-          (Overlaps.first-goes s d e v u (T .above) long R Q w B rs g o (load b h) q),
-      λ b h q.
+          (Overlaps.first-goes s d e v u (T .above) long R Q w B rs g o (load b h) q);
+      second-taken = λ b h q.
           let (m, dealt-by, i, is) = q .0 in
           half-told s e (sound s e u long Q) long b (after w rs .box b) h (who b)
           (is ∙ A .exact-at (dealt e dealt-by) i b)
-          (Overlaps.second-goes s d e v u (T .above) long R Q w B rs g o (load b h) q),
-    )
+          (Overlaps.second-goes s d e v u (T .above) long R Q w B rs g o (load b h) q);
+    }
 
 full-refused : FullRefused
 unfolding FullRefused NumbersKept Foretells
@@ -274,4 +407,5 @@ full-refused s f cs b two h =
 
 pub trial-load : TrialLoad
 unfolding TrialLoad
-trial-load = (no-trace, foretells, tried-in-run, can-try, tried-ahead, full-refused)
+trial-load =
+    (no-trace, halves-free, foretells, stays-taken, tried-in-run, can-try, tried-ahead, full-refused)

@@ -1,6 +1,6 @@
 -- A door's list of calls (01, "A door's list of calls"): the calls by the definitions that the contracts of dealer,
 -- party and lock name, what they do, and what is asked of what is handed in. A list stands newest call first.
--- Assumes nothing. [SPEC 25.1 to 25.4, 25.6, 26.1 to 26.4]
+-- Assumes nothing. [SPEC 25.1 to 25.6, 26.1 to 26.4, 26.6]
 use mathlib.Core.Path.{_≡_}
 use mathlib.Core.Bool.{Bool, true, false}
 use mathlib.Core.List.{List, [], _∷_}

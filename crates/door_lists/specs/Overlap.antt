@@ -53,7 +53,7 @@ abbrev pub SecondInOrder : Both → Call → Type 0
 SecondInOrder g (deal x out0 out1) = g .first .begun ≡ true
 SecondInOrder g (dealByClock k out0 out1) = g .first .begun ≡ true
 SecondInOrder g (load b x) = 1 ≤ g .first .made b
-SecondInOrder g (trial b x) = ⊥
+SecondInOrder g (trial b x) = Unit {0}
 SecondInOrder g (mask b x out) = 4 ≤ g .first .made b
 SecondInOrder g (take b m) = 4 ≤ g .first .made b
 SecondInOrder g (finish b m) = 4 ≤ g .first .made b

@@ -1,6 +1,6 @@
--- Trial load over lists of calls (02, §7): a trial leaves no trace; what it says is what a load would say; and a half
--- that a right-order run is about to load is told to be taken, of this door and of what was dealt. No proof stands
--- here. Assumes nothing. [SPEC 34.1 to 34.8]
+-- Trial load over lists of calls (02, §7): a trial leaves no trace, and its half is free; what it says is what a load
+-- would say, and a yes holds until another half is loaded; and the half that a right-order run is about to load gets a
+-- yes, with this door and what was dealt. No proof stands here. Assumes nothing. [SPEC 26.6, 34.1 to 34.8]
 use mathlib.Core.Path.{_≡_}
 use mathlib.Core.Bool.{Bool, true, false, cond}
 use mathlib.Core.List.{List, [], _∷_}
@@ -13,7 +13,7 @@ use Rattle.half_deal.specs.Dealing.{Deal}
 use Rattle.call_party.specs.Claims.{brought}
 use Rattle.door_lists.specs.Lists.{Box, World, Starts, Started, beginning, Call, deal, dealByClock, load, trial}
 use Rattle.door_lists.specs.Lists.{mask, take, finish, drop, join, Event, dealt, loaded, tried, refused, step}
-use Rattle.door_lists.specs.Lists.{after, events, history, Admissible}
+use Rattle.door_lists.specs.Lists.{after, events, In, history, Admissible}
 use Rattle.door_lists.specs.Demand.{openSets, Progress, Ready, Run, InRange, Free, Begins}
 use Rattle.door_lists.specs.Overlap.{Both, Overlap, FirstReady, SecondReady, Two}
 
@@ -39,11 +39,16 @@ abbrev pub otherEvents : World → List Call → List Event
 otherEvents w [] = []
 otherEvents w (c ∷ cs) = cond (isTrial c) (otherEvents w cs) (step (after w cs) c .event ∷ otherEvents w cs)
 
--- "The box's own state and last number are untouched, so a set that was tried can still be loaded": from any states,
--- every list leaves the states, and its other calls do, what they leave and do with no trial among them
+-- "The box's own state and last number are untouched, so a set that was tried can still be loaded": from any states, a
+-- list and the same list without its trials leave the same states, and the other calls do the same. (That the call
+-- itself can change nothing is in its type: the state goes in by value, and none comes back.)
 unfoldable pub NoTrace : Type 0
 NoTrace = (w : World) (cs : List Call)
     → (after w cs ≡ after w (withoutTrials cs)) × (otherEvents w cs ≡ events w (withoutTrials cs))
+
+-- "each whole block handed to a load" does not bind a trial: any trials may stand in an admissible list [SPEC 26.6]
+unfoldable pub HalvesFree : Type 0
+HalvesFree = (s : Starts) (cs : List Call) → Admissible s (withoutTrials cs) → Admissible s cs
 
 -- ---- what it says
 
@@ -65,6 +70,13 @@ pub record Foretold (w : World) (b : Box) (h : List ℕ) (cs : List Call) : Type
 -- it is
 unfoldable pub Foretells : Type 0
 Foretells = (w : World) (b : Box) (h : List ℕ) (cs : List Call) → after w cs .box b ≡ w .box b → Foretold w b h cs
+
+-- "Before driving out I want to know whether the half on my stick will be taken": from any states, a half that is told
+-- to be taken still is, with the same words, after any calls, as long as no other half is loaded at that box
+unfoldable pub StaysTaken : Type 0
+StaysTaken = (w : World) (b : Box) (h name : List ℕ) (t : Terms) → step w (trial b h) .event ≡ tried b name t
+    → (cs : List Call) → ((n : ℕ) → In (loaded b n) (events w cs) → ⊥)
+    → step (after w cs) (trial b h) .event ≡ tried b name t
 
 -- ---- in a run in the right order
 
@@ -93,16 +105,20 @@ CanTry = (s : Starts) → Started s → (cs : List Call) → Admissible s cs →
 
 -- ---- with a set open, and with one waiting
 
--- of two checks that overlap: a trial of the half that a box is about to load, for the first or ahead for the second,
--- tells this door and what was dealt
+-- of two checks that overlap: a trial of any half may be mixed into them; and one of the half that a box is about to
+-- load, for the first or ahead for the second, tells this door and what was dealt
+pub record TriedBeside (s : Starts) (d e : Deal) (v u : Box → List ℕ) (w : World) (rs : List Call) (g : Both) : Type 0
+    where
+  pub mixed : (b : Box) (h : List ℕ) → Overlap (padded (s .name)) d e v u w (trial b h ∷ rs) g
+  pub first-taken : (b : Box) (h : List ℕ) → FirstReady (padded (s .name)) d e v u g (events w rs) (load b h)
+      → step (after w rs) (trial b h) .event ≡ tried b (padded (s .name)) (d .terms)
+  pub second-taken : (b : Box) (h : List ℕ) → SecondReady (padded (s .name)) d e v u g (events w rs) (load b h)
+      → step (after w rs) (trial b h) .event ≡ tried b (padded (s .name)) (e .terms)
+
 unfoldable pub TriedAhead : Type 0
 TriedAhead = (s : Starts) (cs : List Call) (d e : Deal) (v u : Box → List ℕ) → Two s cs d e v u
     → (let w : World = after (beginning s) cs in
-    (rs : List Call) (g : Both) → Overlap (padded (s .name)) d e v u w rs g
-    → ((b : Box) (h : List ℕ) → FirstReady (padded (s .name)) d e v u g (events w rs) (load b h)
-    → step (after w rs) (trial b h) .event ≡ tried b (padded (s .name)) (d .terms))
-    × ((b : Box) (h : List ℕ) → SecondReady (padded (s .name)) d e v u g (events w rs) (load b h)
-    → step (after w rs) (trial b h) .event ≡ tried b (padded (s .name)) (e .terms)))
+    (rs : List Call) (g : Both) → Overlap (padded (s .name)) d e v u w rs g → TriedBeside s d e v u w rs g)
 
 -- after every list, whatever was handed in: with a set open and one waiting every half is refused by 3
 unfoldable pub FullRefused : Type 0
@@ -111,4 +127,4 @@ FullRefused = (s : Starts) → Started s → (cs : List Call) (b : Box) → open
 
 -- the promise of the trial, whole
 unfoldable pub TrialLoad : Type 0
-TrialLoad = NoTrace × Foretells × TriedInRun × CanTry × TriedAhead × FullRefused
+TrialLoad = NoTrace × HalvesFree × Foretells × StaysTaken × TriedInRun × CanTry × TriedAhead × FullRefused
