@@ -27,7 +27,6 @@ use Rattle.half_content.specs.Laws.{ordinary-width}
 use Rattle.half_seal.specs.Half.{wholeBlocks, whyNot, whyNotOpened, setNumber, openedSet, openedName}
 use Rattle.call_party.specs.declared.Check.{Check}
 use Rattle.call_party.specs.declared.Party.{Party}
-use Rattle.call_party.specs.declared.TrialAnswer.{TrialAnswer}
 use Rattle.call_party.specs.Party.{idlePhase, noCheck, idle, isOpen, waits, stateFits, waitingFits, sound, inTurn}
 use Rattle.call_party.specs.Party.{noName, trial, loadedPhase, maskedPhase, masked, worded}
 use Rattle.call_party.specs.Party.{highWater, whyNotLoad, opened, loaded, load, nextCheck, closed, whyNotMessage}

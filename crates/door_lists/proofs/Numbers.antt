@@ -32,7 +32,7 @@ use Rattle.call_lock.specs.declared.Lock.{Lock}
 use Rattle.call_lock.specs.Lock as LockCalls
 use Rattle.door_lists.specs.Lists.{Box, partyOf, other, put, World, Starts, Started, beginning, dealByClock}
 use Rattle.door_lists.specs.Lists.{Call, deal, load, trial, mask, take, finish, drop, join, step, after, history}
-use Rattle.door_lists.specs.Lists.{Event, loaded, tried, sent, dropped, refused, vector, word, answer, eventOf}
+use Rattle.door_lists.specs.Lists.{Event, loaded, sent, dropped, refused, vector, word, answer, eventOf}
 use Rattle.door_lists.specs.Demand.{dealsIn, loadsBy, joinsIn, collect}
 use Rattle.door_lists.specs.Demand.{lastDealt, lastJoined, openSets, held}
 use Rattle.door_lists.specs.Numbers.{Rise, NoTurn, numbersIn, NumbersKept}

@@ -1,24 +1,22 @@
 -- Trial load over lists of calls. Assumes nothing.
 use mathlib.Core.Path.{_≡_, refl, sym, ap, ap₂, subst, _∙_}
 use mathlib.Core.Bool.{Bool, true, false, cond}
-use mathlib.Core.List.{List, [], _∷_, _++_}
+use mathlib.Core.List.{List, [], _∷_}
 use mathlib.Core.Logic.{_⊎_, inl, inr}
-use Prim.Native.Nat.{ℕ, zero, suc}
+use Prim.Native.Nat.{ℕ}
 use native.Mathlib.Omega.{arith}
-use borrow.Author.Tests.{eqb-true, eqb-false}
+use borrow.Author.Tests.{eqb-true}
 use lib.Dec.{eqb}
 use lib.ListN.{length}
 use Rattle.measure_table.specs.declared.Terms.{Terms}
 use Rattle.base_messages.specs.declared.Identity.{Identity}
 use Rattle.base_messages.specs.Messages.{outOfTurn, wordKind, answerKind, ifTaken}
-use Rattle.base_messages.specs.Laws as Laws
 use Rattle.half_content.specs.declared.Set.{Set}
 use Rattle.half_content.specs.Content.{noTerms}
 use Rattle.half_seal.specs.Claims.{half-opened}
 use Rattle.half_seal.specs.Half.{setNumber, openedSet, openedName}
 use Rattle.half_deal.specs.Dealing.{Deal}
 use Rattle.call_party.specs.declared.Party.{Party}
-use Rattle.call_party.specs.declared.PartyAnswer.{PartyAnswer}
 use Rattle.call_party.specs.declared.TrialAnswer.{TrialAnswer}
 use Rattle.call_party.specs.Party as BoxCalls
 use Rattle.call_party.specs.Claims.{brought, trial-agrees, TrialTells, trial-tells, masked-same, worded-same}
@@ -28,18 +26,19 @@ use Rattle.door_lists.specs.Lists.{Box, partyOf, other, World, Starts, b
 use Rattle.door_lists.specs.Lists.{dealByClock, load, trial, mask, take, finish, drop, join, Event, dealt, loaded}
 use Rattle.door_lists.specs.Lists.{tried, sent, word, answer, dropped, joined, refused, eventOf, put, step, after}
 use Rattle.door_lists.specs.Lists.{events, In, here, there, history, Fits, Sent, Admits, Admissible}
-use Rattle.door_lists.specs.Demand.{Progress, nothingMade, onward, Ready, Run, start, own, aside, Begins}
+use Rattle.door_lists.specs.Demand.{nothingMade, onward, start, own, aside, Begins}
 use Rattle.door_lists.specs.Numbers.{NumbersKept}
-use Rattle.door_lists.specs.Overlap.{Both, Overlap, still, Two}
-use Rattle.door_lists.specs.Trial.{isTrial, withoutTrials, otherEvents, NoTrace, HalvesFree, Foretold}
-use Rattle.door_lists.specs.Trial.{Foretells, StaysTaken, TriedIn, TriedInRun, TriedBeside, CanTry, TriedAhead, FullRefused, TrialLoad}
+use Rattle.door_lists.specs.Overlap.{still}
+use Rattle.door_lists.specs.Trial.{isTrial, withoutTrials, otherEvents, NoTrace, HalvesFree}
+use Rattle.door_lists.specs.Trial.{Foretells, StaysTaken, TriedInRun, CanTry, TriedAhead}
+use Rattle.door_lists.specs.Trial.{FullRefused, TrialLoad}
 use Rattle.door_lists.proofs.Accepted.{mask-tells, take-tells}
 use Rattle.door_lists.proofs.Boxes.{put-own, put-all}
 use Rattle.door_lists.proofs.Claims.{always, begins}
 use Rattle.door_lists.proofs.Ends.{ended}
 use Rattle.door_lists.proofs.Dealt.{setOf, set-terms, set-proper, Sound}
 use Rattle.door_lists.proofs.History.{door, halfOf}
-use Rattle.door_lists.proofs.Invariant.{whoAt, showing, door-long}
+use Rattle.door_lists.proofs.Invariant.{whoAt, door-long}
 use Rattle.door_lists.proofs.Made.{sound}
 use Rattle.door_lists.proofs.Numbers.{numbers-kept}
 use Rattle.door_lists.proofs.Overlaps as Overlaps

@@ -108,12 +108,12 @@ CanTry = (s : Starts) → Started s → (cs : List Call) → Admissible s cs →
 -- of two checks that overlap: a trial of any half may be mixed into them; and one of the half that a box is about to
 -- load, for the first or ahead for the second, tells this door and what was dealt
 pub record TriedBeside (s : Starts) (d e : Deal) (v u : Box → List ℕ) (w : World) (rs : List Call) (g : Both) : Type 0
-    where
-  pub mixed : (b : Box) (h : List ℕ) → Overlap (padded (s .name)) d e v u w (trial b h ∷ rs) g
-  pub first-taken : (b : Box) (h : List ℕ) → FirstReady (padded (s .name)) d e v u g (events w rs) (load b h)
-      → step (after w rs) (trial b h) .event ≡ tried b (padded (s .name)) (d .terms)
-  pub second-taken : (b : Box) (h : List ℕ) → SecondReady (padded (s .name)) d e v u g (events w rs) (load b h)
-      → step (after w rs) (trial b h) .event ≡ tried b (padded (s .name)) (e .terms)
+  where
+    pub mixed : (b : Box) (h : List ℕ) → Overlap (padded (s .name)) d e v u w (trial b h ∷ rs) g
+    pub first-taken : (b : Box) (h : List ℕ) → FirstReady (padded (s .name)) d e v u g (events w rs) (load b h)
+        → step (after w rs) (trial b h) .event ≡ tried b (padded (s .name)) (d .terms)
+    pub second-taken : (b : Box) (h : List ℕ) → SecondReady (padded (s .name)) d e v u g (events w rs) (load b h)
+        → step (after w rs) (trial b h) .event ≡ tried b (padded (s .name)) (e .terms)
 
 unfoldable pub TriedAhead : Type 0
 TriedAhead = (s : Starts) (cs : List Call) (d e : Deal) (v u : Box → List ℕ) → Two s cs d e v u
