@@ -19,7 +19,7 @@ use Rattle.half_deal.specs.Dealing.{Deal, dealtSet}
 use Rattle.half_deal.specs.Laws.{proper}
 use Rattle.half_open.specs.declared.Examined.{Examined}
 use Rattle.half_seal.specs.Half.{whyNot, whyNotOpened, openedSet}
-use Rattle.half_open.specs.Examined.{answerFor, examined}
+use Rattle.half_open.specs.Examined.{examined}
 
 pub dealt-proper : (d : Deal) (party : ℕ) (s : Set) → s ≡ dealtSet d party → d .number < 2 ^ 64
     → isCode (d .terms .code) ≡ true → lengthFits (d .terms) ≡ true → inOrder (d .rule) ≡ true → party ≤ 1 → Proper s
@@ -52,7 +52,7 @@ fits-laid name party count number b h =
 
 pub opened-laid : (key name : List ℕ) (party last : ℕ) (h : List ℕ) (e : Examined) → e ≡ examined key name party last h
     → e .why ≡ 0 → Laid (e .set)
-unfolding examined answerFor whyNot whyNotOpened openedSet
+unfolding examined whyNot whyNotOpened openedSet
 opened-laid key name party last h e same none =
     let why : whyNot key name party last h ≡ 0 = ap (λ (x : Examined). x .why) (sym same) ∙ none in
     let whole = passed 3 why in
