@@ -54,8 +54,8 @@
  * Refusals. `why` is 0 for an accepted call, else the number of the first test that failed, lowest
  * first (enum door_refusal); but door_deal_by_clock tests 14 to 16 before all others. A refused call
  * changes nothing: the answer holds the state that was handed in, its word is 0, and every buffer is
- * as it was. So `box = a.party` is right either way. Only a refused start has no state to hand back:
- * the one in its answer is all zero. So is what a refused trial tells.
+ * as it was. So `box = a.party` is right either way. A refused start has no state to hand back: the
+ * one in its answer is all zero. A trial has none in its answer; what a refused one tells is zero.
  *
  * Buffers. A slice is a pointer and the number of its elements, not of its bytes. It is lent for
  * the call alone. What is const is only read; in a buffer that is not, an accepted call writes
@@ -382,9 +382,9 @@ struct door_party_answer door_load(
  *
  * With a set open it speaks of a load ahead, and the open check is not disturbed. With one waiting
  * it is refused by 3, whatever the half is, as a load would be: try again when the open set has
- * ended. What it says holds for the state that was handed in. A load in between changes that: if it
- * had a number not below the tried one, the tried half is then refused by 7, and while that set
- * waits by 3. Refusals: 3, 4, 7, 10, 11.
+ * ended. What it says holds for the state that was handed in, and a yes until a half is loaded.
+ * While that half's set waits, every half is refused by 3. If its number was not below the tried
+ * one, the tried half is refused by 7 from then on. Refusals: 3, 4, 7, 10, 11.
  */
 struct door_trial_answer door_trial(
     struct door_party party,

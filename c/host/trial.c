@@ -4,8 +4,9 @@
  * The proved trial gets the half, and the state that the box would start with, from its files. They
  * are only read. No part is claimed, no message is sent, and nothing is written: the parts may run
  * beside it, and a half that was tried can still be loaded. What a running box has in memory is not
- * known here. That matters in one case: with one set open and another one waiting it takes no
- * further half before the open one has ended.
+ * known here. That matters where one set is open and another one waits: the box takes no further
+ * half before the open one has ended. And it matters where the files are not what the box has: a
+ * last number that could not be written, or a file changed since the box started.
  */
 #include "host.h"
 
@@ -25,12 +26,13 @@ struct verdict {
     char name[DOOR_NAME + 1]; /* the box's */
     uint64_t last;            /* its last number */
     struct door_trial_answer said;
-    bool opens; /* its key opens the half, which is then this box's, taken or not */
+    bool opens;  /* its key opens the half */
+    bool is_own; /* and all else fits but the number: it is this box's half, taken or not */
 };
 
 /* The number is tested before the key. So a half whose number is spent is tried once more, as if
    none was: whose half it is tells a person what to do, and nothing is called good by it. */
-static bool key_opens(
+static uint32_t but_for_number(
     const struct door_party *party, const struct carried_half *half, uint32_t why)
 {
     struct door_party unspent = *party;
@@ -38,7 +40,7 @@ static bool key_opens(
     if (why == DOOR_WRONG_NUMBER)
         why = door_trial(unspent, half->bytes, half->size).why;
     explicit_bzero(&unspent, sizeof unspent);
-    return why == DOOR_ACCEPTED || why == DOOR_BAD_CONTENT;
+    return why;
 }
 
 static bool is_here(enum part box, struct verdict *v)
@@ -62,7 +64,9 @@ static void try_at(enum part box, const struct carried_half *half, struct verdic
     v->last = party.last;
     memcpy(v->name, party.who.name, DOOR_NAME);
     v->said = door_trial(party, half->bytes, half->size);
-    v->opens = key_opens(&party, half, v->said.why);
+    const uint32_t why = but_for_number(&party, half, v->said.why);
+    v->opens = why == DOOR_ACCEPTED || why == DOOR_BAD_CONTENT;
+    v->is_own = why == DOOR_ACCEPTED;
     explicit_bzero(&party, sizeof party);
 }
 
@@ -73,8 +77,8 @@ static bool is_taken(const struct verdict *v)
     return v->asked == ASKED && v->said.why == DOOR_ACCEPTED;
 }
 
-/* The box whose half it is, PARTS where no key opens it. */
-static enum part owner_of(const struct verdict verdicts[BOXES])
+/* The box whose key opens it, PARTS where none does. */
+static enum part opener_of(const struct verdict verdicts[BOXES])
 {
     enum part box = CAMERA;
     while (box <= OFFICE && !verdicts[box].opens)
@@ -103,10 +107,10 @@ static void number_words(const struct verdict *v, char words[WHY_ROOM])
 {
     snprintf(words, WHY_ROOM, "its number is not above %" PRIu64 ", the last number there%s",
         v->last,
-        v->opens ? ": it was loaded already, or it is older than what was. Every check asks the "
-                   "dealer for a new set: bring the half of that one"
-                 : "; and it is another box's half, or it is damaged. Bring the right box's half "
-                   "of a newer set");
+        v->is_own ? ": it was loaded already, or it is older than what was. Every check asks the "
+                    "dealer for a new set: bring the half of that one"
+                  : "; and it is another box's half, or it is damaged. Bring the right box's half "
+                    "of a newer set");
 }
 
 static void content_words(const struct verdict *v, char words[WHY_ROOM])
@@ -117,15 +121,13 @@ static void content_words(const struct verdict *v, char words[WHY_ROOM])
         "FOLDER, or use the newer program)", v->name);
 }
 
-/* What is the same at every box. No state from a disk has a set open, which 3 speaks of. */
+/* What is the same at every box. */
 static const char *common_words(uint32_t why)
 {
     if (why == DOOR_BAD_BLOCK)
         return "no key there opens it: it is another box's or another door's half, or it is "
                "damaged. See which box it is for. " AGAIN "; if that does not help, the keys "
                "differ: see that the folder, the dealer and the stick are of one door";
-    if (why == DOOR_OUT_OF_TURN)
-        return "one set is open there and another one waits. Try again when the open one has ended";
     return refusal_words(why);
 }
 
@@ -150,7 +152,7 @@ static void set_words(
 {
     uint64_t number = get_little(half->bytes, sizeof number);
     words[0] = '\0';
-    if (v->said.why != DOOR_WRONG_LENGTH && v->said.why != DOOR_OUT_OF_TURN)
+    if (v->said.why != DOOR_WRONG_LENGTH)
         snprintf(words, PATH_ROOM, "set %" PRIu64 "%s: ", number,
             v->opens ? "" : ", by what the file says");
 }
@@ -173,9 +175,10 @@ static void tell_refused(
 }
 
 /* A half is for one box. That the other one refuses it is as it should be. */
-static void tell(enum part box, const struct verdict *v, enum part owner,
+static void tell(enum part box, const struct verdict verdicts[BOXES], enum part opener,
     const struct carried_half *half)
 {
+    const struct verdict *v = &verdicts[box];
     char who[PATH_ROOM];
     snprintf(who, sizeof who, "the %s would not", PART[box].title);
     if (v->asked == NOT_HERE)
@@ -185,24 +188,25 @@ static void tell(enum part box, const struct verdict *v, enum part owner,
             PART[box].title);
     else if (is_taken(v))
         tell_taken(box, &v->said, get_little(half->bytes, sizeof(uint64_t)));
-    else if (owner != PARTS && owner != box)
-        printf("%s: it is the %s's half\n", who, PART[owner].title);
+    else if (opener != PARTS && opener != box)
+        printf("%s: %s %s's %s\n", who, verdicts[opener].is_own ? "it is the" : "the",
+            PART[opener].title, verdicts[opener].is_own ? "half" : "key opens it");
     else
         tell_refused(who, v, half);
 }
 
-/* The box whose half it is comes first. */
+/* The box whose key opens it comes first. */
 static void tell_all(const struct verdict verdicts[BOXES], const struct carried_half *half)
 {
-    const enum part owner = owner_of(verdicts);
+    const enum part opener = opener_of(verdicts);
     if (is_same(&verdicts[CAMERA], &verdicts[OFFICE])) {
         tell_refused("neither box would", &verdicts[CAMERA], half);
         return;
     }
-    const enum part first = owner == OFFICE ? OFFICE : CAMERA;
+    const enum part first = opener == OFFICE ? OFFICE : CAMERA;
     const enum part second = first == OFFICE ? CAMERA : OFFICE;
-    tell(first, &verdicts[first], owner, half);
-    tell(second, &verdicts[second], owner, half);
+    tell(first, verdicts, opener, half);
+    tell(second, verdicts, opener, half);
 }
 
 /* A box in trouble counts more than one that would take the half: a check needs both. */
@@ -225,7 +229,7 @@ static int try_half(const struct carried_half *half)
         return EXIT_TROUBLE;
     }
     tell_all(verdicts, half);
-    if (fflush(stdout) == 0)
+    if (fflush(stdout) == 0 && !ferror(stdout))
         return status_of(verdicts);
     say_trouble("cannot write to", "the standard output");
     return EXIT_TROUBLE;

@@ -190,7 +190,9 @@ static void expect_bad_content(const char *half, enum part box, const char *name
         COPY_AGAIN "; if that does not help, see that the dealer has this box's name, '%s', and "
         "that all parts have this version (run: door-host upgrade FOLDER, or use the newer "
         "program)\n", kept.number, PART[box].title, name);
-    not_its_half(box, line);
+    const size_t size = strlen(line);
+    snprintf(line + size, sizeof line - size, "the %s would not: the %s's key opens it\n",
+        PART[other_box(box)].title, PART[box].title);
     expect_trial(TWIN, half, EXIT_SHUT, line);
 }
 

@@ -1,5 +1,6 @@
 // Every call of dealer, box and lock as a C function, for their hosts. A state is handed over and comes
-// back by value; a slice is a pointer and a length. No function asks anything of its caller.
+// back by value, but for a trial's, which does not come back; a slice is a pointer and a length. No
+// function asks anything of its caller.
 ghost use mathlib.Core.Path.{_≡_};
 ghost use lib.ListN.{length};
 ghost use Rattle.half_deal.specs.Dealing.{dealFrom};

@@ -260,7 +260,7 @@ pub waiting-refused : (s : Party) (h : List ℕ) → waits s ≡ true → trial 
 unfolding trial whyNotLoad unless
 waiting-refused s h w = rw w refl
 
--- ---- a half that would be taken still would be, until another one is loaded [SPEC 34.6]
+-- ---- a half that would be taken still would be, until one is loaded [SPEC 34.6]
 
 -- after calls 2 and 3 the same is asked of it: of the check they move the phase alone, from 1 to 2 and from 2 to 3, ..
 pub masked-same : (s : Party) (v h : List ℕ) → s .check .phase ≡ loadedPhase

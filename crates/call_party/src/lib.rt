@@ -1,7 +1,8 @@
 // A box: loads a half, masks its vector, takes the other's masked vector and word, and answers (01,
 // "One check at a box"). A call takes the state by value and hands the next one back; a refused one
-// hands it back as it was, with the refusal's number, and leaves every lent buffer as it was.
-// [SPEC 12.1, 15.3, 16.3, 17.5, 18.5, 19.1, 22.4, 22.5]
+// hands it back as it was, with the refusal's number, and leaves every lent buffer as it was. A trial
+// (02, "Trial load") hands none back.
+// [SPEC 12.1, 15.3, 16.3, 17.5, 18.5, 19.1, 22.4, 22.5, 34.1 to 34.3]
 ghost use mathlib.Core.Path.{_≡_};
 ghost use Prim.Native.Nat.{_-_, _≤_};
 ghost use lib.Dec.{eqb, leb};

@@ -238,7 +238,7 @@ foretells w b h cs p =
           (then ∙ k .0, k .1, k .2 ∙ ap (λ (z : Party). brought s z .terms) (sym left));
     }
 
--- ---- a half that would be taken still would be, until another one is loaded
+-- ---- a half that would be taken still would be, until one is loaded
 
 -- box b takes h, and is who it was
 abbrev Takes : List ℕ → Party → Party → Type 0

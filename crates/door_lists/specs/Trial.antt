@@ -1,5 +1,5 @@
 -- Trial load over lists of calls (02, §7): a trial leaves no trace, and its half is free; what it says is what a load
--- would say, and a yes holds until another half is loaded; and the half that a right-order run is about to load gets a
+-- would say, and a yes holds until a half is loaded there; and the half that a right-order run is about to load gets a
 -- yes, with this door and what was dealt. No proof stands here. Assumes nothing. [SPEC 26.6, 34.1 to 34.8]
 use mathlib.Core.Path.{_≡_}
 use mathlib.Core.Bool.{Bool, true, false, cond}
@@ -72,7 +72,7 @@ unfoldable pub Foretells : Type 0
 Foretells = (w : World) (b : Box) (h : List ℕ) (cs : List Call) → after w cs .box b ≡ w .box b → Foretold w b h cs
 
 -- "Before driving out I want to know whether the half on my stick will be taken": from any states, a half that is told
--- to be taken still is, with the same words, after any calls, as long as no other half is loaded at that box
+-- to be taken still is, with the same words, after any calls, as long as no half is loaded at that box
 unfoldable pub StaysTaken : Type 0
 StaysTaken = (w : World) (b : Box) (h name : List ℕ) (t : Terms) → step w (trial b h) .event ≡ tried b name t
     → (cs : List Call) → ((n : ℕ) → In (loaded b n) (events w cs) → ⊥)

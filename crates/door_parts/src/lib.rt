@@ -1,6 +1,6 @@
 // A door's four parts as one value, with their calls (01, "A door's list of calls"). Each call is a step
 // of the lists that demand 3 speaks of: it goes to its part, whose next state is put back, and the other
-// three parts stay.
+// three parts stay. A trial has no next state.
 ghost use mathlib.Core.Path.{_≡_};
 ghost use Rattle.half_deal.specs.Dealing.{dealFrom};
 ghost use Rattle.call_day.specs.Table.{tableOf};

@@ -151,7 +151,7 @@ fn nothing_told(why: u32) -> Told
     }
 }
 
-// Why whole blocks are turned down (0 if they are not): they are then opened into `text`.
+// Why whole blocks are turned down: 0 if they are not, and `text` then has what they open to.
 fn why_not_opened(
     key: &[u8; 32],
     name: [u8; NAME],
@@ -190,7 +190,7 @@ fn why_not_numbered(last: u64, h: &[u8]) -> u32
     0
 }
 
-// Why whole blocks are turned down (0 if they are not): their text then stands at the start of `room`.
+// The same, with room for any half: what they open to then stands at its start.
 fn why_not_within(key: &[u8; 32], name: [u8; NAME], party: u32, h: &[u8], room: &mut [u8]) -> u32
     requires { ⌜ (3 ≤ length (now h) / blockBytes) × (length (now h) / blockBytes ≤ mostBlocks)
         × (length (now room) ≡ roomBytes) ⌝ }
@@ -203,9 +203,9 @@ fn why_not_within(key: &[u8; 32], name: [u8; NAME], party: u32, h: &[u8], room: 
     why_not_opened(key, name, party, number, h, &mut room[..size])
 }
 
-// Examines a half for a box of this key, padded name and party whose last number is `last`. Any
-// bytes may be handed in, and nothing is committed. (Bytes that are turned down by length or number
-// need no room for their text.)
+// Examines a half for a box of this key, padded name and party, where its number has to be above
+// `last`. Any bytes may be handed in, and nothing is committed. (Bytes that are turned down by length or
+// number need no room for their text.)
 pub fn examine(key: &[u8; 32], name: [u8; NAME], party: u32, last: u64, h: &[u8]) -> Examined
     ensures { λ r. ⌜ r ≡ examined (now (key .entry)) name party last (now (h .entry)) ⌝ }
 {
