@@ -93,6 +93,8 @@ extern "C" {
 #define DOOR_STACK 98304           /* bytes of stack that suffice for a call */
 #define DOOR_DAY 1440              /* minutes of a day: they run from 0 to 1439 */
 #define DOOR_ROWS_MOST 32          /* rows of a table of the day: it has from 1 to this */
+#define DOOR_IRIS_BYTES 64         /* bytes of a packed iris code */
+#define DOOR_IRIS_BITS 512         /* its bits, and elements of an unpacked one */
 
 /* Bytes of a half of vectors of length n, from 1 to DOOR_LENGTH_MOST. */
 #define DOOR_HALF(n) (DOOR_BLOCK * ((1253 + 12 * (size_t)(n) + 483) / 484))
@@ -281,6 +283,12 @@ struct door_lock_answer {
                      marks it means P <= measure <= Q. A refused join has 0 */
 };
 
+/* What door_iris_hamming answers. */
+struct door_hamming_answer {
+    uint32_t why;
+    uint32_t distance; /* accepted: in how many bits the two codes differ, 0 to 512; refused: 0 */
+};
+
 /*
  * The dealer. A start takes the bare name, of 1 to 16 bytes, without a zero at its end; key0 is
  * the camera box's and key1 the office box's. Refusals: 1, 4, 9.
@@ -458,6 +466,44 @@ struct door_lock_answer door_join(
     uint32_t answer1);
 
 /*
+ * Iris codes. A code has 512 bits, for each of 64 angles and 8 rings one. It is packed in 64 bytes,
+ * where bit i is bit i % 8 of byte i / 8, the lowest first. The scanner sends it angle by angle, at
+ * bit angle * 8 + ring; we store it ring by ring, at bit ring * 64 + angle. These calls are on no
+ * part: they take no state. Those that write return why not: 0 or the refusal's number.
+ *
+ * From the scanner's order to ours, 64 bytes to out. Refusals: 4, 5.
+ */
+uint32_t door_iris_to_rings(
+    const uint8_t *code, size_t code_len,
+    uint8_t *out, size_t out_len);
+
+/* From our order to the scanner's, 64 bytes to out. Refusals: 4, 5. */
+uint32_t door_iris_to_angles(
+    const uint8_t *code, size_t code_len,
+    uint8_t *out, size_t out_len);
+
+/*
+ * The vector for DOOR_HAMMING with L 512: 512 words to out, element i is bit i of the bytes as they
+ * stand, in whichever order. Refusals: 4, 5.
+ */
+uint32_t door_iris_unpack(
+    const uint8_t *code, size_t code_len,
+    uint32_t *out, size_t out_len);
+
+/* Back: 64 bytes to out, bit i is element i of the vector, each 0 or 1. Refusals: 4, 5, 8. */
+uint32_t door_iris_pack(
+    const uint32_t *v, size_t v_len,
+    uint8_t *out, size_t out_len);
+
+/*
+ * In how many bits two codes differ: the measure of DOOR_HAMMING of the two unpacked. Both have to
+ * be in one order, either one: no call can tell. Refusal: 4.
+ */
+struct door_hamming_answer door_iris_hamming(
+    const uint8_t *a, size_t a_len,
+    const uint8_t *b, size_t b_len);
+
+/*
  * The same join without a struct, for a small lock: its archive (`rt staticlib c_lock`) is proved in
  * seconds. The host keeps the door's padded name and the last joined number, first the floor, and
  * hands them in. 0 or 1 is what is reported; a refused join answers LOCK_REFUSED plus the refusal's
@@ -551,6 +597,8 @@ DOOR_AT(door_party_answer, word, 17144);
 DOOR_SIZE(door_trial_answer, 40);
 DOOR_AT(door_trial_answer, name, 4);
 DOOR_AT(door_trial_answer, terms, 24);
+DOOR_SIZE(door_hamming_answer, 8);
+DOOR_AT(door_hamming_answer, distance, 4);
 static_assert(sizeof(size_t) == 8, "size_t is the crates' usize");
 #undef DOOR_AT
 #undef DOOR_SIZE
