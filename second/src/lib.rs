@@ -25,6 +25,9 @@ pub mod generated;
 pub mod half_cases;
 pub mod half_marks;
 pub mod halves;
+pub mod iris;
+#[cfg(test)]
+mod iris_refusals;
 pub mod lock;
 pub mod measure;
 pub mod message;
