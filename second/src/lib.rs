@@ -26,6 +26,9 @@ pub mod half_cases;
 pub mod half_marks;
 pub mod halves;
 pub mod iris;
+pub mod iris_bad_cases;
+pub mod iris_cases;
+pub mod iris_lines;
 #[cfg(test)]
 mod iris_refusals;
 pub mod lock;
