@@ -77,8 +77,8 @@ pub fn to_angles(code: &[u8], buffer: &mut [u8]) -> Result<(), Refusal> {
 pub fn unpack(code: &[u8], buffer: &mut [u32]) -> Result<(), Refusal> {
     check_packed(code)?;
     Refusal::Room.unless(buffer.len() >= CODE_BITS)?;
-    for place in 0..CODE_BITS {
-        buffer[place] = bit(code, place).into();
+    for (place, element) in buffer[..CODE_BITS].iter_mut().enumerate() {
+        *element = bit(code, place).into();
     }
     Ok(())
 }

@@ -2,7 +2,6 @@
 //! elements, several of them at once, and lines that are none of the script.
 
 use crate::cases::Cases;
-use crate::iris::CODE_BITS;
 use crate::iris_cases::{answer_with_bytes, answer_with_words};
 use crate::iris_cases::{EVERY_ELEMENT, NO_ELEMENT, ZEROS};
 use crate::iris_lines::BAD_LINE;
@@ -43,7 +42,7 @@ const BAD: [u32; 13] = [
 ];
 
 /// The first place, those in the middle, and the last one.
-const PLACES: [usize; 4] = [0, CODE_BITS / 2 - 1, CODE_BITS / 2, CODE_BITS - 1];
+const PLACES: [usize; 4] = [0, 255, 256, 511];
 
 /// Vectors with bad elements at many places, LOW and MASK.
 const SCATTERED: [(u32, u32); 8] = [

@@ -6,9 +6,14 @@
 
 use crate::cases::Cases;
 use crate::field;
-use crate::iris::{ANGLES, CODE_BITS, CODE_BYTES, RINGS};
 use crate::iris_lines::run;
 use crate::script::Case;
+
+/// The paper's numbers, not those of `iris`.
+const ANGLES: usize = 64;
+const RINGS: usize = 8;
+const CODE_BITS: usize = 512;
+const CODE_BYTES: usize = 64;
 
 /// Codes whose bits are all 0 and all 1.
 pub const ZEROS: &str = "~16:0:0:0";
