@@ -1,65 +1,103 @@
--- What 02, §10, promises of iris codes: where each bit goes, that each change of form undoes its partner, that how far
--- two packed codes are apart is code 2's measure of the unpacked vectors, in either order, and what that makes of a
--- rule. Assumes nothing. [SPEC 35.3 to 35.10]
+-- What 02, §10, promises of iris codes: what a bit is and where it goes, that each change of form undoes its partner,
+-- that how far two packed codes are apart is code 2's measure of the unpacked vectors, in either order, when that meets
+-- a rule, who is refused, and what a call leaves. Assumes nothing. [SPEC 22.4, 35.2 to 35.11]
 use mathlib.Core.Path.{_≡_, refl, sym, ap, ap₂, _∙_}
 use mathlib.Core.Bool.{Bool, true, false, not, _&&_}
 use mathlib.Core.List.{List, _∷_, _++_}
 use Prim.Native.Nat.{ℕ, zero, suc, _+_, _*_, _-_, _/_, _%_, _^_, _<_, _≤_}
 use native.Mathlib.Numerals.{add-one}
 use native.Mathlib.Omega.{arith}
-use borrow.Author.Tests.{eq-eqb}
-use lib.Bits.{bitXor, differ, xor-lt}
+use borrow.Author.Tests.{eq-eqb, ne-eqb, le-leb, lt-leb, ltb-true, ltb-false}
+use lib.Bits.{bitXor, differ, xor-lt, xor-self}
 use lib.Count.{ones, ones-step}
-use lib.Dec.{leb}
+use lib.Dec.{ltb, leb}
 use lib.IntN.{ℤ, pos, _-ℤ_, _*ℤ_}
-use lib.ListN.{length, getD, take, drop, replicate}
-use lib.Pow.{shr-shr, shr-lt}
+use lib.ListN.{length, getD, take, drop, replicate, List·getD-eq-default}
+use lib.Pow.{shr-shr, shr-lt, mod-pow-add}
 use lib.Seq.{take-at, drop-at}
 use lib.Signed.{leZ}
 use Rattle.base_algebra.specs.Sum.{sumℕ, sumℕ-ext, sumℤ-ext, sumℤ-pos, sumℕ-front, sumℕ-grouped, sumℕ-swapped}
 use Rattle.base_algebra.specs.Word.{signed}
-use Rattle.base_words.specs.List.{tab, getD-tab, tab-ext, tab-getD, over-eq}
+use Rattle.base_words.specs.List.{tab, length-tab, getD-tab, tab-ext, tab-getD, over-eq}
 use Rattle.base_words.specs.Xor.{Bit, off, on, is-bit, xor-bit}
-use Rattle.base_messages.specs.Messages.{outOfRange, ifTaken}
+use Rattle.base_messages.specs.Messages.{wrongLength, shortBuffer, outOfRange, unless, ifTaken}
+use Rattle.base_messages.specs.Laws.{unless-false, unless-true}
 use Rattle.measure_table.specs.declared.Rule.the-variants.{Threshold, Between}
 use Rattle.measure_table.specs.Measure.{element, measure, within, allInRange, meets}
-use Rattle.measure_table.specs.Laws.{signed-low, reached-close, distance-sign, distance-sum}
-use Rattle.measure_iris.specs.Iris.{angles, rings, codeBits, codeBytes, bit, fromBits, codeOf, unpacked, packed}
-use Rattle.measure_iris.specs.Iris.{sentAt, storedAt, sentFor, storedFor, toRings, toAngles, distance, irisTerms}
-use Rattle.measure_iris.specs.Iris.{whyNotCode, whyNotVector, filled, hamming}
-use Rattle.measure_iris.specs.Laws.{code-taken, vector-fits, not-bits, vector-taken, bits-in-range, stays, pair-taken}
-use Rattle.measure_iris.specs.Bits.{Code, Vector, bit-lt, bit-at, bit-code, code-code, code-ext, code-bits}
+use Rattle.measure_table.specs.Laws.{signed-low, reached-close, distance-sign, distance-sum, in-range-at}
+use Rattle.measure_iris.specs.Iris.{codeBits, codeBytes, angles, rings, Code, Vector, bit, fromBits, codeOfBits}
+use Rattle.measure_iris.specs.Iris.{sentAt, storedAt, sentWhereStored, storedWhereSent, toRings, toAngles}
+use Rattle.measure_iris.specs.Iris.{unpacked, packed, distance, irisTerms, codeLong, whyNotCode, whyNotVector}
+use Rattle.measure_iris.specs.Iris.{bufferAfter, hammingAnswer}
+use Rattle.measure_iris.specs.Laws.{in-range-bit, bits-in-range, stays, pair-refused, pair-taken}
+use Rattle.measure_iris.specs.CodeBits.{bit-lt, bit-at, bit-code, code-code, code-ext, code-bits}
+
+-- ---- what a bit is: "lowest first"
+
+-- the lowest n bits of a number, at what they are worth
+worth : (x n : ℕ) → sumℕ (λ k. x / 2 ^ k % 2 * 2 ^ k) n ≡ x % 2 ^ n
+unfolding sumℕ
+worth x zero = omega arith
+worth x (suc n) =
+    let e : 1 + n ≡ suc n = omega arith in
+    omega (arith, worth x n, mod-pow-add x 1 n ∙ refl, ap (λ (k : ℕ). x % 2 ^ k) e)
+
+module _ (code : List ℕ) where
+  pub bit-small : (i : ℕ) → bit code i < 2
+  bit-small = bit-lt code
+
+  pub byte-is-bits : Code code → (j : ℕ) → getD code j 0 ≡ sumℕ (λ k. bit code (8 * j + k) * 2 ^ k) 8
+  byte-is-bits c j =
+      let x = getD code j 0 in
+      let whole : x % 2 ^ 8 ≡ x = omega (arith, c .small j) in
+      sym (sumℕ-ext (λ k. bit code (8 * j + k) * 2 ^ k) (λ k. x / 2 ^ k % 2 * 2 ^ k) 8
+      (λ k l. ap (λ (b : ℕ). b * 2 ^ k) (bit-at code j k l)) ∙ worth x 8 ∙ whole)
+
+  -- the scanner's byte is an angle, and the ring is the bit in it [SPEC 35.3]
+  pub sent-byte : (angle ring : ℕ) → ring < rings → bit code (sentAt angle ring) ≡ getD code angle 0 / 2 ^ ring % 2
+  unfolding sentAt
+  sent-byte angle ring r =
+      let at : angle * 8 + ring ≡ 8 * angle + ring = omega arith in
+      ap (bit code) at ∙ bit-at code angle ring r
+
+  -- our byte has eight angles of a ring [SPEC 35.4]
+  pub stored-byte : (ring angle : ℕ) → angle < angles
+      → bit code (storedAt ring angle) ≡ getD code (ring * 8 + angle / 8) 0 / 2 ^ (angle % 8) % 2
+  unfolding storedAt
+  stored-byte ring angle a =
+      let at : ring * 64 + angle ≡ 8 * (ring * 8 + angle / 8) + angle % 8 = omega arith in
+      ap (bit code) at ∙ bit-at code (ring * 8 + angle / 8) (angle % 8) (omega arith)
 
 -- ---- where a bit goes
 
 module _ (code : List ℕ) where
   pub rings-code : Code (toRings code)
   unfolding toRings
-  rings-code = code-code (λ i. bit code (sentFor i)) (λ i. bit-lt code (sentFor i))
+  rings-code = code-code (λ i. bit code (sentWhereStored i)) (λ i. bit-lt code (sentWhereStored i))
 
   pub angles-code : Code (toAngles code)
   unfolding toAngles
-  angles-code = code-code (λ i. bit code (storedFor i)) (λ i. bit-lt code (storedFor i))
+  angles-code = code-code (λ i. bit code (storedWhereSent i)) (λ i. bit-lt code (storedWhereSent i))
 
-  bit-rings : (i : ℕ) → i < codeBits → bit (toRings code) i ≡ bit code (sentFor i)
+  bit-rings : (i : ℕ) → i < codeBits → bit (toRings code) i ≡ bit code (sentWhereStored i)
   unfolding toRings
-  bit-rings = bit-code (λ i. bit code (sentFor i)) (λ i. bit-lt code (sentFor i))
+  bit-rings = bit-code (λ i. bit code (sentWhereStored i)) (λ i. bit-lt code (sentWhereStored i))
 
-  bit-angles : (i : ℕ) → i < codeBits → bit (toAngles code) i ≡ bit code (storedFor i)
+  bit-angles : (i : ℕ) → i < codeBits → bit (toAngles code) i ≡ bit code (storedWhereSent i)
   unfolding toAngles
-  bit-angles = bit-code (λ i. bit code (storedFor i)) (λ i. bit-lt code (storedFor i))
+  bit-angles = bit-code (λ i. bit code (storedWhereSent i)) (λ i. bit-lt code (storedWhereSent i))
 
   -- "It sends them angle by angle: i = angle × 8 + ring", "We store ring by ring, at ring × 64 + angle"
   pub ring-by-ring : (ring angle : ℕ) → ring < rings → angle < angles
       → bit (toRings code) (storedAt ring angle) ≡ bit code (sentAt angle ring)
-  unfolding sentFor sentAt storedAt
+  unfolding sentWhereStored sentAt storedAt
   ring-by-ring ring angle r a =
       let e : (ring * 64 + angle) % 64 * 8 + (ring * 64 + angle) / 64 ≡ angle * 8 + ring = omega arith in
       bit-rings (storedAt ring angle) (omega arith) ∙ ap (bit code) e
 
   pub angle-by-angle : (ring angle : ℕ) → ring < rings → angle < angles
       → bit (toAngles code) (sentAt angle ring) ≡ bit code (storedAt ring angle)
-  unfolding storedFor sentAt storedAt
+  unfolding storedWhereSent sentAt storedAt
   angle-by-angle ring angle r a =
       let e : (angle * 8 + ring) % 8 * 64 + (angle * 8 + ring) / 8 ≡ ring * 64 + angle = omega arith in
       bit-angles (sentAt angle ring) (omega arith) ∙ ap (bit code) e
@@ -69,25 +107,50 @@ module _ (code : List ℕ) where
   unfolding unpacked
   element-is-bit i l = getD-tab (bit code) codeBits i l
 
+  -- "to a 0-or-1 vector of 512"
+  pub unpacked-vector : Vector (unpacked code)
+  unfolding unpacked
+  unpacked-vector = record { long = length-tab (bit code) codeBits; small = small }
+    where
+      small : (i : ℕ) → getD (tab (bit code) codeBits) i 0 < 2
+      small i = go (ltb i codeBits) refl
+        where
+          go : (b : Bool) → ltb i codeBits ≡ b → getD (tab (bit code) codeBits) i 0 < 2
+          go true e = rw (getD-tab (bit code) codeBits i (ltb-true i codeBits e)) (bit-lt code i)
+          go false e =
+              let past : length (tab (bit code) codeBits) ≤ i =
+              omega (arith, ltb-false i codeBits e, length-tab (bit code) codeBits) in
+              rw (List·getD-eq-default (tab (bit code) codeBits) 0 {n = i} past) (omega arith)
+
+module _ (v : List ℕ) (c : Vector v) where
+  pub packed-code : Code (packed v)
+  unfolding packed
+  packed-code = code-code (λ i. getD v i 0) (c .small)
+
+  -- "and packing back"
+  pub bit-is-element : (i : ℕ) → i < codeBits → bit (packed v) i ≡ getD v i 0
+  unfolding packed
+  bit-is-element = bit-code (λ i. getD v i 0) (c .small)
+
 -- ---- each undoes its partner
 
 pub rings-undone : (code : List ℕ) → Code code → toAngles (toRings code) ≡ code
-unfolding toAngles sentFor sentAt storedFor storedAt
-rings-undone code c = code-ext (λ i. bit (toRings code) (storedFor i)) (bit code) same ∙ code-bits code c
+unfolding toAngles sentWhereStored sentAt storedWhereSent storedAt
+rings-undone code c = code-ext (λ i. bit (toRings code) (storedWhereSent i)) (bit code) same ∙ code-bits code c
   where
-    same : (i : ℕ) → i < codeBits → bit (toRings code) (storedFor i) ≡ bit code i
+    same : (i : ℕ) → i < codeBits → bit (toRings code) (storedWhereSent i) ≡ bit code i
     same i l =
         let e : (i % 8 * 64 + i / 8) % 64 * 8 + (i % 8 * 64 + i / 8) / 64 ≡ i = omega arith in
-        bit-rings code (storedFor i) (omega arith) ∙ ap (bit code) e
+        bit-rings code (storedWhereSent i) (omega arith) ∙ ap (bit code) e
 
 pub angles-undone : (code : List ℕ) → Code code → toRings (toAngles code) ≡ code
-unfolding toRings sentFor sentAt storedFor storedAt
-angles-undone code c = code-ext (λ i. bit (toAngles code) (sentFor i)) (bit code) same ∙ code-bits code c
+unfolding toRings sentWhereStored sentAt storedWhereSent storedAt
+angles-undone code c = code-ext (λ i. bit (toAngles code) (sentWhereStored i)) (bit code) same ∙ code-bits code c
   where
-    same : (i : ℕ) → i < codeBits → bit (toAngles code) (sentFor i) ≡ bit code i
+    same : (i : ℕ) → i < codeBits → bit (toAngles code) (sentWhereStored i) ≡ bit code i
     same i l =
         let e : (i % 64 * 8 + i / 64) % 8 * 64 + (i % 64 * 8 + i / 64) / 8 ≡ i = omega arith in
-        bit-angles code (sentFor i) (omega arith) ∙ ap (bit code) e
+        bit-angles code (sentWhereStored i) (omega arith) ∙ ap (bit code) e
 
 pub unpacked-undone : (code : List ℕ) → Code code → packed (unpacked code) ≡ code
 unfolding packed
@@ -95,53 +158,49 @@ unpacked-undone code c =
     code-ext (λ i. getD (unpacked code) i 0) (bit code) (element-is-bit code) ∙ code-bits code c
 
 pub packed-undone : (v : List ℕ) → Vector v → unpacked (packed v) ≡ v
-unfolding unpacked packed
+unfolding unpacked
 packed-undone v c =
-    tab-ext (bit (packed v)) (λ i. getD v i 0) codeBits (bit-code (λ i. getD v i 0) (c .small))
+    tab-ext (bit (packed v)) (λ i. getD v i 0) codeBits (bit-is-element v c)
     ∙ ap (tab (λ i. getD v i 0)) (sym (c .long)) ∙ tab-getD v
-
-pub packed-code : (v : List ℕ) → Vector v → Code (packed v)
-unfolding packed
-packed-code v c = code-code (λ i. getD v i 0) (c .small)
 
 -- ---- one bit, worked out: angle 9 and ring 2 are bit 74 of the scanner's, bit 2 of byte 9; and bit 137 of ours, bit 1
 -- of byte 17. Exchanged directions would put it elsewhere, and neither undoes itself.
 
 -- a code with byte x at j, and else zeros
-abbrev pub oneBit : ℕ → ℕ → List ℕ
-oneBit j x = replicate j 0 ++ (x ∷ replicate (63 - j) 0)
+abbrev pub oneByte : ℕ → ℕ → List ℕ
+oneByte j x = replicate j 0 ++ (x ∷ replicate (codeBytes - suc j) 0)
 
-pub one-bit : toRings (oneBit 9 4) ≡ oneBit 17 2
-unfolding toRings codeOf fromBits bit sentFor sentAt tab
+pub one-bit : toRings (oneByte 9 4) ≡ oneByte 17 2
+unfolding toRings codeOfBits fromBits bit sentWhereStored sentAt tab
 one-bit = refl
 
-pub one-bit-back : toAngles (oneBit 17 2) ≡ oneBit 9 4
-unfolding toAngles codeOf fromBits bit storedFor storedAt tab
+pub one-bit-back : toAngles (oneByte 17 2) ≡ oneByte 9 4
+unfolding toAngles codeOfBits fromBits bit storedWhereSent storedAt tab
 one-bit-back = refl
 
-rings-again : toRings (oneBit 17 2) ≡ oneBit 10 2
-unfolding toRings codeOf fromBits bit sentFor sentAt tab
+rings-again : toRings (oneByte 17 2) ≡ oneByte 10 2
+unfolding toRings codeOfBits fromBits bit sentWhereStored sentAt tab
 rings-again = refl
 
-angles-of-it : toAngles (oneBit 9 4) ≡ oneBit 10 2
-unfolding toAngles codeOf fromBits bit storedFor storedAt tab
+angles-of-it : toAngles (oneByte 9 4) ≡ oneByte 10 2
+unfolding toAngles codeOfBits fromBits bit storedWhereSent storedAt tab
 angles-of-it = refl
 
-angles-again : toAngles (oneBit 10 2) ≡ oneBit 17 2
-unfolding toAngles codeOf fromBits bit storedFor storedAt tab
+angles-again : toAngles (oneByte 10 2) ≡ oneByte 17 2
+unfolding toAngles codeOfBits fromBits bit storedWhereSent storedAt tab
 angles-again = refl
 
-pub directions-differ : toRings (oneBit 9 4) ≡ toAngles (oneBit 9 4) → ⊥
+pub directions-differ : toRings (oneByte 9 4) ≡ toAngles (oneByte 9 4) → ⊥
 directions-differ e =
     let no : _≡_ {A = ℕ} 2 0 = ap (λ (code : List ℕ). getD code 17 0) (sym one-bit ∙ e ∙ angles-of-it) in
     absurd (omega arith)
 
-pub rings-twice : toRings (toRings (oneBit 9 4)) ≡ oneBit 9 4 → ⊥
+pub rings-twice : toRings (toRings (oneByte 9 4)) ≡ oneByte 9 4 → ⊥
 rings-twice e =
     let no : _≡_ {A = ℕ} 0 4 = ap (λ (code : List ℕ). getD code 9 0) (sym (ap toRings one-bit ∙ rings-again) ∙ e) in
     absurd (omega arith)
 
-pub angles-twice : toAngles (toAngles (oneBit 9 4)) ≡ oneBit 9 4 → ⊥
+pub angles-twice : toAngles (toAngles (oneByte 9 4)) ≡ oneByte 9 4 → ⊥
 angles-twice e =
     let no : _≡_ {A = ℕ} 0 4 = ap (λ (code : List ℕ). getD code 9 0) (sym (ap toAngles angles-of-it ∙ angles-again) ∙ e) in
     absurd (omega arith)
@@ -165,12 +224,12 @@ ones-sum (suc n) x h =
         let e : 1 + k ≡ suc k = omega arith in
         shr-shr x 1 k ∙ ap (λ (j : ℕ). x / 2 ^ j) e
 
--- in how many places two codes differ
+-- "counted from their xor": in how many of the 512 places two codes differ
 module _ (a b : List ℕ) where
-  differs : ℕ → ℕ
+  unfoldable pub differs : ℕ → ℕ
   differs i = differ (bit a i) (bit b i)
 
-  places : Code a → Code b → distance a b ≡ sumℕ differs codeBits
+  pub places : Code a → Code b → distance a b ≡ sumℕ differs codeBits
   unfolding distance differs
   places c d =
       sumℕ-ext (λ j. ones (bitXor (getD a j 0) (getD b j 0))) (λ j. sumℕ (λ k. differs (j * 8 + k)) 8) 64
@@ -237,12 +296,12 @@ module _ (a b : List ℕ) (c : Code a) (d : Code b) where
 
 -- ---- "in either order of storage", and the same number in both
 
-sent-sum : (g : ℕ → ℕ) → sumℕ (λ i. g (sentFor i)) codeBits ≡ sumℕ g codeBits
-unfolding sentFor sentAt
+sent-sum : (g : ℕ → ℕ) → sumℕ (λ i. g (sentWhereStored i)) codeBits ≡ sumℕ g codeBits
+unfolding sentWhereStored sentAt
 sent-sum g =
-    sumℕ-grouped (λ i. g (sentFor i)) 64 8
-    ∙ sumℕ-ext (λ r. sumℕ (λ a. g (sentFor (r * 64 + a))) 64) (λ r. sumℕ (λ a. g (a * 8 + r)) 64) 8
-    (λ r l. sumℕ-ext (λ a. g (sentFor (r * 64 + a))) (λ a. g (a * 8 + r)) 64 (λ a k. ap g (at r a l k)))
+    sumℕ-grouped (λ i. g (sentWhereStored i)) 64 8
+    ∙ sumℕ-ext (λ r. sumℕ (λ a. g (sentWhereStored (r * 64 + a))) 64) (λ r. sumℕ (λ a. g (a * 8 + r)) 64) 8
+    (λ r l. sumℕ-ext (λ a. g (sentWhereStored (r * 64 + a))) (λ a. g (a * 8 + r)) 64 (λ a k. ap g (at r a l k)))
     ∙ sumℕ-swapped (λ r a. g (a * 8 + r)) 8 64 ∙ sym (sumℕ-grouped g 8 64)
   where
     at : (r a : ℕ) → r < 8 → a < 64 → (r * 64 + a) % 64 * 8 + (r * 64 + a) / 64 ≡ a * 8 + r
@@ -253,7 +312,7 @@ module _ (a b : List ℕ) (c : Code a) (d : Code b) where
   unfolding differs
   same-in-rings =
       places (toRings a) (toRings b) (rings-code a) (rings-code b)
-      ∙ sumℕ-ext (differs (toRings a) (toRings b)) (λ i. differs a b (sentFor i)) codeBits
+      ∙ sumℕ-ext (differs (toRings a) (toRings b)) (λ i. differs a b (sentWhereStored i)) codeBits
       (λ i l. ap₂ differ (bit-rings a i l) (bit-rings b i l))
       ∙ sent-sum (differs a b) ∙ sym (places a b c d)
 
@@ -272,7 +331,7 @@ module _ (a b : List ℕ) (c : Code a) (d : Code b) where
   angles-measure =
       distance-is-measure (toAngles a) (toAngles b) (angles-code a) (angles-code b) ∙ ap pos same-in-angles
 
--- ---- what a door makes of it: a set for such vectors answers yes where the distance is at most T, or lies from P to Q
+-- ---- when that measure meets a rule: the distance is at most T, or lies from P to Q [SPEC 3.6, 3.13]
 
 module _ (a b : List ℕ) (c : Code a) (d : Code b) where
   pub meets-threshold : (t : ℕ) → t < 2 ^ 31
@@ -291,46 +350,138 @@ module _ (a b : List ℕ) (c : Code a) (d : Code b) where
       ap (λ (m : ℤ). meets irisTerms (Between p q) m) (distance-is-measure a b c d)
       ∙ ap₂ (λ (y z : ℤ). leZ y (pos (distance a b)) && leZ (pos (distance a b)) z) (signed-low p lp) (signed-low q lq)
 
--- ---- the calls: who is taken, and what an accepted one leaves
+-- the ends: codes that differ everywhere, and a code and itself
+pub farthest : distance (replicate codeBytes 0) (replicate codeBytes 255) ≡ codeBits
+unfolding distance sumℕ ones
+farthest = refl
 
-module _ (code : List ℕ) (c : Code code) where
-  pub code-accepted : (n room : ℕ) → n ≤ room → whyNotCode code n room ≡ 0
-  code-accepted n room l = sym (code-taken code n room (c .long) l)
+pub nearest : (code : List ℕ) → distance code code ≡ 0
+unfolding distance sumℕ ones
+nearest code = sumℕ-ext (λ j. ones (bitXor (getD code j 0) (getD code j 0))) (λ j. 0) codeBytes none ∙ refl
+  where
+    none : (j : ℕ) → j < codeBytes → ones (bitXor (getD code j 0) (getD code j 0)) ≡ 0
+    none j l = ap ones (xor-self (getD code j 0)) ∙ refl
 
-  pub pair-accepted : (b : List ℕ) → Code b → hamming code b ≡ record { why = 0; distance = distance code b }
-  pair-accepted b d =
-      sym (pair-taken code b refl (ap not (ap₂ _&&_ (eq-eqb _ _ (c .long)) (eq-eqb _ _ (d .long)))) (distance code b) refl)
+-- ---- who is refused: "A vector with another element is refused by 01's eighth, a wrong length by its fourth". A length
+-- comes first, whatever else is wrong, and a buffer comes before an element.
 
-module _ (v : List ℕ) (room : ℕ) (fits : codeBytes ≤ room) where
-  -- every 0-or-1 vector of 512 is taken
-  pub vector-accepted : Vector v → whyNotVector v room ≡ 0
-  vector-accepted c = sym (vector-taken v room (c .long) fits refl (ap not (bits-in-range v (c .small))))
+module _ (code : List ℕ) (n room : ℕ) where
+  pub wrong-code : (length code ≡ codeBytes → ⊥) → whyNotCode code n room ≡ wrongLength
+  unfolding whyNotCode
+  wrong-code h = sym (unless-false _ _ _ (ne-eqb _ _ h))
 
-  -- "A vector with another element is refused by 01's eighth"
-  pub another-element : length v ≡ codeBits → (i : ℕ) → 2 ≤ getD v i 0 → ((j : ℕ) → getD v j 0 < 2 ^ 32)
-      → whyNotVector v room ≡ outOfRange
-  another-element long i l words = go (allInRange irisTerms v) refl
-    where
-      go : (b : Bool) → allInRange irisTerms v ≡ b → whyNotVector v room ≡ outOfRange
-      go false e = sym (not-bits v room long fits refl (ap not e))
-      go true e =
-          let taken = sym (vector-taken v room long fits refl (ap not e)) in
-          absurd (omega (arith, vector-fits v room words taken .0 .small i))
+  module _ (long : length code ≡ codeBytes) where
+    pub no-room-for-code : room < n → whyNotCode code n room ≡ shortBuffer
+    unfolding whyNotCode
+    no-room-for-code l = sym (unless-true _ _ _ (eq-eqb _ _ long) (unless-false _ _ _ (lt-leb n room l)))
 
--- what is new stands at the start of the buffer, and what is behind stays
+    pub code-accepted : n ≤ room → whyNotCode code n room ≡ 0
+    unfolding whyNotCode
+    code-accepted l = sym (unless-true _ _ _ (eq-eqb _ _ long) (unless-true _ _ _ (le-leb n room l) refl))
+
+module _ (v : List ℕ) (room : ℕ) where
+  pub wrong-vector : (length v ≡ codeBits → ⊥) → whyNotVector v room ≡ wrongLength
+  unfolding whyNotVector
+  wrong-vector h = sym (unless-false _ _ _ (ne-eqb _ _ h))
+
+  pub no-room-for-vector : length v ≡ codeBits → room < codeBytes → whyNotVector v room ≡ shortBuffer
+  unfolding whyNotVector
+  no-room-for-vector long l =
+      sym (unless-true _ _ _ (eq-eqb _ _ long) (unless-false _ _ _ (lt-leb codeBytes room l)))
+
+  module _ (long : length v ≡ codeBits) (fits : codeBytes ≤ room) where
+    by-elements : (b : Bool) → allInRange irisTerms v ≡ b → whyNotVector v room ≡ unless b outOfRange 0
+    unfolding whyNotVector
+    by-elements b e =
+        sym (unless-true _ _ _ (eq-eqb _ _ long) (unless-true _ _ _ (le-leb codeBytes room fits)
+        (ap (λ (t : Bool). unless t outOfRange 0) (sym e))))
+
+    -- an element that is neither 0 nor 1, also one that stands for a negative number
+    pub another-element : (i : ℕ) → 2 ≤ getD v i 0 → getD v i 0 < 2 ^ 32 → whyNotVector v room ≡ outOfRange
+    unfolding unless
+    another-element i l w = go (allInRange irisTerms v) refl
+      where
+        go : (b : Bool) → allInRange irisTerms v ≡ b → whyNotVector v room ≡ outOfRange
+        go false e = by-elements false e
+        go true e = absurd (omega (arith, in-range-bit (getD v i 0) w (in-range-at irisTerms v e i)))
+
+  pub vector-accepted : Vector v → codeBytes ≤ room → whyNotVector v room ≡ 0
+  unfolding unless
+  vector-accepted c fits = by-elements (c .long) fits true (bits-in-range v (c .small))
+
+module _ (a b : List ℕ) where
+  pub wrong-pair : codeLong a && codeLong b ≡ false → hammingAnswer a b ≡ record { why = wrongLength; distance = 0 }
+  wrong-pair h = sym (pair-refused a b refl (ap not h))
+
+  pub pair-accepted : length a ≡ codeBytes → length b ≡ codeBytes
+      → hammingAnswer a b ≡ record { why = 0; distance = distance a b }
+  pair-accepted c d =
+      sym (pair-taken a b refl (ap not (ap₂ _&&_ (eq-eqb _ _ c) (eq-eqb _ _ d))) (distance a b) refl)
+
+-- ---- what a call leaves: what is new at the start of the buffer, and what is behind as it was
+
 module _ {why : ℕ} (accepted : why ≡ 0) (new out : List ℕ) (n : ℕ) (long : length new ≡ n) (fits : n ≤ length out) where
-  laid : filled why new out ≡ new ++ drop n out
-  unfolding filled ifTaken
+  laid : bufferAfter why new out ≡ new ++ drop n out
+  unfolding bufferAfter ifTaken
   laid =
       let at : 0 + length new ≡ n = omega arith in
       rw accepted (over-eq new out 0 (omega arith) ∙ ap (λ (k : ℕ). new ++ drop k out) at)
 
-  pub start-is-new : take n (filled why new out) ≡ new
+  pub start-is-new : take n (bufferAfter why new out) ≡ new
   start-is-new = ap (take n) laid ∙ take-at new (drop n out) n long
 
-  pub rest-stays : drop n (filled why new out) ≡ drop n out
+  pub rest-stays : drop n (bufferAfter why new out) ≡ drop n out
   rest-stays = ap (drop n) laid ∙ drop-at new (drop n out) n long
 
--- a refused call leaves the buffer as it was
-pub refused-stays : (why : ℕ) (new out : List ℕ) → (why ≡ 0 → ⊥) → filled why new out ≡ out
+-- all of it as it was, if the call is refused
+pub refused-stays : (why : ℕ) (new out : List ℕ) → (why ≡ 0 → ⊥) → bufferAfter why new out ≡ out
 refused-stays why new out h = sym (stays why new out refl h)
+
+-- ---- the calls undo each other: what one leaves at the start of its buffer is handed to its partner
+
+-- the start of a buffer after a call on a code that makes n elements of it, and after pack
+unfoldable pub left : (List ℕ → List ℕ) → ℕ → List ℕ → List ℕ → List ℕ
+left new n code out = take n (bufferAfter (whyNotCode code n (length out)) (new code) out)
+
+unfoldable pub leftPacked : List ℕ → List ℕ → List ℕ
+leftPacked v out = take codeBytes (bufferAfter (whyNotVector v (length out)) (packed v) out)
+
+left-is : (new : List ℕ → List ℕ) (n : ℕ) (code out : List ℕ) → length code ≡ codeBytes → length (new code) ≡ n
+    → n ≤ length out → left new n code out ≡ new code
+unfolding left
+left-is new n code out c l fits = start-is-new (code-accepted code n (length out) c fits) (new code) out n l fits
+
+packed-is : (v out : List ℕ) → Vector v → codeBytes ≤ length out → leftPacked v out ≡ packed v
+unfolding leftPacked
+packed-is v out c fits =
+    start-is-new (vector-accepted v (length out) c fits) (packed v) out codeBytes (packed-code v c .long) fits
+
+module _ (code out back : List ℕ) (c : Code code) (room : codeBytes ≤ length back) where
+  pub called-to-rings : codeBytes ≤ length out
+      → left toAngles codeBytes (left toRings codeBytes code out) back ≡ code
+  called-to-rings fits =
+      ap (λ (b : List ℕ). left toAngles codeBytes b back)
+      (left-is toRings codeBytes code out (c .long) (rings-code code .long) fits)
+      ∙ left-is toAngles codeBytes (toRings code) back (rings-code code .long) (angles-code (toRings code) .long) room
+      ∙ rings-undone code c
+
+  pub called-to-angles : codeBytes ≤ length out
+      → left toRings codeBytes (left toAngles codeBytes code out) back ≡ code
+  called-to-angles fits =
+      ap (λ (b : List ℕ). left toRings codeBytes b back)
+      (left-is toAngles codeBytes code out (c .long) (angles-code code .long) fits)
+      ∙ left-is toRings codeBytes (toAngles code) back (angles-code code .long) (rings-code (toAngles code) .long) room
+      ∙ angles-undone code c
+
+  pub called-unpack : codeBits ≤ length out → leftPacked (left unpacked codeBits code out) back ≡ code
+  called-unpack fits =
+      ap (λ (v : List ℕ). leftPacked v back)
+      (left-is unpacked codeBits code out (c .long) (unpacked-vector code .long) fits)
+      ∙ packed-is (unpacked code) back (unpacked-vector code) room ∙ unpacked-undone code c
+
+pub called-pack : (v out back : List ℕ) → Vector v → codeBytes ≤ length out → codeBits ≤ length back
+    → left unpacked codeBits (leftPacked v out) back ≡ v
+called-pack v out back c fits room =
+    ap (λ (b : List ℕ). left unpacked codeBits b back) (packed-is v out c fits)
+    ∙ left-is unpacked codeBits (packed v) back (packed-code v c .long) (unpacked-vector (packed v) .long) room
+    ∙ packed-undone v c

@@ -4,7 +4,7 @@ use native.Mathlib.Omega.{arith}
 use lib.ListN.{length, length-set}
 use Rattle.base_words.specs.List.{over, tab}
 use lib.ListN.{getD}
-use Rattle.measure_iris.specs.Iris.{fromBits, codeOf, packed}
+use Rattle.measure_iris.specs.Iris.{fromBits, codeOfBits, packed}
 use Rattle.measure_iris.specs.Laws.{store-more}
 use borrow.Author.Needs.{needs}
 use Rattle.measure_iris.proofs.gather.Statement.{statement}
@@ -44,7 +44,7 @@ same-length : tie.Need-same-length Inv-loop μ-loop
 same-length c = search needs
 
 returns : tie.Need-returns Inv-loop μ-loop
-unfolding codeOf packed
+unfolding codeOfBits packed
 returns c =
     let all : c .before .loop .j ≡ 64 = omega arith in
     rw all at (c .before .loop .inv .1)

@@ -3,7 +3,7 @@ use Prim.Native.Nat.{ℕ, _+_, _*_, _-_, _<_, _≤_}
 use native.Mathlib.Omega.{arith}
 use lib.ListN.{getD}
 use Rattle.measure_iris.specs.Iris.{fromBits}
-use Rattle.measure_iris.specs.Bits.{byte-start, byte-more, byte-lt}
+use Rattle.measure_iris.specs.CodeBits.{byte-start, byte-more, byte-lt}
 use borrow.Author.Needs.{needs}
 use Rattle.measure_iris.proofs.packed_byte.Statement.{statement}
 use Rattle.measure_iris.proofs.packed_byte.Tie as tie

@@ -1,5 +1,5 @@
 use native.Mathlib.Omega.{arith}
-use Rattle.measure_iris.specs.Laws.{place-ours, place-sent}
+use Rattle.measure_iris.specs.Laws.{place-sent, place-stored}
 use borrow.Author.Needs.{needs}
 use Rattle.measure_iris.proofs.place.Statement.{statement}
 use Rattle.measure_iris.proofs.place.Tie as tie
@@ -17,10 +17,10 @@ add-result-2 : tie.Need-add-result-2
 add-result-2 c = search needs
 
 returns : tie.Need-returns
-returns c = (place-ours _ _ (c .if1 .taken), omega arith)
+returns c = (place-sent _ _ (c .if1 .taken), omega arith)
 
 returns-2 : tie.Need-returns-2
-returns-2 c = (place-sent _ _ (c .if1 .left), omega arith)
+returns-2 c = (place-stored _ _ (c .if1 .left), omega arith)
 
 pub place-spec : {M : Type 1} → statement M
 place-spec = tie.close (tie.spec mul-result add-result mul-result-2 add-result-2 returns returns-2)

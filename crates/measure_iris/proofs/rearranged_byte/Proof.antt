@@ -3,17 +3,17 @@ use Prim.Native.Nat.{ℕ, _+_, _*_, _-_, _<_, _≤_}
 use native.Mathlib.Omega.{arith}
 use Rattle.measure_iris.specs.Iris.{bit, fromBits}
 use Rattle.measure_iris.specs.Laws.{placeFor}
-use Rattle.measure_iris.specs.Bits.{byte-start, byte-more, byte-lt, bit-lt}
+use Rattle.measure_iris.specs.CodeBits.{byte-start, byte-more, byte-lt, bit-lt}
 use borrow.Author.Needs.{needs}
 use Rattle.measure_iris.proofs.rearranged_byte.Statement.{statement}
 use Rattle.measure_iris.proofs.rearranged_byte.Tie as tie
 
 abbrev Inv-loop : tie.InvT-loop
-Inv-loop ours code j byte₀ k₀ byte k =
-    (k ≤ 8) × (byte ≡ fromBits (λ i. bit code (placeFor ours i)) (8 * j + k) (8 - k)) × (byte < 256)
+Inv-loop stored code j byte₀ k₀ byte k =
+    (k ≤ 8) × (byte ≡ fromBits (λ i. bit code (placeFor stored i)) (8 * j + k) (8 - k)) × (byte < 256)
 
 abbrev μ-loop : tie.MeasureT-loop
-μ-loop ours code j byte₀ k₀ byte k = k
+μ-loop stored code j byte₀ k₀ byte k = k
 
 loop-holds : tie.Need-loop-holds Inv-loop μ-loop
 loop-holds c = (search needs, byte-start _ _, search needs)
@@ -47,14 +47,14 @@ loop-again c =
     let at = c .before .before .before in
     let start = at .before .before in
     let code = start .args .code .now in
-    let ours = start .args .ours in
+    let stored = start .args .stored in
     let j = start .args .j in
     let k = at .loop .k in
-    let f : ℕ → ℕ = λ i. bit code (placeFor ours i) in
+    let f : ℕ → ℕ = λ i. bit code (placeFor stored i) in
     let more = byte-more f j k _ (omega arith) (omega arith) (at .loop .inv .1) in
     let next = c .bit .ensures .0 ∙ ap (bit code) (c .before .place .ensures .0) in
     let all = ap (λ (b : ℕ). 2 * at .loop .byte + b) next ∙ more in
-    let small = byte-lt f (λ i. bit-lt code (placeFor ours i)) (8 - (k - 1)) (8 * j + (k - 1)) (omega arith) in
+    let small = byte-lt f (λ i. bit-lt code (placeFor stored i)) (8 - (k - 1)) (8 * j + (k - 1)) (omega arith) in
     (search needs, all, omega (arith, all, small))
 
 cast-result : tie.Need-cast-result Inv-loop μ-loop
