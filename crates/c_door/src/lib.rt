@@ -255,7 +255,8 @@ pub extern "C" fn door_join(
 #[no_mangle]
 pub extern "C" fn door_iris_to_rings(code: &[u8], out: &mut [u8]) -> u32
     ensures { λ r. ⌜ r ≡ whyNotCode (now (code .entry)) codeBytes (length (now (out .entry))) ⌝ }
-    ensures { λ _. ⌜ now (out .exit) ≡ bufferAfter (whyNotCode (now (code .entry)) codeBytes (length (now (out .entry))))
+    ensures { λ _. ⌜ now (out .exit) ≡ bufferAfter
+        (whyNotCode (now (code .entry)) codeBytes (length (now (out .entry))))
         (toRings (now (code .entry))) (now (out .entry)) ⌝ }
 {
     measure_iris::to_rings(code, out)
@@ -265,7 +266,8 @@ pub extern "C" fn door_iris_to_rings(code: &[u8], out: &mut [u8]) -> u32
 #[no_mangle]
 pub extern "C" fn door_iris_to_angles(code: &[u8], out: &mut [u8]) -> u32
     ensures { λ r. ⌜ r ≡ whyNotCode (now (code .entry)) codeBytes (length (now (out .entry))) ⌝ }
-    ensures { λ _. ⌜ now (out .exit) ≡ bufferAfter (whyNotCode (now (code .entry)) codeBytes (length (now (out .entry))))
+    ensures { λ _. ⌜ now (out .exit) ≡ bufferAfter
+        (whyNotCode (now (code .entry)) codeBytes (length (now (out .entry))))
         (toAngles (now (code .entry))) (now (out .entry)) ⌝ }
 {
     measure_iris::to_angles(code, out)
@@ -275,7 +277,8 @@ pub extern "C" fn door_iris_to_angles(code: &[u8], out: &mut [u8]) -> u32
 #[no_mangle]
 pub extern "C" fn door_iris_unpack(code: &[u8], out: &mut [u32]) -> u32
     ensures { λ r. ⌜ r ≡ whyNotCode (now (code .entry)) codeBits (length (now (out .entry))) ⌝ }
-    ensures { λ _. ⌜ now (out .exit) ≡ bufferAfter (whyNotCode (now (code .entry)) codeBits (length (now (out .entry))))
+    ensures { λ _. ⌜ now (out .exit) ≡ bufferAfter
+        (whyNotCode (now (code .entry)) codeBits (length (now (out .entry))))
         (unpacked (now (code .entry))) (now (out .entry)) ⌝ }
 {
     measure_iris::unpack(code, out)
@@ -285,7 +288,8 @@ pub extern "C" fn door_iris_unpack(code: &[u8], out: &mut [u32]) -> u32
 #[no_mangle]
 pub extern "C" fn door_iris_pack(v: &[u32], out: &mut [u8]) -> u32
     ensures { λ r. ⌜ r ≡ whyNotVector (now (v .entry)) (length (now (out .entry))) ⌝ }
-    ensures { λ _. ⌜ now (out .exit) ≡ bufferAfter (whyNotVector (now (v .entry)) (length (now (out .entry))))
+    ensures { λ _. ⌜ now (out .exit) ≡ bufferAfter
+        (whyNotVector (now (v .entry)) (length (now (out .entry))))
         (packed (now (v .entry))) (now (out .entry)) ⌝ }
 {
     measure_iris::pack(v, out)

@@ -197,12 +197,14 @@ directions-differ e =
 
 pub rings-twice : toRings (toRings (oneByte 9 4)) ≡ oneByte 9 4 → ⊥
 rings-twice e =
-    let no : _≡_ {A = ℕ} 0 4 = ap (λ (code : List ℕ). getD code 9 0) (sym (ap toRings one-bit ∙ rings-again) ∙ e) in
+    let turned : oneByte 10 2 ≡ oneByte 9 4 = sym (ap toRings one-bit ∙ rings-again) ∙ e in
+    let no : _≡_ {A = ℕ} 0 4 = ap (λ (code : List ℕ). getD code 9 0) turned in
     absurd (omega arith)
 
 pub angles-twice : toAngles (toAngles (oneByte 9 4)) ≡ oneByte 9 4 → ⊥
 angles-twice e =
-    let no : _≡_ {A = ℕ} 0 4 = ap (λ (code : List ℕ). getD code 9 0) (sym (ap toAngles angles-of-it ∙ angles-again) ∙ e) in
+    let turned : oneByte 17 2 ≡ oneByte 9 4 = sym (ap toAngles angles-of-it ∙ angles-again) ∙ e in
+    let no : _≡_ {A = ℕ} 0 4 = ap (λ (code : List ℕ). getD code 9 0) turned in
     absurd (omega arith)
 
 -- ---- how far apart, bit by bit
@@ -250,6 +252,9 @@ module _ (a b : List ℕ) where
 
 -- ---- "must equal code 2's measure of the unpacked vectors"
 
+not-scalar : irisTerms .code ≡ 0 → ⊥
+not-scalar e = absurd (omega (arith, e))
+
 -- what one place adds to the measure
 one-place : {x y : ℕ} → Bit x → Bit y → (signed x -ℤ signed y) *ℤ (signed x -ℤ signed y) ≡ pos (differ x y)
 unfolding signed
@@ -273,7 +278,7 @@ module _ (a b : List ℕ) (c : Code a) (d : Code b) where
   pub distance-is-measure : measure irisTerms (unpacked a) (unpacked b) ≡ pos (distance a b)
   unfolding element differs
   distance-is-measure =
-      distance-sum irisTerms (λ e. absurd (omega (arith, e))) (unpacked a) (unpacked b)
+      distance-sum irisTerms not-scalar (unpacked a) (unpacked b)
       ∙ sumℤ-ext _ (λ i. pos (differs a b i)) codeBits at
       ∙ sumℤ-pos (differs a b) codeBits ∙ ap pos (sym (places a b c d))
     where
@@ -339,7 +344,7 @@ module _ (a b : List ℕ) (c : Code a) (d : Code b) where
   unfolding meets
   meets-threshold t l =
       ap (λ (m : ℤ). meets irisTerms (Threshold t) m) (distance-is-measure a b c d)
-      ∙ reached-close irisTerms (distance-sign irisTerms (λ e. absurd (omega (arith, e)))) (pos (distance a b)) (signed t)
+      ∙ reached-close irisTerms (distance-sign irisTerms not-scalar) (pos (distance a b)) (signed t)
       ∙ ap (leZ (pos (distance a b))) (signed-low t l)
 
   pub meets-marks : (p q : ℕ) → p < 2 ^ 31 → q < 2 ^ 31
@@ -362,8 +367,8 @@ nearest code = sumℕ-ext (λ j. ones (bitXor (getD code j 0) (getD code j 0))) 
     none : (j : ℕ) → j < codeBytes → ones (bitXor (getD code j 0) (getD code j 0)) ≡ 0
     none j l = ap ones (xor-self (getD code j 0)) ∙ refl
 
--- ---- who is refused: "A vector with another element is refused by 01's eighth, a wrong length by its fourth". A length
--- comes first, whatever else is wrong, and a buffer comes before an element.
+-- ---- who is refused: "A vector with another element is refused by 01's eighth, a wrong length by its fourth". The
+-- length comes first, whatever else is wrong, and the buffer comes before the elements.
 
 module _ (code : List ℕ) (n room : ℕ) where
   pub wrong-code : (length code ≡ codeBytes → ⊥) → whyNotCode code n room ≡ wrongLength

@@ -175,7 +175,8 @@ fn why_not_vector(v: &[u32], room: usize) -> u32
 // From the scanner's order to ours.
 pub fn to_rings(code: &[u8], out: &mut [u8]) -> u32
     ensures { λ r. ⌜ r ≡ whyNotCode (now (code .entry)) codeBytes (length (now (out .entry))) ⌝ }
-    ensures { λ _. ⌜ now (out .exit) ≡ bufferAfter (whyNotCode (now (code .entry)) codeBytes (length (now (out .entry))))
+    ensures { λ _. ⌜ now (out .exit) ≡ bufferAfter
+        (whyNotCode (now (code .entry)) codeBytes (length (now (out .entry))))
         (toRings (now (code .entry))) (now (out .entry)) ⌝ }
 {
     let why = why_not_code(code, CODE_BYTES, out.len());
@@ -189,7 +190,8 @@ pub fn to_rings(code: &[u8], out: &mut [u8]) -> u32
 // From our order to the scanner's.
 pub fn to_angles(code: &[u8], out: &mut [u8]) -> u32
     ensures { λ r. ⌜ r ≡ whyNotCode (now (code .entry)) codeBytes (length (now (out .entry))) ⌝ }
-    ensures { λ _. ⌜ now (out .exit) ≡ bufferAfter (whyNotCode (now (code .entry)) codeBytes (length (now (out .entry))))
+    ensures { λ _. ⌜ now (out .exit) ≡ bufferAfter
+        (whyNotCode (now (code .entry)) codeBytes (length (now (out .entry))))
         (toAngles (now (code .entry))) (now (out .entry)) ⌝ }
 {
     let why = why_not_code(code, CODE_BYTES, out.len());
@@ -203,7 +205,8 @@ pub fn to_angles(code: &[u8], out: &mut [u8]) -> u32
 // The vector whose element i is bit i of a code as it stands, in whichever order.
 pub fn unpack(code: &[u8], out: &mut [u32]) -> u32
     ensures { λ r. ⌜ r ≡ whyNotCode (now (code .entry)) codeBits (length (now (out .entry))) ⌝ }
-    ensures { λ _. ⌜ now (out .exit) ≡ bufferAfter (whyNotCode (now (code .entry)) codeBits (length (now (out .entry))))
+    ensures { λ _. ⌜ now (out .exit) ≡ bufferAfter
+        (whyNotCode (now (code .entry)) codeBits (length (now (out .entry))))
         (unpacked (now (code .entry))) (now (out .entry)) ⌝ }
 {
     let why = why_not_code(code, CODE_BITS, out.len());
@@ -217,7 +220,8 @@ pub fn unpack(code: &[u8], out: &mut [u32]) -> u32
 // The code whose bit i is element i of a vector.
 pub fn pack(v: &[u32], out: &mut [u8]) -> u32
     ensures { λ r. ⌜ r ≡ whyNotVector (now (v .entry)) (length (now (out .entry))) ⌝ }
-    ensures { λ _. ⌜ now (out .exit) ≡ bufferAfter (whyNotVector (now (v .entry)) (length (now (out .entry))))
+    ensures { λ _. ⌜ now (out .exit) ≡ bufferAfter
+        (whyNotVector (now (v .entry)) (length (now (out .entry))))
         (packed (now (v .entry))) (now (out .entry)) ⌝ }
 {
     let why = why_not_vector(v, out.len());
