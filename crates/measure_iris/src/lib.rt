@@ -71,8 +71,8 @@ fn rearranged_byte(stored: bool, code: &[u8], j: usize) -> u8
     byte as u8
 }
 
-// A code rearranged to the start of out: as we store it, or as the scanner sends it.
-fn rearrange(stored: bool, code: &[u8], out: &mut [u8])
+// The bytes of a code rearranged, to the start of out: as we store it, or as the scanner sends it.
+fn rearrange_bytes(stored: bool, code: &[u8], out: &mut [u8])
     requires { ⌜ (length (now code) ≡ codeBytes) × (codeBytes ≤ length (now out)) ⌝ }
     ensures { λ _. ⌜ now (out .exit) ≡ over 0 (codeOfBits (λ i. bitOf (now (code .entry)) (placeFor stored i)))
         (now (out .entry)) ⌝ }
@@ -172,6 +172,21 @@ fn why_not_vector(v: &[u32], room: usize) -> u32
     why_not(v.len() == CODE_BITS, CODE_BYTES <= room, bits)
 }
 
+// A code rearranged, if it is one and there is room.
+fn rearrange(stored: bool, code: &[u8], out: &mut [u8]) -> u32
+    ensures { λ r. ⌜ r ≡ whyNotCode (now (code .entry)) codeBytes (length (now (out .entry))) ⌝ }
+    ensures { λ _. ⌜ now (out .exit) ≡ bufferAfter
+        (whyNotCode (now (code .entry)) codeBytes (length (now (out .entry))))
+        (codeOfBits (λ i. bitOf (now (code .entry)) (placeFor stored i))) (now (out .entry)) ⌝ }
+{
+    let why = why_not_code(code, CODE_BYTES, out.len());
+    if why != 0 {
+        return why;
+    }
+    rearrange_bytes(stored, code, out);
+    why
+}
+
 // From the scanner's order to ours.
 pub fn to_rings(code: &[u8], out: &mut [u8]) -> u32
     ensures { λ r. ⌜ r ≡ whyNotCode (now (code .entry)) codeBytes (length (now (out .entry))) ⌝ }
@@ -179,12 +194,7 @@ pub fn to_rings(code: &[u8], out: &mut [u8]) -> u32
         (whyNotCode (now (code .entry)) codeBytes (length (now (out .entry))))
         (toRings (now (code .entry))) (now (out .entry)) ⌝ }
 {
-    let why = why_not_code(code, CODE_BYTES, out.len());
-    if why != 0 {
-        return why;
-    }
-    rearrange(true, code, out);
-    why
+    rearrange(true, code, out)
 }
 
 // From our order to the scanner's.
@@ -194,12 +204,7 @@ pub fn to_angles(code: &[u8], out: &mut [u8]) -> u32
         (whyNotCode (now (code .entry)) codeBytes (length (now (out .entry))))
         (toAngles (now (code .entry))) (now (out .entry)) ⌝ }
 {
-    let why = why_not_code(code, CODE_BYTES, out.len());
-    if why != 0 {
-        return why;
-    }
-    rearrange(false, code, out);
-    why
+    rearrange(false, code, out)
 }
 
 // The vector whose element i is bit i of a code as it stands, in whichever order.

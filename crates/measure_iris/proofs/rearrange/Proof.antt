@@ -1,68 +1,27 @@
-use mathlib.Core.Path.{_≡_, refl}
-use Prim.Native.Nat.{ℕ, _*_, _-_, _≤_}
-use native.Mathlib.Omega.{arith}
-use lib.ListN.{length, length-set}
-use Rattle.base_words.specs.List.{over, tab}
-use Rattle.measure_iris.specs.Iris.{bit, fromBits, codeOfBits}
-use Rattle.measure_iris.specs.Laws.{placeFor, store-more}
+use mathlib.Core.Path.{sym, _∙_}
+use Rattle.measure_iris.specs.Laws.{code-fits, stays, written}
 use borrow.Author.Needs.{needs}
 use Rattle.measure_iris.proofs.rearrange.Statement.{statement}
 use Rattle.measure_iris.proofs.rearrange.Tie as tie
 
-abbrev Inv-loop : tie.InvT-loop
-Inv-loop stored code out₀ j₀ out j =
-    (j ≤ 64) × (out ≡ over 0 (tab (λ m. fromBits (λ i. bit code (placeFor stored i)) (8 * m) 8) j) out₀)
-    × (length out ≡ length out₀)
+why-not-code-requires : tie.Need-why-not-code-requires
+why-not-code-requires c κs = search needs
 
-abbrev μ-loop : tie.MeasureT-loop
-μ-loop stored code out₀ j₀ out j = 64 - j
+returns : tie.Need-returns
+returns c = (c .before .why-not-code .ensures, stays _ _ _ (c .before .why-not-code .ensures) (c .if1 .taken))
 
-loop-holds : tie.Need-loop-holds Inv-loop μ-loop
-unfolding over tab
-loop-holds c = (search needs, refl, refl)
+rearrange-bytes-requires : tie.Need-rearrange-bytes-requires
+rearrange-bytes-requires c κs = code-fits _ _ _ (sym (c .before .before .why-not-code .ensures) ∙ c .before .if1 .left)
 
-rearranged-byte-requires : tie.Need-rearranged-byte-requires Inv-loop μ-loop
-rearranged-byte-requires c κs = search needs
-
-slice-write-out : tie.Need-slice-write-out Inv-loop μ-loop
-slice-write-out c = search needs
-
-add-j : tie.Need-add-j Inv-loop μ-loop
-add-j c = search needs
-
-loop-less : tie.Need-loop-less Inv-loop μ-loop
-loop-less c = search needs
-
-loop-again : tie.Need-loop-again Inv-loop μ-loop
-loop-again c =
-    let at = c .before .before in
-    let args = at .before .before .before .args in
-    let byte : ℕ → ℕ = λ m. fromBits (λ i. bit (args .code .now) (placeFor (args .stored) i)) (8 * m) 8 in (
-      search needs,
-      store-more byte _ _ _ _ (c .rearranged-byte .ensures) (at .loop .inv .1),
-      simp length-set (omega arith),
-    )
-
-same-length : tie.Need-same-length Inv-loop μ-loop
+same-length : tie.Need-same-length
 same-length c = search needs
 
-returns : tie.Need-returns Inv-loop μ-loop
-unfolding codeOfBits
-returns c =
-    let all : c .before .loop .j ≡ 64 = omega arith in
-    rw all at (c .before .loop .inv .1)
+returns-2 : tie.Need-returns-2
+returns-2 c =
+    let tested = c .before .before .before .before in
+    let why = tested .before .why-not-code .ensures in
+    (why, written _ _ _ why (tested .if1 .left) (c .before .before .rearrange-bytes .ensures))
 
 pub rearrange-spec : {M : Type 1} → statement M
 rearrange-spec =
-    tie.close
-    (tie.spec
-    Inv-loop
-    μ-loop
-    loop-holds
-    rearranged-byte-requires
-    slice-write-out
-    add-j
-    loop-less
-    loop-again
-    same-length
-    returns)
+    tie.close (tie.spec why-not-code-requires returns rearrange-bytes-requires same-length returns-2)

@@ -11,7 +11,8 @@ returns-2 c = goes-on _ _ _ (c .before .if1 .left) (turned-down _ _ _ (c .if2 .t
 
 returns-3 : tie.Need-returns-3
 returns-3 c =
-    goes-on _ _ _ (c .before .before .if1 .left) (goes-on _ _ _ (c .before .if2 .left) (turned-down _ _ _ (c .if3 .taken)))
+    let room = c .before in
+    goes-on _ _ _ (room .before .if1 .left) (goes-on _ _ _ (room .if2 .left) (turned-down _ _ _ (c .if3 .taken)))
 
 returns-4 : tie.Need-returns-4
 returns-4 c =
