@@ -67,7 +67,7 @@ static int put_in_place(const struct vector *vector, struct door_terms terms)
     char words[TERMS_ROOM];
     terms_words(terms, words);
     if (!write_enrolled(vector)) {
-        say("whether the old vector or the new one is enrolled is not sure: enrol again");
+        say("office/vector is what it was, or has the new vector: enrol again");
         return EXIT_TROUBLE;
     }
     say("enrolled: %s; each check that the office box begins from now on goes by it", words);

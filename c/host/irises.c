@@ -472,6 +472,7 @@ static void other_doors(void)
     refuses_file(SCAN, "operator: dealer/settings has to have three or four whole numbers");
     EXPECT(unlink("dealer/settings") == 0, "no settings");
     refuses_file(SCAN, "operator: cannot open dealer/settings: No such file");
+    write_settings_anew();
 }
 
 /* Each behind the command. */
@@ -525,6 +526,7 @@ static void bad_texts(void)
         put_file(SCAN, bad->text, strlen(bad->text));
         refuses((char *[]){"door-host", "enrol", ".", SCAN, NULL}, bad->words);
     }
+    write_settings_anew();
     refuses((char *[]){"door-host", "enrol", ".", "none", NULL}, "cannot open none: No such");
     refuses((char *[]){"door-host", "enrol", "none", SCAN, NULL}, "cannot go to none: No such");
 }
@@ -539,8 +541,6 @@ static void refusals(void)
     other_doors();
     usages();
     bad_texts();
-    lose_stock(DEALER); /* a set dealt ahead is given up where the settings are others */
-    write_settings_anew();
 }
 
 /* Enrolments that come to nothing, or are cut short. */
@@ -551,7 +551,7 @@ static char *const ENROL[] = {"door-host", "enrol", ".", TEMPLATE, "--iris", "an
 static void one_at_a_time(void)
 {
     char said[SAID_ROOM];
-    int file = open("enrol.running", O_RDWR | O_CLOEXEC);
+    int file = open("enrol.running", O_RDWR | O_CREAT | O_CLOEXEC, 0600);
     EXPECT(file >= 0 && flock(file, LOCK_EX | LOCK_NB) == 0, "cannot claim the enrolment");
     EXPECT(run_and_hear(ENROL, said) == EXIT_TROUBLE, "two enrolments at one time");
     expect_said(said, "operator: another process has claimed enrol.running");
@@ -582,8 +582,8 @@ static void no_new_file(void)
     EXPECT(mkdir("office/vector.tmp", 0700) == 0, "no folder");
     EXPECT(run_and_hear(ENROL, said) == EXIT_TROUBLE, "enrolled without a new file");
     expect_said(said, "operator: cannot make office/vector.tmp: Is a directory");
-    expect_said(said, "operator: whether the old vector or the new one is enrolled is not sure: "
-        "enrol again\n");
+    expect_said(
+        said, "operator: office/vector is what it was, or has the new vector: enrol again\n");
     EXPECT(rmdir("office/vector.tmp") == 0, "no folder");
     expect_enrolled();
 }
@@ -644,9 +644,19 @@ static void come_to_nothing(void)
     check_code(&own, BY_ANGLE);
 }
 
+/* There was none before. */
+static void first_enrolment(void)
+{
+    struct code own;
+    draw_code(&own);
+    EXPECT(unlink("office/vector") == 0, "no office/vector");
+    enrol(&own, BY_ANGLE);
+}
+
 void irises(void)
 {
     set_threshold(100);
+    first_enrolment();
     single_bits();
     both_orders();
     when_it_counts();
