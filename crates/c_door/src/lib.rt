@@ -9,7 +9,8 @@ ghost use Rattle.call_dealer.specs.Dealer.{startDealer, deal, dealOut};
 ghost use Rattle.call_dealer.specs.Clock.{clockFrom, dealByClock, clockOut};
 ghost use Rattle.call_party.specs.Party.{startParty, load, trial, mask, maskOut, takeVector, finish, dropSet};
 ghost use Rattle.call_lock.specs.Lock.{startLock, join};
-ghost use Rattle.measure_iris.specs.Iris.{whyNotCode, whyNotVector, filled, toRings, toAngles, unpacked, packed, hamming};
+ghost use Rattle.measure_iris.specs.Iris.{codeBytes, codeBits, toRings, toAngles, unpacked, packed};
+ghost use Rattle.measure_iris.specs.Iris.{whyNotCode, whyNotVector, bufferAfter, hammingAnswer};
 use base_messages::Label;
 use call_dealer::ClockAnswer;
 use call_dealer::Dealer;
@@ -253,8 +254,9 @@ pub extern "C" fn door_join(
 // out.
 #[no_mangle]
 pub extern "C" fn door_iris_to_rings(code: &[u8], out: &mut [u8]) -> u32
-    ensures { λ r. ⌜ r ≡ whyNotCode (now (code .entry)) 64 (length (now (out .entry))) ⌝ }
-    ensures { λ _. ⌜ now (out .exit) ≡ filled (whyNotCode (now (code .entry)) 64 (length (now (out .entry))))
+    ensures { λ r. ⌜ r ≡ whyNotCode (now (code .entry)) codeBytes (length (now (out .entry))) ⌝ }
+    ensures { λ _. ⌜ now (out .exit) ≡ bufferAfter
+        (whyNotCode (now (code .entry)) codeBytes (length (now (out .entry))))
         (toRings (now (code .entry))) (now (out .entry)) ⌝ }
 {
     measure_iris::to_rings(code, out)
@@ -263,8 +265,9 @@ pub extern "C" fn door_iris_to_rings(code: &[u8], out: &mut [u8]) -> u32
 // From our order to the scanner's.
 #[no_mangle]
 pub extern "C" fn door_iris_to_angles(code: &[u8], out: &mut [u8]) -> u32
-    ensures { λ r. ⌜ r ≡ whyNotCode (now (code .entry)) 64 (length (now (out .entry))) ⌝ }
-    ensures { λ _. ⌜ now (out .exit) ≡ filled (whyNotCode (now (code .entry)) 64 (length (now (out .entry))))
+    ensures { λ r. ⌜ r ≡ whyNotCode (now (code .entry)) codeBytes (length (now (out .entry))) ⌝ }
+    ensures { λ _. ⌜ now (out .exit) ≡ bufferAfter
+        (whyNotCode (now (code .entry)) codeBytes (length (now (out .entry))))
         (toAngles (now (code .entry))) (now (out .entry)) ⌝ }
 {
     measure_iris::to_angles(code, out)
@@ -273,8 +276,9 @@ pub extern "C" fn door_iris_to_angles(code: &[u8], out: &mut [u8]) -> u32
 // The vector whose element i is bit i of the code: 512 words to the start of out.
 #[no_mangle]
 pub extern "C" fn door_iris_unpack(code: &[u8], out: &mut [u32]) -> u32
-    ensures { λ r. ⌜ r ≡ whyNotCode (now (code .entry)) 512 (length (now (out .entry))) ⌝ }
-    ensures { λ _. ⌜ now (out .exit) ≡ filled (whyNotCode (now (code .entry)) 512 (length (now (out .entry))))
+    ensures { λ r. ⌜ r ≡ whyNotCode (now (code .entry)) codeBits (length (now (out .entry))) ⌝ }
+    ensures { λ _. ⌜ now (out .exit) ≡ bufferAfter
+        (whyNotCode (now (code .entry)) codeBits (length (now (out .entry))))
         (unpacked (now (code .entry))) (now (out .entry)) ⌝ }
 {
     measure_iris::unpack(code, out)
@@ -284,7 +288,8 @@ pub extern "C" fn door_iris_unpack(code: &[u8], out: &mut [u32]) -> u32
 #[no_mangle]
 pub extern "C" fn door_iris_pack(v: &[u32], out: &mut [u8]) -> u32
     ensures { λ r. ⌜ r ≡ whyNotVector (now (v .entry)) (length (now (out .entry))) ⌝ }
-    ensures { λ _. ⌜ now (out .exit) ≡ filled (whyNotVector (now (v .entry)) (length (now (out .entry))))
+    ensures { λ _. ⌜ now (out .exit) ≡ bufferAfter
+        (whyNotVector (now (v .entry)) (length (now (out .entry))))
         (packed (now (v .entry))) (now (out .entry)) ⌝ }
 {
     measure_iris::pack(v, out)
@@ -293,7 +298,7 @@ pub extern "C" fn door_iris_pack(v: &[u32], out: &mut [u8]) -> u32
 // In how many bits two codes of one order differ.
 #[no_mangle]
 pub extern "C" fn door_iris_hamming(a: &[u8], b: &[u8]) -> HammingAnswer
-    ensures { λ r. ⌜ r ≡ hamming (now (a .entry)) (now (b .entry)) ⌝ }
+    ensures { λ r. ⌜ r ≡ hammingAnswer (now (a .entry)) (now (b .entry)) ⌝ }
 {
     measure_iris::hamming(a, b)
 }

@@ -1,14 +1,16 @@
 // Iris codes (02, §10): 512 bits, packed in 64 bytes or unpacked as a vector of 0 and 1. The scanner
 // sends a code angle by angle, at bit angle * 8 + ring; we store it ring by ring, at bit
-// ring * 64 + angle. No public function asks anything of its caller: each answers 0, or the number of
-// why not, and then leaves a lent buffer as it was. No part of a door is touched. [SPEC 35.1 to 35.11]
+// ring * 64 + angle. No public function asks anything of its caller. Each tells 0, or the number of why
+// not; with a number it leaves a lent buffer as it was. No part of a door is touched.
+// [SPEC 35.1 to 35.12]
 ghost use mathlib.Core.Path.{_≡_};
 ghost use Prim.Native.Nat.{ℕ, _*_, _<_, _≤_};
 ghost use lib.ListN.{length, getD};
 ghost use Rattle.base_words.specs.List.{over};
-ghost use Rattle.measure_iris.specs.Iris.{bit as bitOf, fromBits, codeOf, unpacked, packed, toRings, toAngles};
-ghost use Rattle.measure_iris.specs.Iris.{distance as distanceOf, whyNotCode, whyNotVector, filled};
-ghost use Rattle.measure_iris.specs.Iris.{hamming as hammingOf};
+ghost use Rattle.base_messages.specs.Messages.{wrongLength, shortBuffer, outOfRange, unless};
+ghost use Rattle.measure_iris.specs.Iris.{codeBits, codeBytes, bit as bitOf, fromBits, codeOfBits};
+ghost use Rattle.measure_iris.specs.Iris.{toRings, toAngles, unpacked, packed, distance as distanceOf};
+ghost use Rattle.measure_iris.specs.Iris.{whyNotCode, whyNotVector, bufferAfter, hammingAnswer};
 ghost use Rattle.measure_iris.specs.Laws.{placeFor};
 use base_messages::OUT_OF_RANGE;
 use base_messages::SHORT_BUFFER;
@@ -36,19 +38,19 @@ pub struct HammingAnswer {
 
 // Bit i of a code.
 fn bit(code: &[u8], i: usize) -> u32
-    requires { ⌜ (i < 512) × (length (now code) ≡ 64) ⌝ }
+    requires { ⌜ (i < codeBits) × (length (now code) ≡ codeBytes) ⌝ }
     ensures { λ r. ⌜ (r ≡ bitOf (now (code .entry)) i) × (r < 2) ⌝ }
 {
     (code[i / 8] as u32 >> (i % 8)) % 2
 }
 
-// The place that bit i of a rearranged code is taken from: where the scanner has our bit i, or where we
-// have the scanner's.
-fn place(ours: bool, i: usize) -> usize
-    requires { ⌜ i < 512 ⌝ }
-    ensures { λ r. ⌜ (r ≡ placeFor ours i) × (r < 512) ⌝ }
+// The place that bit i of a rearranged code is taken from: as we store it, where the scanner has that bit;
+// else as the scanner sends it, where we have that bit.
+fn place(stored: bool, i: usize) -> usize
+    requires { ⌜ i < codeBits ⌝ }
+    ensures { λ r. ⌜ (r ≡ placeFor stored i) × (r < codeBits) ⌝ }
 {
-    if ours {
+    if stored {
         i % ANGLES * RINGS + i / ANGLES
     } else {
         i % RINGS * ANGLES + i / RINGS
@@ -56,35 +58,35 @@ fn place(ours: bool, i: usize) -> usize
 }
 
 // Byte j of a rearranged code, from its highest bit down.
-fn rearranged_byte(ours: bool, code: &[u8], j: usize) -> u8
-    requires { ⌜ (j < 64) × (length (now code) ≡ 64) ⌝ }
-    ensures { λ r. ⌜ r ≡ fromBits (λ i. bitOf (now (code .entry)) (placeFor ours i)) (8 * j) 8 ⌝ }
+fn rearranged_byte(stored: bool, code: &[u8], j: usize) -> u8
+    requires { ⌜ (j < codeBytes) × (length (now code) ≡ codeBytes) ⌝ }
+    ensures { λ r. ⌜ r ≡ fromBits (λ i. bitOf (now (code .entry)) (placeFor stored i)) (8 * j) 8 ⌝ }
 {
     let mut byte: u32 = 0;
     let mut k: usize = 8;
     while 0 < k {
         k -= 1;
-        byte = 2 * byte + bit(code, place(ours, 8 * j + k));
+        byte = 2 * byte + bit(code, place(stored, 8 * j + k));
     }
     byte as u8
 }
 
-// A code rearranged to the start of out: from the scanner's order to ours, or back.
-fn rearrange(ours: bool, code: &[u8], out: &mut [u8])
-    requires { ⌜ (length (now code) ≡ 64) × (64 ≤ length (now out)) ⌝ }
-    ensures { λ _. ⌜ now (out .exit) ≡ over 0 (codeOf (λ i. bitOf (now (code .entry)) (placeFor ours i)))
+// A code rearranged to the start of out: as we store it, or as the scanner sends it.
+fn rearrange(stored: bool, code: &[u8], out: &mut [u8])
+    requires { ⌜ (length (now code) ≡ codeBytes) × (codeBytes ≤ length (now out)) ⌝ }
+    ensures { λ _. ⌜ now (out .exit) ≡ over 0 (codeOfBits (λ i. bitOf (now (code .entry)) (placeFor stored i)))
         (now (out .entry)) ⌝ }
 {
     let mut j: usize = 0;
     while j < CODE_BYTES {
-        out[j] = rearranged_byte(ours, code, j);
+        out[j] = rearranged_byte(stored, code, j);
         j += 1;
     }
 }
 
 // The bits of a code to the start of out, a word for each.
 fn spread(code: &[u8], out: &mut [u32])
-    requires { ⌜ (length (now code) ≡ 64) × (512 ≤ length (now out)) ⌝ }
+    requires { ⌜ (length (now code) ≡ codeBytes) × (codeBits ≤ length (now out)) ⌝ }
     ensures { λ _. ⌜ now (out .exit) ≡ over 0 (unpacked (now (code .entry))) (now (out .entry)) ⌝ }
 {
     let mut i: usize = 0;
@@ -96,7 +98,7 @@ fn spread(code: &[u8], out: &mut [u32])
 
 // Byte j of a packed vector, from its highest bit down.
 fn packed_byte(v: &[u32], j: usize) -> u8
-    requires { ⌜ (j < 64) × (length (now v) ≡ 512) × ((i : ℕ) → getD (now v) i 0 < 2) ⌝ }
+    requires { ⌜ (j < codeBytes) × (length (now v) ≡ codeBits) × ((i : ℕ) → getD (now v) i 0 < 2) ⌝ }
     ensures { λ r. ⌜ r ≡ fromBits (λ i. getD (now (v .entry)) i 0) (8 * j) 8 ⌝ }
 {
     let mut byte: u32 = 0;
@@ -110,7 +112,7 @@ fn packed_byte(v: &[u32], j: usize) -> u8
 
 // The bytes whose bits are the elements of v, to the start of out.
 fn gather(v: &[u32], out: &mut [u8])
-    requires { ⌜ (length (now v) ≡ 512) × ((i : ℕ) → getD (now v) i 0 < 2) × (64 ≤ length (now out)) ⌝ }
+    requires { ⌜ (length (now v) ≡ codeBits) × ((i : ℕ) → getD (now v) i 0 < 2) × (codeBytes ≤ length (now out)) ⌝ }
     ensures { λ _. ⌜ now (out .exit) ≡ over 0 (packed (now (v .entry))) (now (out .entry)) ⌝ }
 {
     let mut j: usize = 0;
@@ -122,7 +124,7 @@ fn gather(v: &[u32], out: &mut [u8])
 
 // How many bits of the xor of two codes are 1.
 fn differing(a: &[u8], b: &[u8]) -> u32
-    requires { ⌜ (length (now a) ≡ 64) × (length (now b) ≡ 64) ⌝ }
+    requires { ⌜ (length (now a) ≡ codeBytes) × (length (now b) ≡ codeBytes) ⌝ }
     ensures { λ r. ⌜ r ≡ distanceOf (now (a .entry)) (now (b .entry)) ⌝ }
 {
     let mut n: u32 = 0;
@@ -134,42 +136,47 @@ fn differing(a: &[u8], b: &[u8]) -> u32
     n
 }
 
-// Why a packed code is turned down, where n elements are to be written to a buffer of `room`.
-fn why_not_code(code: &[u8], n: usize, room: usize) -> u32
-    ensures { λ r. ⌜ r ≡ whyNotCode (now (code .entry)) n room ⌝ }
+// The number of the first test that fails, lowest first: a length, a buffer's room, the elements.
+fn why_not(long: bool, room: bool, bits: bool) -> u32
+    ensures { λ r. ⌜ r ≡ unless long wrongLength (unless room shortBuffer (unless bits outOfRange 0)) ⌝ }
 {
-    if code.len() != CODE_BYTES {
+    if !long {
         return WRONG_LENGTH;
     }
-    if room < n {
+    if !room {
         return SHORT_BUFFER;
     }
-    0
-}
-
-fn why_not_vector(v: &[u32], room: usize) -> u32
-    ensures { λ r. ⌜ r ≡ whyNotVector (now (v .entry)) room ⌝ }
-{
-    if v.len() != CODE_BITS {
-        return WRONG_LENGTH;
-    }
-    if room < CODE_BYTES {
-        return SHORT_BUFFER;
-    }
-    let terms = Terms {
-        code: HAMMING,
-        n: CODE_BITS,
-    };
-    if !measure_table::all_in_range(terms, v) {
+    if !bits {
         return OUT_OF_RANGE;
     }
     0
 }
 
+// Why a packed code is turned down, where n elements are to be written to a buffer of `room`. Any bytes
+// are a code.
+fn why_not_code(code: &[u8], n: usize, room: usize) -> u32
+    ensures { λ r. ⌜ r ≡ whyNotCode (now (code .entry)) n room ⌝ }
+{
+    why_not(code.len() == CODE_BYTES, n <= room, true)
+}
+
+// Why a vector is, where a code is to be written.
+fn why_not_vector(v: &[u32], room: usize) -> u32
+    ensures { λ r. ⌜ r ≡ whyNotVector (now (v .entry)) room ⌝ }
+{
+    let terms = Terms {
+        code: HAMMING,
+        n: CODE_BITS,
+    };
+    let bits = measure_table::all_in_range(terms, v);
+    why_not(v.len() == CODE_BITS, CODE_BYTES <= room, bits)
+}
+
 // From the scanner's order to ours.
 pub fn to_rings(code: &[u8], out: &mut [u8]) -> u32
-    ensures { λ r. ⌜ r ≡ whyNotCode (now (code .entry)) 64 (length (now (out .entry))) ⌝ }
-    ensures { λ _. ⌜ now (out .exit) ≡ filled (whyNotCode (now (code .entry)) 64 (length (now (out .entry))))
+    ensures { λ r. ⌜ r ≡ whyNotCode (now (code .entry)) codeBytes (length (now (out .entry))) ⌝ }
+    ensures { λ _. ⌜ now (out .exit) ≡ bufferAfter
+        (whyNotCode (now (code .entry)) codeBytes (length (now (out .entry))))
         (toRings (now (code .entry))) (now (out .entry)) ⌝ }
 {
     let why = why_not_code(code, CODE_BYTES, out.len());
@@ -182,8 +189,9 @@ pub fn to_rings(code: &[u8], out: &mut [u8]) -> u32
 
 // From our order to the scanner's.
 pub fn to_angles(code: &[u8], out: &mut [u8]) -> u32
-    ensures { λ r. ⌜ r ≡ whyNotCode (now (code .entry)) 64 (length (now (out .entry))) ⌝ }
-    ensures { λ _. ⌜ now (out .exit) ≡ filled (whyNotCode (now (code .entry)) 64 (length (now (out .entry))))
+    ensures { λ r. ⌜ r ≡ whyNotCode (now (code .entry)) codeBytes (length (now (out .entry))) ⌝ }
+    ensures { λ _. ⌜ now (out .exit) ≡ bufferAfter
+        (whyNotCode (now (code .entry)) codeBytes (length (now (out .entry))))
         (toAngles (now (code .entry))) (now (out .entry)) ⌝ }
 {
     let why = why_not_code(code, CODE_BYTES, out.len());
@@ -196,8 +204,9 @@ pub fn to_angles(code: &[u8], out: &mut [u8]) -> u32
 
 // The vector whose element i is bit i of a code as it stands, in whichever order.
 pub fn unpack(code: &[u8], out: &mut [u32]) -> u32
-    ensures { λ r. ⌜ r ≡ whyNotCode (now (code .entry)) 512 (length (now (out .entry))) ⌝ }
-    ensures { λ _. ⌜ now (out .exit) ≡ filled (whyNotCode (now (code .entry)) 512 (length (now (out .entry))))
+    ensures { λ r. ⌜ r ≡ whyNotCode (now (code .entry)) codeBits (length (now (out .entry))) ⌝ }
+    ensures { λ _. ⌜ now (out .exit) ≡ bufferAfter
+        (whyNotCode (now (code .entry)) codeBits (length (now (out .entry))))
         (unpacked (now (code .entry))) (now (out .entry)) ⌝ }
 {
     let why = why_not_code(code, CODE_BITS, out.len());
@@ -211,7 +220,8 @@ pub fn unpack(code: &[u8], out: &mut [u32]) -> u32
 // The code whose bit i is element i of a vector.
 pub fn pack(v: &[u32], out: &mut [u8]) -> u32
     ensures { λ r. ⌜ r ≡ whyNotVector (now (v .entry)) (length (now (out .entry))) ⌝ }
-    ensures { λ _. ⌜ now (out .exit) ≡ filled (whyNotVector (now (v .entry)) (length (now (out .entry))))
+    ensures { λ _. ⌜ now (out .exit) ≡ bufferAfter
+        (whyNotVector (now (v .entry)) (length (now (out .entry))))
         (packed (now (v .entry))) (now (out .entry)) ⌝ }
 {
     let why = why_not_vector(v, out.len());
@@ -224,7 +234,7 @@ pub fn pack(v: &[u32], out: &mut [u8]) -> u32
 
 // In how many bits two codes differ, both in one order: the measure of the two unpacked.
 pub fn hamming(a: &[u8], b: &[u8]) -> HammingAnswer
-    ensures { λ r. ⌜ r ≡ hammingOf (now (a .entry)) (now (b .entry)) ⌝ }
+    ensures { λ r. ⌜ r ≡ hammingAnswer (now (a .entry)) (now (b .entry)) ⌝ }
 {
     let fits = (a.len() == CODE_BYTES) & (b.len() == CODE_BYTES);
     if !fits {

@@ -1,21 +1,15 @@
-use Rattle.measure_iris.specs.Laws.{not-code, code-room, code-taken}
+use Rattle.base_messages.specs.Messages.{unless}
+use Rattle.measure_iris.specs.Iris.{whyNotCode}
 use borrow.Author.Needs.{needs}
 use Rattle.measure_iris.proofs.why_not_code.Statement.{statement}
 use Rattle.measure_iris.proofs.why_not_code.Tie as tie
-use Rattle.measure_iris.proofs.why_not_code.Reads as reads
-use Rattle.measure_iris.proofs.why_not_code.Lts as lts
 
--- src/lib.rt:142:9
+why-not-requires : tie.Need-why-not-requires
+why-not-requires c κs = search needs
+
 returns : tie.Need-returns
-returns c = not-code _ _ _ (c .if1 .taken)
-
--- src/lib.rt:145:9
-returns-2 : tie.Need-returns-2
-returns-2 c = code-room _ _ _ (c .before .if1 .left) (c .if2 .taken)
-
--- src/lib.rt:138:1
-returns-3 : tie.Need-returns-3
-returns-3 c = code-taken _ _ _ (c .before .if1 .left) (c .if2 .left)
+unfolding unless whyNotCode
+returns c = c .why-not .ensures
 
 pub why-not-code-spec : {M : Type 1} → statement M
-why-not-code-spec = tie.close (tie.spec returns returns-2 returns-3)
+why-not-code-spec = tie.close (tie.spec why-not-requires returns)

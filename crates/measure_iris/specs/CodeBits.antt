@@ -3,7 +3,7 @@ use mathlib.Core.Path.{_≡_, refl, sym, ap, ap₂, _∙_}
 use mathlib.Core.Bool.{Bool, true, false}
 use mathlib.Core.List.{List}
 use Prim.Native.Nat.{ℕ, zero, suc, _+_, _*_, _-_, _/_, _%_, _^_, _<_, _≤_}
-use native.Mathlib.Nat.{add-zero, add-suc}
+use native.Mathlib.Nat.{add-zero}
 use native.Mathlib.Numerals.{add-one}
 use native.Mathlib.Omega.{arith}
 use borrow.Author.Tests.{ltb-true, ltb-false}
@@ -11,17 +11,7 @@ use lib.Dec.{ltb}
 use lib.ListN.{length, getD, List·getD-eq-default}
 use lib.Pow.{shr-shr, shr-lt, pow-mono}
 use Rattle.base_words.specs.List.{tab, length-tab, getD-tab, tab-ext, tab-getD}
-use Rattle.measure_iris.specs.Iris.{codeBits, codeBytes, bit, fromBits, codeOf}
-
--- 64 bytes
-pub record Code (code : List ℕ) : Type 0 where
-  pub long : length code ≡ codeBytes
-  pub small : (j : ℕ) → getD code j 0 < 256
-
--- 512 elements, each 0 or 1
-pub record Vector (v : List ℕ) : Type 0 where
-  pub long : length v ≡ codeBits
-  pub small : (i : ℕ) → getD v i 0 < 2
+use Rattle.measure_iris.specs.Iris.{codeBits, Code, bit, fromBits, codeOfBits}
 
 pub bit-lt : (code : List ℕ) (i : ℕ) → bit code i < 2
 unfolding bit
@@ -64,15 +54,15 @@ module _ (f : ℕ → ℕ) (h : (i : ℕ) → f i < 2) where
       ∙ ap (λ (x : ℕ). x / 2 ^ k % 2) half ∙ from-bit n k (i + 1) (omega arith) ∙ ap f at
 
   -- "bit i modulo 8 of byte i / 8"
-  pub bit-code : (i : ℕ) → i < codeBits → bit (codeOf f) i ≡ f i
-  unfolding bit codeOf
+  pub bit-code : (i : ℕ) → i < codeBits → bit (codeOfBits f) i ≡ f i
+  unfolding bit codeOfBits
   bit-code i l =
       let at : 8 * (i / 8) + i % 8 ≡ i = omega arith in
       rw (getD-tab (λ j. fromBits f (8 * j) 8) 64 (i / 8) (omega arith))
       (from-bit 8 (i % 8) (8 * (i / 8)) (omega arith) ∙ ap f at)
 
-  pub code-code : Code (codeOf f)
-  unfolding codeOf
+  pub code-code : Code (codeOfBits f)
+  unfolding codeOfBits
   code-code = record { long = length-tab byte 64; small = small }
     where
       byte : ℕ → ℕ
@@ -102,8 +92,8 @@ from-ext f g (suc n) i h =
         let at : i + suc k ≡ i + 1 + k = omega arith in
         ap f (sym at) ∙ h (suc k) (omega arith) ∙ ap g at
 
-pub code-ext : (f g : ℕ → ℕ) → ((i : ℕ) → i < codeBits → f i ≡ g i) → codeOf f ≡ codeOf g
-unfolding codeOf
+pub code-ext : (f g : ℕ → ℕ) → ((i : ℕ) → i < codeBits → f i ≡ g i) → codeOfBits f ≡ codeOfBits g
+unfolding codeOfBits
 code-ext f g h =
     tab-ext (λ j. fromBits f (8 * j) 8) (λ j. fromBits g (8 * j) 8) 64
     (λ j l. from-ext f g 8 (8 * j) (λ k m. h (8 * j + k) (omega arith)))
@@ -124,8 +114,8 @@ from-own f (suc n) i x l h =
         let at : i + 1 + k ≡ i + suc k = omega arith in
         ap f at ∙ h (suc k) (omega arith) ∙ sym (half-bit x k)
 
-pub code-bits : (code : List ℕ) → Code code → codeOf (bit code) ≡ code
-unfolding codeOf
+pub code-bits : (code : List ℕ) → Code code → codeOfBits (bit code) ≡ code
+unfolding codeOfBits
 code-bits code c =
     tab-ext (λ j. fromBits (bit code) (8 * j) 8) (λ j. getD code j 0) 64 (λ j l.
     from-own (bit code) 8 (8 * j) (getD code j 0) (c .small j) (bit-at code j))
