@@ -403,6 +403,27 @@ bool read_vector(const char *path, struct vector *vector)
     return right;
 }
 
+/* A vector that could not be written leaves no part of it behind either: it is secret. */
+static void remove_unfinished(const char *path)
+{
+    if (unlink(path) != 0 && errno != ENOENT)
+        say_trouble("cannot remove", path);
+}
+
+bool write_enrolled(const struct vector *vector)
+{
+    static char text[VECTOR_TEXT_MOST]; /* secret as the vector is: wiped below */
+    int size = 0;
+    for (size_t i = 0; i < vector->length; i++)
+        size += snprintf(text + size, sizeof text - (size_t)size, "%" PRId32 "\n",
+            (int32_t)vector->words[i]);
+    bool done = write_durably("office", "vector", text, (size_t)size);
+    explicit_bzero(text, sizeof text);
+    if (!done)
+        remove_unfinished("office/vector.tmp");
+    return done;
+}
+
 static void stick_of(uint32_t party, char folder[PATH_ROOM])
 {
     snprintf(folder, PATH_ROOM, "stick/%s", PART[party].command);
@@ -424,59 +445,73 @@ bool read_half(uint32_t party, uint64_t number, uint8_t half[DOOR_HALF_MOST + 1]
     return read_file(path, half, DOOR_HALF_MOST + 1, size);
 }
 
-static void say_no_half(const char *path)
+static void say_no_file(const char *path, const struct expected *expected)
 {
-    say("cannot open %s: %s; expected is the file of a half, as the dealer wrote it: see that the "
-        "path is right, that the stick is there, and that you may read it",
-        path, strerror(errno));
+    say("cannot open %s: %s; expected is %s: %s", path, strerror(errno), expected->what,
+        expected->where_missing);
 }
 
-static bool is_plain(const char *path, mode_t mode)
+static bool is_plain(const char *path, const struct expected *expected, mode_t mode)
 {
     if (S_ISREG(mode))
         return true;
-    say("%s is %s; expected is the file of a half, as the dealer wrote it: give that file's path",
-        path,
+    say("%s is %s; expected is %s: give that file's path", path,
         S_ISDIR(mode)        ? "a folder"
             : S_ISFIFO(mode) ? "a pipe"
             : S_ISSOCK(mode) ? "a socket"
-                             : "a device");
+                             : "a device",
+        expected->what);
     return false;
 }
 
 /* Another file may have come into the place of the one that was looked at before. */
-static bool read_plain(int file, const char *path, struct carried_half *half)
+static bool read_plain(
+    int file, const char *path, const struct expected *expected, struct carried *carried)
 {
     struct stat found;
     if (fstat(file, &found) != 0) {
         say_trouble("cannot look at", path);
         return false;
     }
-    if (!is_plain(path, found.st_mode)
-        || !read_all(file, path, half->bytes, sizeof half->bytes, &half->size))
+    if (!is_plain(path, expected, found.st_mode)
+        || !read_all(file, path, carried->bytes, carried->room, &carried->size))
         return false;
-    bool goes_on = half->size == sizeof half->bytes && found.st_size > (off_t)half->size;
-    half->file_size = goes_on ? (size_t)found.st_size : half->size;
+    bool goes_on = carried->size == carried->room && found.st_size > (off_t)carried->size;
+    carried->file_size = goes_on ? (size_t)found.st_size : carried->size;
     return true;
 }
 
 /* To open a pipe may take for ever, and a device may act upon it: so what it is comes first. */
-bool read_carried_half(const char *path, struct carried_half *half)
+bool read_carried(const char *path, const struct expected *expected, struct carried *carried)
 {
     struct stat found;
     if (stat(path, &found) != 0) {
-        say_no_half(path);
+        say_no_file(path, expected);
         return false;
     }
-    if (!is_plain(path, found.st_mode))
+    if (!is_plain(path, expected, found.st_mode))
         return false;
     int file = open(path, O_RDONLY | O_NONBLOCK | O_NOCTTY | O_CLOEXEC);
     if (file < 0) {
-        say_no_half(path);
+        say_no_file(path, expected);
         return false;
     }
-    bool is_read = read_plain(file, path, half);
+    bool is_read = read_plain(file, path, expected, carried);
     return close_file(file, path) && is_read;
+}
+
+bool read_carried_half(const char *path, struct carried_half *half)
+{
+    static const struct expected expected = {
+        .what = "the file of a half, as the dealer wrote it",
+        .where_missing =
+            "see that the path is right, that the stick is there, and that you may read it"};
+    struct carried carried = {.bytes = half->bytes, .room = sizeof half->bytes};
+    if (!read_carried(path, &expected, &carried))
+        return false;
+    half->size = carried.size;
+    half->file_size = carried.file_size;
+    return true;
 }
 
 /* Whether a file on the stick is a half, or what a power cut left of one, of a set up to this

@@ -92,18 +92,38 @@ struct vector {
 
 bool read_vector(const char *path, struct vector *vector);
 
+/* Puts it in the place of the enrolled one, from where the office box reads it at every check. */
+bool write_enrolled(const struct vector *vector);
+
 /* Halves lie on the stick of the box with that party number, one file for each set. */
 bool write_half(uint32_t party, uint64_t number, const uint8_t *half, size_t size);
 bool read_half(uint32_t party, uint64_t number, uint8_t half[DOOR_HALF_MOST + 1], size_t *size);
 
-/* A half that someone has under whatever path. Its size is not judged here. */
-struct carried_half {
-    uint8_t bytes[DOOR_HALF_MOST + 1];
-    size_t size;      /* of these, one more than a half has at the most where the file is longer */
+/* A file that someone has under whatever path: what it has to be, in words, and what to do where
+   there is none. */
+struct expected {
+    const char *what, *where_missing;
+};
+
+/* What was found in it. Its size is not judged here: where the file is longer than the room, the
+   room is filled. */
+struct carried {
+    uint8_t *bytes;
+    size_t room;
+    size_t size;      /* of what was read */
     size_t file_size; /* of the whole file */
 };
 
 /* Reads a plain file, and waits for nothing: with anything else it says what was found. */
+bool read_carried(const char *path, const struct expected *expected, struct carried *carried);
+
+/* A half, with room for one byte more than any half has, so that one that is too long is seen as
+   such. */
+struct carried_half {
+    uint8_t bytes[DOOR_HALF_MOST + 1];
+    size_t size, file_size;
+};
+
 bool read_carried_half(const char *path, struct carried_half *half);
 
 /* Removes the halves of all sets up to this number, those included that a power cut had left, and

@@ -14,6 +14,16 @@ enum exit_status {
     EXIT_TROUBLE = 2
 };
 
+/* What a vector's file has: numbers as text, or an iris code's 64 bytes in one of two orders. */
+enum vector_form { AS_TEXT, IRIS_BY_ANGLES, IRIS_BY_RINGS };
+#define IRIS_OPTION "--iris"
+
+/* Whatever order an iris code's file has, its vector is in ours, ring by ring. */
+bool read_vector_as(enum vector_form form, const char *path, struct vector *vector);
+
+/* Whether a door with these settings takes iris codes; says why not. */
+bool takes_iris(const struct settings *settings);
+
 /* The settings' text ends in 'table' where there is a table's file, else that is NULL. */
 int set_up(
     const char *folder, const char *name, const char *settings_text, const char *table_file);
@@ -21,6 +31,7 @@ int run_dealer(const char *via, bool deals_ahead);
 int run_box(enum part self, const char *via);
 int run_lock(const char *via);
 int run_check(const struct vector *vector);
+int run_enrol(const char *folder, const char *file, enum vector_form form);
 int run_status(void);
 int run_watch(void);
 int run_upgrade(void);

@@ -16,7 +16,8 @@ static int usage(void)
           "       door-host setup FOLDER NAME CODE LENGTH table FILE\n"
           "       door-host dealer FOLDER [--no-ahead] [--via SOCKET]\n"
           "       door-host camera|office|lock FOLDER [--via SOCKET]\n"
-          "       door-host check FOLDER VECTORFILE\n"
+          "       door-host enrol FOLDER FILE [--iris angles|rings]\n"
+          "       door-host check FOLDER FILE [--iris angles|rings]\n"
           "       door-host status FOLDER\n"
           "       door-host watch FOLDER\n"
           "       door-host upgrade FOLDER\n"
@@ -58,15 +59,43 @@ static int run_setup(int count, char **arguments)
     return set_up(arguments[0], arguments[1], text, has_table ? arguments[5] : NULL);
 }
 
-/* The vector's path is the caller's, so it is read before the working folder changes. */
-static int run_check_of(const char *folder, const char *path)
+/* The file's path is the caller's, so it is read before the working folder changes. */
+static int run_check_of(const char *folder, const char *path, enum vector_form form)
 {
     static struct vector vector;
+    static struct settings settings;
     int status = EXIT_TROUBLE;
-    if (read_vector(path, &vector) && go_to(folder))
+    if (read_vector_as(form, path, &vector) && go_to(folder)
+        && (form == AS_TEXT || (read_settings(&settings) && takes_iris(&settings))))
         status = run_check(&vector);
     explicit_bzero(&vector, sizeof vector);
     return status;
+}
+
+/* From what stands behind the file's path. */
+static bool parse_form(int count, char **arguments, enum vector_form *form)
+{
+    if (count == 0) {
+        *form = AS_TEXT;
+        return true;
+    }
+    if (count != 2 || strcmp(arguments[0], IRIS_OPTION) != 0)
+        return false;
+    *form = strcmp(arguments[1], "angles") == 0 ? IRIS_BY_ANGLES : IRIS_BY_RINGS;
+    return *form == IRIS_BY_ANGLES || strcmp(arguments[1], "rings") == 0;
+}
+
+/* The command, its folder, a file and its form. Where the option stands in the file's place, the
+   file was left out. */
+static int run_with_vector(int count, char **arguments)
+{
+    enum vector_form form;
+    if (count < 3 || strcmp(arguments[2], IRIS_OPTION) == 0
+        || !parse_form(count - 3, arguments + 3, &form))
+        return usage();
+    if (strcmp(arguments[0], "enrol") == 0)
+        return run_enrol(arguments[1], arguments[2], form);
+    return run_check_of(arguments[1], arguments[2], form);
 }
 
 static int run_part(const char *command, const char *folder, bool deals_ahead, const char *via)
@@ -113,8 +142,8 @@ int main(int count, char **arguments)
         return EXIT_TROUBLE;
     if ((count == 7 || count == 8) && strcmp(arguments[1], "setup") == 0)
         return run_setup(count - 2, arguments + 2);
-    if (count == 4 && strcmp(arguments[1], "check") == 0)
-        return run_check_of(arguments[2], arguments[3]);
+    if (count >= 2 && (strcmp(arguments[1], "enrol") == 0 || strcmp(arguments[1], "check") == 0))
+        return run_with_vector(count - 1, arguments + 1);
     if (count == 4 && strcmp(arguments[1], "trial") == 0)
         return run_trial(arguments[2], arguments[3]);
     return run_part_with(count - 1, arguments + 1);

@@ -137,7 +137,7 @@ static void draw_rule(void)
         measure(settings.terms, current[CAMERA], current[OFFICE]));
 }
 
-static void write_settings_anew(void)
+void write_settings_anew(void)
 {
     char text[TABLE_TEXT];
     if (settings.by_clock) {
@@ -302,8 +302,7 @@ static bool is_told_later(enum part box)
         && (check.stage < MASKED || (check.told_last && !check.announced[box]));
 }
 
-/* The boxes are told to begin as soon as the set is dealt, or one of them somewhat later. */
-static void begin_when_due(void)
+void begin_when_due(void)
 {
     for (enum part box = CAMERA; box <= OFFICE; box++)
         if (!check.told[box] && check.number != 0 && !is_told_later(box)) {
@@ -339,15 +338,21 @@ static enum part some_box_or_none(void)
     return drawn_box == 2 ? PARTS : (enum part)drawn_box;
 }
 
-static void start_check(enum change change)
+/* A check that is about to begin. */
+static void clear_check(void)
 {
     memset(&check, 0, sizeof check);
     check.told_later = some_box_or_none();
     check.told_last = deals_ahead && chance(2) == 0;
     check.word_first = PARTS;
     check.sets = 1;
-    draw_check(change);
     begun++;
+}
+
+static void start_check(enum change change)
+{
+    clear_check();
+    draw_check(change);
 }
 
 /* One check in which a part is killed. It may be answered or not; the next must find all well. */
@@ -416,12 +421,10 @@ void undisturbed_check(enum change change)
     expect_ready();
 }
 
-void operators_check(enum change change)
+void check_by(char *const arguments[])
 {
-    char *const arguments[] = {"door-host", "check", ".", "picture", NULL};
-    start_check(change);
-    write_vector("picture", current[CAMERA]);
     bool open = has_to_open(&settings, current[CAMERA], current[OFFICE]);
+    clear_check();
     operator_runs = true;
     int process = start_program(arguments);
     expect_answer();
@@ -429,6 +432,14 @@ void operators_check(enum change change)
     EXPECT(end_of(process) == (open ? EXIT_OPEN : EXIT_SHUT),
         "the operator's exit status is wrong");
     expect_ready();
+}
+
+void operators_check(enum change change)
+{
+    char *const arguments[] = {"door-host", "check", ".", "picture", NULL};
+    draw_check(change);
+    write_vector("picture", current[CAMERA]);
+    check_by(arguments);
 }
 
 int64_t draw_pair(uint32_t code)
@@ -1008,6 +1019,9 @@ static void summary(void)
            "which none would, %lu in trouble, and %lu beside checks\n",
         trial_tally.by_status[EXIT_OPEN], trial_tally.by_status[EXIT_SHUT],
         trial_tally.by_status[EXIT_TROUBLE], trial_tally.beside);
+    printf("c/host/test: iris codes: %lu enrolled and %lu checked, from either order; %lu times "
+           "refused without a trace; %lu enrolments cut short\n",
+        iris_tally.enrolled, iris_tally.checked, iris_tally.refused, iris_tally.cuts);
     printf("c/host/test: upgrades cut short %lu times, %lu of them with a power cut; %lu between "
            "the first part's and the last one's; each was then finished\n",
         upgrade_tally.cuts, upgrade_tally.power, upgrade_tally.between);
@@ -1123,7 +1137,7 @@ static void set_up_door(const char *folder)
     start_all();
 }
 
-int main(int count, char **arguments)
+static void prepare(int count, char **arguments)
 {
     uint64_t seed;
     EXPECT(count == 3 || count == 4, "usage: host-test DOOR-HOST FOLDER [SEED]");
@@ -1139,11 +1153,17 @@ int main(int count, char **arguments)
     speak_as(WATCH);
     name_program(arguments[1]);
     atexit(kill_what_is_left);
+}
+
+int main(int count, char **arguments)
+{
+    prepare(count, arguments);
     set_up_door(arguments[2]);
     for (int i = 0; i < 10; i++)
         undisturbed_check(ALL);
     tables();
     trials();
+    irises();
     checks_at_the_turn();
     while (!killed_enough() && killed() < KILLS_MOST) {
         disturbed_check();

@@ -234,8 +234,14 @@ int32_t within(struct range r, int64_t number);
 /* Two vectors of this measure, and what it is. */
 int64_t draw_pair(uint32_t code);
 
+void write_settings_anew(void);
+
 /* Writes the settings down, and does a check with them. */
 void check_as_set(void);
+
+/* A check by the program's own operator, run so, with the vectors that are in place: its exit status
+   has to tell what the lock must say. */
+void check_by(char *const arguments[]);
 
 /* A check by the program's own operator, whose exit status tells what the lock said. */
 void operators_check(enum change change);
@@ -258,6 +264,9 @@ void undisturbed_check(enum change change);
    do those of the set behind it. */
 void deal_and_leave(void);
 
+/* The boxes are told to begin as soon as the set is dealt, or one of them somewhat later. */
+void begin_when_due(void);
+
 /* A check with that set, which must be answered. */
 void answer_what_was_left(void);
 
@@ -275,8 +284,25 @@ extern struct trial_tally trial_tally;
 
 void trials(void);
 
+/* Runs the program to its end, with what came to the log meanwhile. It must leave no trace: it dies
+   if it takes a step on the disk, claims a part or makes a socket, and that folder is afterwards
+   what it was. */
+int run_without_trace(char *const arguments[], const char *folder, char said[SAID_ROOM]);
+
 /* A trial ends in trouble, and says so among other things. */
 void trial_in_trouble(const char *folder, const char *half, const char *words);
+
+/* irises.c: enrolments, and iris codes. All parts run before and after. */
+
+struct iris_tally {
+    unsigned long enrolled, checked;
+    unsigned long refused; /* enrolments and checks */
+    unsigned long cuts;    /* enrolments that were cut short */
+};
+
+extern struct iris_tally iris_tally;
+
+void irises(void);
 
 /* versions.c: folders of other versions, and the upgrade. All parts run before and after. */
 

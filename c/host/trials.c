@@ -93,18 +93,23 @@ static void allow_traces(void)
     EXPECT(unsetenv(BEFORE_STEP) == 0 && unsetenv(BEFORE_CONTACT) == 0, "no unsetenv");
 }
 
+int run_without_trace(char *const arguments[], const char *folder, char said[SAID_ROOM])
+{
+    const uint64_t before = hash_of_tree(folder);
+    forbid_traces();
+    int status = run_and_hear(arguments, said);
+    allow_traces();
+    EXPECT(hash_of_tree(folder) == before, "%s has changed something in %s", arguments[1], folder);
+    return status;
+}
+
 static void try_half(const char *folder, const char *half, int status, char said[SAID_ROOM])
 {
     char *const arguments[] = {"door-host", "trial", (char *)folder, (char *)half, NULL};
-    const uint64_t before = hash_of_tree(folder);
-    forbid_traces();
-    int found = run_and_hear(arguments, said);
-    allow_traces();
+    int found = run_without_trace(arguments, folder, said);
     trial_tally.by_status[status]++;
     EXPECT(found == status, "a trial of %s in %s ends with status %d and not %d: %s", half, folder,
         found, status, said);
-    EXPECT(hash_of_tree(folder) == before, "a trial of %s has changed something in %s", half,
-        folder);
 }
 
 /* All that is said. */
