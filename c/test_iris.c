@@ -307,7 +307,7 @@ static void every_element(void)
         }
 }
 
-/* Every value of every byte, among drawn ones. */
+/* Every value of a byte, at each place among drawn ones, and at all places. */
 static void every_byte(void)
 {
     uint8_t code[BYTES];
@@ -317,6 +317,10 @@ static void every_byte(void)
             code[place] = (uint8_t)byte;
             there_and_back(code);
         }
+    }
+    for (int byte = 0; byte < 256; byte++) {
+        memset(code, byte, sizeof code);
+        there_and_back(code);
     }
 }
 
