@@ -31,7 +31,7 @@
  *
  * Iris codes. A scanner's code of 64 bytes becomes the vector of a check by door_iris_to_rings and
  * door_iris_unpack. The five calls door_iris_* are on no part: they take no state, answer none, and
- * may be made at any time.
+ * may be made at any time. In all other calls a code is a measure's (enum door_code).
  *
  * Older sets. Every set that an older version of this library dealt must be scrapped, of every
  * code. Neither door_load nor door_trial takes an older half: it is refused by 11, if by no earlier
@@ -76,8 +76,8 @@
  * 2^32: a host that has int32_t may hand these in, (uint32_t)x for x and (const uint32_t *)v for v.
  * Every element, threshold and mark that a measure takes is an int32_t. But a call sees 32 bits and
  * no more: a host that has one of them wider has to compare it with the range itself, since C cuts
- * 2^32 + 5 to 5 on the way, which a call would take. The same goes for a measure's code, a kind, a
- * party and a minute that a host has in more than 32 bits.
+ * 2^32 + 5 to 5 on the way, which a call would take. The same goes for a code, a kind, a party and
+ * a minute that a host has in more than 32 bits.
  */
 #ifndef DOOR_H
 #define DOOR_H
@@ -535,8 +535,8 @@ uint64_t lock_last(
  *         return false;
  *     struct door_party_answer a = door_mask(box, v, DOOR_IRIS_BITS, sent, DOOR_IRIS_BITS);
  *
- * The lock's 1 then means that at most T bits differ. The camera box does both steps in one with
- * its fresh scan. A code is as secret as its vector, and no call clears a buffer.
+ * With a threshold T the lock's 1 then means that at most T bits differ. The camera box does both
+ * steps in one with its fresh scan. A code is as secret as its vector, and no call clears a buffer.
  *
  * The four calls that write return `why`: 0, or the refusal's number. None of them works in place:
  * out is another buffer than the one that is read.
