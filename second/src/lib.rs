@@ -25,6 +25,12 @@ pub mod generated;
 pub mod half_cases;
 pub mod half_marks;
 pub mod halves;
+pub mod iris;
+pub mod iris_bad_cases;
+pub mod iris_cases;
+pub mod iris_lines;
+#[cfg(test)]
+mod iris_refusals;
 pub mod lock;
 pub mod measure;
 pub mod message;

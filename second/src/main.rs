@@ -2,13 +2,17 @@
 
 use second::replay::Replay;
 use second::script::{self, Case, MAX_LINE};
-use second::{check_cases, checks, generated, half_cases, halves, replay_cases, rfc8439};
+use second::{
+    check_cases, checks, generated, half_cases, halves, iris_cases, iris_lines, replay_cases,
+    rfc8439,
+};
 use std::io::{Read, Write};
 use std::process::ExitCode;
 
 const USAGE: &str =
     "usage: second vectors-stdin | vectors-stdout | checks-stdin | checks-stdout | \
-                     halves-stdin | halves-stdout | replay-stdin | replay-stdout | replay <SCRIPT";
+                     halves-stdin | halves-stdout | iris-stdin | iris-stdout | \
+                     replay-stdin | replay-stdout | replay <SCRIPT";
 
 fn main() -> ExitCode {
     let arguments: Vec<String> = std::env::args().skip(1).collect();
@@ -20,6 +24,8 @@ fn main() -> ExitCode {
         ["checks-stdout"] => print(&check_cases::cases(), checks::run, |case| &case.expected),
         ["halves-stdin"] => print(&half_cases::cases(), halves::run, |case| &case.line),
         ["halves-stdout"] => print(&half_cases::cases(), halves::run, |case| &case.expected),
+        ["iris-stdin"] => print(&iris_cases::cases(), iris_lines::run, |case| &case.line),
+        ["iris-stdout"] => print(&iris_cases::cases(), iris_lines::run, |case| &case.expected),
         ["replay-stdin"] => print_replay(|case| &case.line),
         ["replay-stdout"] => print_replay(|case| &case.expected),
         ["replay"] => replay(),

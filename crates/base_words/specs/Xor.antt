@@ -1,27 +1,27 @@
--- Xor cancels: of numbers, and of lists of one length, word by word. Assumes nothing.
+-- Xor, bit by bit, and that it cancels: of numbers, and of lists of one length, word by word. Assumes nothing.
 use mathlib.Core.Path.{_≡_, refl, sym, _∙_, ap, ap₂}
 use mathlib.Core.Bool.{xor}
 use mathlib.Core.List.{List, [], _∷_, zipWith}
-use Prim.Native.Nat.{ℕ, zero, suc, _+_, _*_, _/_, _%_, _<_}
+use Prim.Native.Nat.{ℕ, zero, suc, _+_, _*_, _/_, _%_, _^_, _<_}
 use native.Mathlib.Nat.{suc-inj}
 use native.Mathlib.Omega.{arith}
 use lib.Arith.{bin-ind}
-use lib.Bits.{bitXor, differ, xor-step, xor-comm}
+use lib.Bits.{bitXor, differ, xor-step, xor-shr, xor-comm}
 use lib.Dec.{eqb}
 use lib.ListN.{length}
 use Rattle.base_algebra.specs.Bit.{odd}
 
-data Bit : ℕ → Type 0 where
+pub data Bit : ℕ → Type 0 where
   off : Bit 0
   on : Bit 1
 
+pub is-bit : (x : ℕ) → x < 2 → Bit x
+is-bit zero h = off
+is-bit (suc zero) h = on
+is-bit (suc (suc x)) h = absurd (omega arith)
+
 the-bit : (x : ℕ) → Bit (x % 2)
-the-bit x = go (x % 2) (omega arith)
-  where
-    go : (y : ℕ) → y < 2 → Bit y
-    go zero h = off
-    go (suc zero) h = on
-    go (suc (suc y)) h = absurd (omega arith)
+the-bit x = is-bit (x % 2) (omega arith)
 
 differ-back : {x y : ℕ} → Bit x → Bit y → differ x (differ x y) ≡ y
 differ-back off off = refl
@@ -54,14 +54,20 @@ pub xor-twice : (a b : ℕ) → bitXor (bitXor a b) b ≡ a
 xor-twice a b = xor-comm (bitXor a b) b ∙ ap (bitXor b) (xor-comm a b) ∙ xor-back b a
 
 -- the lowest bit of a xor
-pub odd-xor : (a b : ℕ) → odd (bitXor a b) ≡ xor (odd a) (odd b)
-unfolding odd xor
-odd-xor a b =
+xor-low : (a b : ℕ) → bitXor a b % 2 ≡ differ (a % 2) (b % 2)
+xor-low a b =
     let d = differ (a % 2) (b % 2) in
     let s : bitXor a b ≡ bitXor (a / 2) (b / 2) * 2 + d = xor-step a b in
     let l : d < 2 = differ-lt (the-bit a) (the-bit b) in
-    let o : bitXor a b % 2 ≡ d = omega arith in
-    ap (λ (x : ℕ). eqb x 1) o ∙ decided (the-bit a) (the-bit b)
+    omega arith
+
+-- any bit of it
+pub xor-bit : (a b k : ℕ) → bitXor a b / 2 ^ k % 2 ≡ differ (a / 2 ^ k % 2) (b / 2 ^ k % 2)
+xor-bit a b k = ap (λ (x : ℕ). x % 2) (xor-shr a b k) ∙ xor-low (a / 2 ^ k) (b / 2 ^ k)
+
+pub odd-xor : (a b : ℕ) → odd (bitXor a b) ≡ xor (odd a) (odd b)
+unfolding odd xor
+odd-xor a b = ap (λ (x : ℕ). eqb x 1) (xor-low a b) ∙ decided (the-bit a) (the-bit b)
   where
     decided : {x y : ℕ} → Bit x → Bit y → eqb (differ x y) 1 ≡ xor (eqb x 1) (eqb y 1)
     decided off off = refl

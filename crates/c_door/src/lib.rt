@@ -1,6 +1,6 @@
-// Every call of dealer, box and lock as a C function, for their hosts. A state is handed over and comes
-// back by value, but for a trial's, which does not come back; a slice is a pointer and a length. No
-// function asks anything of its caller.
+// Every call of dealer, box and lock, and those on iris codes, as C functions, for the hosts. A state is
+// handed over and comes back by value, but for a trial's, which does not come back; a slice is a pointer
+// and a length. No function asks anything of its caller.
 ghost use mathlib.Core.Path.{_≡_};
 ghost use lib.ListN.{length};
 ghost use Rattle.half_deal.specs.Dealing.{dealFrom};
@@ -9,6 +9,7 @@ ghost use Rattle.call_dealer.specs.Dealer.{startDealer, deal, dealOut};
 ghost use Rattle.call_dealer.specs.Clock.{clockFrom, dealByClock, clockOut};
 ghost use Rattle.call_party.specs.Party.{startParty, load, trial, mask, maskOut, takeVector, finish, dropSet};
 ghost use Rattle.call_lock.specs.Lock.{startLock, join};
+ghost use Rattle.measure_iris.specs.Iris.{whyNotCode, whyNotVector, filled, toRings, toAngles, unpacked, packed, hamming};
 use base_messages::Label;
 use call_dealer::ClockAnswer;
 use call_dealer::Dealer;
@@ -18,6 +19,7 @@ use call_lock::LockAnswer;
 use call_party::Party;
 use call_party::PartyAnswer;
 use call_party::TrialAnswer;
+use measure_iris::HammingAnswer;
 use measure_table::Rule;
 use measure_table::Terms;
 
@@ -245,4 +247,53 @@ pub extern "C" fn door_join(
         name1,
         answer1,
     )
+}
+
+// An iris code from the scanner's order, angle by angle, to ours, ring by ring: 64 bytes to the start of
+// out.
+#[no_mangle]
+pub extern "C" fn door_iris_to_rings(code: &[u8], out: &mut [u8]) -> u32
+    ensures { λ r. ⌜ r ≡ whyNotCode (now (code .entry)) 64 (length (now (out .entry))) ⌝ }
+    ensures { λ _. ⌜ now (out .exit) ≡ filled (whyNotCode (now (code .entry)) 64 (length (now (out .entry))))
+        (toRings (now (code .entry))) (now (out .entry)) ⌝ }
+{
+    measure_iris::to_rings(code, out)
+}
+
+// From our order to the scanner's.
+#[no_mangle]
+pub extern "C" fn door_iris_to_angles(code: &[u8], out: &mut [u8]) -> u32
+    ensures { λ r. ⌜ r ≡ whyNotCode (now (code .entry)) 64 (length (now (out .entry))) ⌝ }
+    ensures { λ _. ⌜ now (out .exit) ≡ filled (whyNotCode (now (code .entry)) 64 (length (now (out .entry))))
+        (toAngles (now (code .entry))) (now (out .entry)) ⌝ }
+{
+    measure_iris::to_angles(code, out)
+}
+
+// The vector whose element i is bit i of the code: 512 words to the start of out.
+#[no_mangle]
+pub extern "C" fn door_iris_unpack(code: &[u8], out: &mut [u32]) -> u32
+    ensures { λ r. ⌜ r ≡ whyNotCode (now (code .entry)) 512 (length (now (out .entry))) ⌝ }
+    ensures { λ _. ⌜ now (out .exit) ≡ filled (whyNotCode (now (code .entry)) 512 (length (now (out .entry))))
+        (unpacked (now (code .entry))) (now (out .entry)) ⌝ }
+{
+    measure_iris::unpack(code, out)
+}
+
+// The code whose bit i is element i of the vector: 64 bytes to the start of out.
+#[no_mangle]
+pub extern "C" fn door_iris_pack(v: &[u32], out: &mut [u8]) -> u32
+    ensures { λ r. ⌜ r ≡ whyNotVector (now (v .entry)) (length (now (out .entry))) ⌝ }
+    ensures { λ _. ⌜ now (out .exit) ≡ filled (whyNotVector (now (v .entry)) (length (now (out .entry))))
+        (packed (now (v .entry))) (now (out .entry)) ⌝ }
+{
+    measure_iris::pack(v, out)
+}
+
+// In how many bits two codes of one order differ.
+#[no_mangle]
+pub extern "C" fn door_iris_hamming(a: &[u8], b: &[u8]) -> HammingAnswer
+    ensures { λ r. ⌜ r ≡ hamming (now (a .entry)) (now (b .entry)) ⌝ }
+{
+    measure_iris::hamming(a, b)
 }

@@ -18,7 +18,7 @@ use Rattle.base_algebra.specs.Integer.{residue, residue-pos, residue-mul, ring�
 use Rattle.base_algebra.specs.Ring.{ring}
 use Rattle.base_algebra.specs.Word.{words, add, sub, neg, mul, signed, _≈_, mul≈, neg≈, neg-lt, sub-lt, signed≈}
 use Rattle.base_algebra.specs.Word.{same-word}
-use Rattle.base_algebra.specs.Sum.{sum, sumℤ, sum≈, sum-lt}
+use Rattle.base_algebra.specs.Sum.{sum, sumℤ, sum≈, sum-lt, sumℤ-ext}
 use Rattle.base_algebra.specs.Bit.{only, less, both, neither}
 use Rattle.measure_table.specs.declared.Terms.{Terms}
 use Rattle.measure_table.specs.declared.Rule.{Rule}
@@ -275,6 +275,20 @@ module _ (r : Row) (h : ℕ) (s : r .squares ≡ true) (two : r .k ≡ negℤ (p
       subst (λ (z : ℤ). Le z (pos (h * h))) (sym (squared x y))
       (product-most (pos h) (x -ℤ y) (x -ℤ y) (apart-down x y i j)
       (apart-up x y i j) (apart-down x y i j) (apart-up x y i j))
+
+-- so a distance is the sum of the squared differences
+pub distance-sum : (terms : Terms) → (terms .code ≡ 0 → ⊥) → (x y : List ℕ)
+    → measure terms x y ≡ sumℤ (λ i. (element x i -ℤ element y i) *ℤ (element x i -ℤ element y i)) (terms .n)
+unfolding row squaredEuclid hamming
+distance-sum terms h x y =
+    one-sum terms x y
+    ∙ sumℤ-ext _ (λ i. (element x i -ℤ element y i) *ℤ (element x i -ℤ element y i)) (terms .n)
+    (λ i l. go (terms .code) h (element x i) (element y i))
+  where
+    go : (code : ℕ) → (code ≡ 0 → ⊥) → (a b : ℤ) → term (row code) a b ≡ (a -ℤ b) *ℤ (a -ℤ b)
+    go zero h a b = absurd (h refl)
+    go (suc zero) h a b = squared squaredEuclid 2047 refl refl refl a b
+    go (suc (suc code)) h a b = squared hamming 1 refl refl refl a b
 
 bounded : (code : ℕ) → Bounded (row code)
 unfolding row scalarProduct squaredEuclid hamming term part

@@ -1,0 +1,3 @@
+pub mod Iris
+pub mod Bits
+pub mod Laws
