@@ -123,11 +123,12 @@ static size_t from(bool at_end, size_t size)
 /* The four calls that write. */
 
 struct writer {
+    const char *name;
     uint32_t (*call)(const void *in, size_t length, void *out, size_t room);
     void (*formula)(const void *in, void *out);
-    size_t takes, in_size;     /* elements, and bytes of one */
-    size_t writes, out_size;   /* the same */
-    size_t lengths, rooms;     /* the most that are tried */
+    size_t takes, in_size;   /* elements, and bytes of one */
+    size_t writes, out_size; /* the same */
+    size_t lengths, rooms;   /* the most that are tried */
 };
 
 static uint32_t call_to_rings(const void *in, size_t length, void *out, size_t room)
@@ -153,10 +154,12 @@ static uint32_t call_pack(const void *in, size_t length, void *out, size_t room)
 enum { TO_RINGS, TO_ANGLES, UNPACK, PACK, WRITERS };
 
 static const struct writer WRITER[WRITERS] = {
-    [TO_RINGS] = {call_to_rings, to_rings, BYTES, 1, BYTES, 1, BYTES_TRIED, BYTES_TRIED},
-    [TO_ANGLES] = {call_to_angles, to_angles, BYTES, 1, BYTES, 1, BYTES_TRIED, BYTES_TRIED},
-    [UNPACK] = {call_unpack, unpack, BYTES, 1, BITS, 4, BYTES_TRIED, WORDS_TRIED},
-    [PACK] = {call_pack, pack, BITS, 4, BYTES, 1, WORDS_TRIED, BYTES_TRIED},
+    [TO_RINGS] = {
+        "to rings", call_to_rings, to_rings, BYTES, 1, BYTES, 1, BYTES_TRIED, BYTES_TRIED},
+    [TO_ANGLES] = {
+        "to angles", call_to_angles, to_angles, BYTES, 1, BYTES, 1, BYTES_TRIED, BYTES_TRIED},
+    [UNPACK] = {"unpack", call_unpack, unpack, BYTES, 1, BITS, 4, BYTES_TRIED, WORDS_TRIED},
+    [PACK] = {"pack", call_pack, pack, BITS, 4, BYTES, 1, WORDS_TRIED, BYTES_TRIED},
 };
 
 /* How long what is lent is said to be, in elements, and where on their pages it begins. */
@@ -165,18 +168,18 @@ struct lent {
 };
 
 /* The call answers this. If it is accepted, what it writes is the formula's; nothing else changes,
-   and if it is refused, nothing at all. */
+   and if it is refused, nothing at all. What is not so is told with the call's name. */
 static void says_at(const struct writer *w, const void *in, struct lent l, uint32_t why)
 {
     const void *lent = lend(&first, l.in_from, in, w->in_size * l.length);
     void *room = lend(&output, l.out_from, NULL, 0);
-    EXPECT(w->call(lent, l.length, room, l.room) == why);
+    expect(w->call(lent, l.length, room, l.room) == why, w->name, __FILE__, __LINE__);
     if (why == DOOR_ACCEPTED) {
         uint32_t made[BITS];
         w->formula(in, made);
         memcpy(output.expected + l.out_from, made, w->writes * w->out_size);
     }
-    EXPECT(stays(&first) && stays(&output));
+    expect(stays(&first) && stays(&output), w->name, __FILE__, __LINE__);
 }
 
 /* At the beginning of both pages, and at the end of both. */
