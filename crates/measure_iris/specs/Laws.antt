@@ -2,12 +2,12 @@
 -- one by one, and what an accepted code or vector is. Assumes nothing. [SPEC 24.14 to 24.17, 35.5, 35.6, 35.10]
 use mathlib.Core.Path.{_≡_, refl, sym, ap, ap₂, _∙_}
 use mathlib.Core.Bool.{Bool, true, false, cond, not, _&&_}
-use mathlib.Core.List.{List}
-use Prim.Native.Nat.{ℕ, suc, _+_, _*_, _/_, _%_, _^_, _<_, _≤_}
+use mathlib.Core.List.{List, [], _∷_}
+use Prim.Native.Nat.{ℕ, zero, suc, _+_, _*_, _/_, _%_, _^_, _<_, _≤_}
 use native.Mathlib.Omega.{arith}
 use borrow.Author.Tests.{eqb-true, leb-true, ltb-true, ltb-false, eq-eqb, ne-eqb, le-leb, lt-leb, not-false}
-use lib.Dec.{eqb, ltb, leb}
-use lib.IntN.{ℤ, pos, negsuc}
+use lib.Dec.{ltb}
+use lib.IntN.{ℤ, pos}
 use lib.ListN.{length, getD, set}
 use lib.Signed.{leZ}
 use Rattle.base_algebra.specs.Bit.{both, neither}
@@ -46,6 +46,17 @@ bit-in-range w l h = go (ltb w (2 ^ 31)) refl (both (leZ (pos 0) (signed w)) (le
         let high = ap (λ (z : ℤ). leZ z (pos 1)) (signed-low w (ltb-true w (2 ^ 31) e)) in
         omega (arith, leb-true w 1 (sym high ∙ t .1))
     go false e t = neither (ap (leZ (pos 0)) (sym (signed-high w (ltb-false w (2 ^ 31) e) l)) ∙ t .0)
+
+-- and 0 and 1 are
+pub bits-in-range : (v : List ℕ) → ((i : ℕ) → getD v i 0 < 2) → allInRange irisTerms v ≡ true
+unfolding allInRange inRange within row Measure.hamming signed
+bits-in-range [] h = refl
+bits-in-range (w ∷ v) h = ap₂ _&&_ (one w (h 0)) (bits-in-range v (λ i. h (suc i)))
+  where
+    one : (w : ℕ) → w < 2 → leZ (pos 0) (signed w) && leZ (signed w) (pos 1) ≡ true
+    one zero l = refl
+    one (suc zero) l = refl
+    one (suc (suc w)) l = absurd (omega arith)
 
 pub vector-fits : (v : List ℕ) (room : ℕ) → ((i : ℕ) → getD v i 0 < 2 ^ 32) → whyNotVector v room ≡ 0
     → Vector v × (codeBytes ≤ room)

@@ -1,3 +1,4 @@
 pub mod Iris
 pub mod Bits
 pub mod Laws
+pub mod Claims

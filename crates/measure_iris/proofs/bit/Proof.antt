@@ -5,26 +5,19 @@ use Rattle.measure_iris.specs.Iris.{bit}
 use borrow.Author.Needs.{needs}
 use Rattle.measure_iris.proofs.bit.Statement.{statement}
 use Rattle.measure_iris.proofs.bit.Tie as tie
-use Rattle.measure_iris.proofs.bit.Reads as reads
-use Rattle.measure_iris.proofs.bit.Lts as lts
 
--- src/lib.rt:42:6
 shared-slice-read-result : tie.Need-shared-slice-read-result
 shared-slice-read-result c = search needs
 
--- src/lib.rt:42:6
 cast-result : tie.Need-cast-result
 cast-result c = record { fits = omega (arith, c .shared-slice-known .given (c .before .args .i / 8)) }
 
--- src/lib.rt:42:29
 cast-result-2 : tie.Need-cast-result-2
 cast-result-2 c = search needs
 
--- src/lib.rt:42:6
 shr-result : tie.Need-shr-result
 shr-result c = search needs
 
--- src/lib.rt:38:1
 returns : tie.Need-returns
 unfolding bit
 returns c = (refl, omega arith)

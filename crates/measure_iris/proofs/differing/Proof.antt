@@ -9,8 +9,6 @@ use Rattle.measure_iris.specs.Iris.{distance}
 use borrow.Author.Needs.{needs}
 use Rattle.measure_iris.proofs.differing.Statement.{statement}
 use Rattle.measure_iris.proofs.differing.Tie as tie
-use Rattle.measure_iris.proofs.differing.Reads as reads
-use Rattle.measure_iris.proofs.differing.Lts as lts
 
 abbrev Inv-loop : tie.InvT-loop
 Inv-loop a b n₀ j₀ n j = (j ≤ 64) × (n ≡ sumℕ (λ i. ones (bitXor (getD a i 0) (getD b i 0))) j) × (n ≤ 8 * j)
@@ -18,20 +16,16 @@ Inv-loop a b n₀ j₀ n j = (j ≤ 64) × (n ≡ sumℕ (λ i. ones (bitXor (ge
 abbrev μ-loop : tie.MeasureT-loop
 μ-loop a b n₀ j₀ n j = 64 - j
 
--- src/lib.rt:130:5
 loop-holds : tie.Need-loop-holds Inv-loop μ-loop
 unfolding sumℕ
 loop-holds c = (search needs, refl, search needs)
 
--- src/lib.rt:131:29
 shared-slice-read-n : tie.Need-shared-slice-read-n Inv-loop μ-loop
 shared-slice-read-n c = search needs
 
--- src/lib.rt:131:36
 shared-slice-read-n-2 : tie.Need-shared-slice-read-n-2 Inv-loop μ-loop
 shared-slice-read-n-2 c = search needs
 
--- src/lib.rt:131:9
 add-n : tie.Need-add-n Inv-loop μ-loop
 add-n c =
     let at = c .before .before .before in
@@ -43,15 +37,12 @@ add-n c =
     (omega (arith, c .before .shared-slice-known .given j)) (omega (arith, c .shared-slice-known2 .given j))) in
     record { fits = omega (arith, few) }
 
--- src/lib.rt:132:9
 add-j : tie.Need-add-j Inv-loop μ-loop
 add-j c = search needs
 
--- src/lib.rt:130:5
 loop-less : tie.Need-loop-less Inv-loop μ-loop
 loop-less c = search needs
 
--- src/lib.rt:130:5
 loop-again : tie.Need-loop-again Inv-loop μ-loop
 loop-again c =
     let at = c .before .before .before in
@@ -63,7 +54,6 @@ loop-again c =
     (omega (arith, c .before .shared-slice-known .given j)) (omega (arith, c .shared-slice-known2 .given j))) in
     (search needs, omega (arith, sumℕ-more (λ i. ones (bitXor (getD a i 0) (getD b i 0))) j), omega (arith, few))
 
--- src/lib.rt:124:1
 returns : tie.Need-returns Inv-loop μ-loop
 unfolding distance
 returns c =

@@ -9,9 +9,6 @@ use Rattle.measure_iris.specs.Laws.{store-more}
 use borrow.Author.Needs.{needs}
 use Rattle.measure_iris.proofs.gather.Statement.{statement}
 use Rattle.measure_iris.proofs.gather.Tie as tie
-use Rattle.measure_iris.proofs.gather.Reads as reads
-use Rattle.measure_iris.proofs.gather.Lts as lts
-use Rattle.measure_iris.proofs.packed_byte.Reads as packed-byte-reads
 
 abbrev Inv-loop : tie.InvT-loop
 Inv-loop v out₀ j₀ out j =
@@ -20,28 +17,22 @@ Inv-loop v out₀ j₀ out j =
 abbrev μ-loop : tie.MeasureT-loop
 μ-loop v out₀ j₀ out j = 64 - j
 
--- src/lib.rt:117:5
 loop-holds : tie.Need-loop-holds Inv-loop μ-loop
 unfolding over tab
 loop-holds c = (search needs, refl, refl)
 
--- src/lib.rt:118:18
 packed-byte-requires : tie.Need-packed-byte-requires Inv-loop μ-loop
 packed-byte-requires c κs = (search needs, search needs, c .before .before .before .before .pre .1)
 
--- src/lib.rt:118:9
 slice-write-out : tie.Need-slice-write-out Inv-loop μ-loop
 slice-write-out c = search needs
 
--- src/lib.rt:119:9
 add-j : tie.Need-add-j Inv-loop μ-loop
 add-j c = search needs
 
--- src/lib.rt:117:5
 loop-less : tie.Need-loop-less Inv-loop μ-loop
 loop-less c = search needs
 
--- src/lib.rt:117:5
 loop-again : tie.Need-loop-again Inv-loop μ-loop
 loop-again c =
     let at = c .before .before in
@@ -49,11 +40,9 @@ loop-again c =
     let byte : ℕ → ℕ = λ m. fromBits (λ i. getD v i 0) (8 * m) 8 in
     (search needs, store-more byte _ _ _ _ (c .packed-byte .ensures) (at .loop .inv .1), simp length-set (omega arith))
 
--- src/lib.rt:112:1
 same-length : tie.Need-same-length Inv-loop μ-loop
 same-length c = search needs
 
--- src/lib.rt:112:1
 returns : tie.Need-returns Inv-loop μ-loop
 unfolding codeOf packed
 returns c =

@@ -1,23 +1,16 @@
 use mathlib.Core.Path.{refl}
 use Rattle.measure_iris.specs.Laws.{pair-refused, pair-taken, pair-long}
-use borrow.Author.Needs.{needs}
 use Rattle.measure_iris.proofs.hamming.Statement.{statement}
 use Rattle.measure_iris.proofs.hamming.Tie as tie
-use Rattle.measure_iris.proofs.hamming.Reads as reads
-use Rattle.measure_iris.proofs.hamming.Lts as lts
-use Rattle.measure_iris.proofs.differing.Reads as differing-reads
 
--- src/lib.rt:231:9
 returns : tie.Need-returns
 returns c = pair-refused _ _ refl (c .if1 .taken)
 
--- src/lib.rt:238:19
 differing-requires : tie.Need-differing-requires
 differing-requires c κs =
     let start = c .before .before .before in
     pair-long (start .args .a .now) (start .args .b .now) refl (c .if1 .left)
 
--- src/lib.rt:226:1
 returns-2 : tie.Need-returns-2
 returns-2 c = pair-taken _ _ refl (c .before .if1 .left) _ (c .differing .ensures)
 

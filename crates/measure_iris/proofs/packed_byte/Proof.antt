@@ -1,4 +1,4 @@
-use mathlib.Core.Path.{_≡_, sym, ap, _∙_}
+use mathlib.Core.Path.{_≡_}
 use Prim.Native.Nat.{ℕ, _+_, _*_, _-_, _<_, _≤_}
 use native.Mathlib.Omega.{arith}
 use lib.ListN.{getD}
@@ -7,8 +7,6 @@ use Rattle.measure_iris.specs.Bits.{byte-start, byte-more, byte-lt}
 use borrow.Author.Needs.{needs}
 use Rattle.measure_iris.proofs.packed_byte.Statement.{statement}
 use Rattle.measure_iris.proofs.packed_byte.Tie as tie
-use Rattle.measure_iris.proofs.packed_byte.Reads as reads
-use Rattle.measure_iris.proofs.packed_byte.Lts as lts
 
 abbrev Inv-loop : tie.InvT-loop
 Inv-loop v j byte₀ k₀ byte k = (k ≤ 8) × (byte ≡ fromBits (λ i. getD v i 0) (8 * j + k) (8 - k)) × (byte < 256)
@@ -16,63 +14,51 @@ Inv-loop v j byte₀ k₀ byte k = (k ≤ 8) × (byte ≡ fromBits (λ i. getD v
 abbrev μ-loop : tie.MeasureT-loop
 μ-loop v j byte₀ k₀ byte k = k
 
--- src/lib.rt:104:5
 loop-holds : tie.Need-loop-holds Inv-loop μ-loop
 loop-holds c = (search needs, byte-start _ _, search needs)
 
--- src/lib.rt:105:9
 sub-k : tie.Need-sub-k Inv-loop μ-loop
 sub-k c = search needs
 
--- src/lib.rt:106:16
 mul-byte : tie.Need-mul-byte Inv-loop μ-loop
 mul-byte c = search needs
 
--- src/lib.rt:106:29
 mul-byte-2 : tie.Need-mul-byte-2 Inv-loop μ-loop
 mul-byte-2 c = search needs
 
--- src/lib.rt:106:29
 add-byte : tie.Need-add-byte Inv-loop μ-loop
 add-byte c = search needs
 
--- src/lib.rt:106:27
 mul-byte-3 : tie.Need-mul-byte-3 Inv-loop μ-loop
 mul-byte-3 c = search needs
 
--- src/lib.rt:106:27
 shared-slice-read-byte : tie.Need-shared-slice-read-byte Inv-loop μ-loop
 shared-slice-read-byte c = search needs
 
--- src/lib.rt:106:16
 add-byte-2 : tie.Need-add-byte-2 Inv-loop μ-loop
 add-byte-2 c =
     let at = c .before .before in
     let start = at .before in
     record { fits = omega (arith, start .pre .2 (8 * start .args .j + (at .loop .k - 1))) }
 
--- src/lib.rt:104:5
 loop-less : tie.Need-loop-less Inv-loop μ-loop
 loop-less c = search needs
 
--- src/lib.rt:104:5
 loop-again : tie.Need-loop-again Inv-loop μ-loop
 loop-again c =
     let at = c .before .before in
     let start = at .before in
     let v = start .args .v .now in
     let j = start .args .j in
-    let more = byte-more (λ i. getD v i 0) j (at .loop .k) _ (omega arith) (omega arith) (at .loop .inv .1) in (
-      search needs,
-      more,
-      omega (arith, more, byte-lt (λ i. getD v i 0) (start .pre .2) (8 - (at .loop .k - 1)) (8 * j + (at .loop .k - 1)) (omega arith)),
-    )
+    let k = at .loop .k in
+    let f : ℕ → ℕ = λ i. getD v i 0 in
+    let more = byte-more f j k _ (omega arith) (omega arith) (at .loop .inv .1) in
+    let small = byte-lt f (start .pre .2) (8 - (k - 1)) (8 * j + (k - 1)) (omega arith) in
+    (search needs, more, omega (arith, more, small))
 
--- src/lib.rt:108:5
 cast-result : tie.Need-cast-result Inv-loop μ-loop
 cast-result c = search needs
 
--- src/lib.rt:98:1
 returns : tie.Need-returns Inv-loop μ-loop
 returns c =
     let at = c .before in

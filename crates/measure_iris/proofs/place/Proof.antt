@@ -3,30 +3,22 @@ use Rattle.measure_iris.specs.Laws.{place-ours, place-sent}
 use borrow.Author.Needs.{needs}
 use Rattle.measure_iris.proofs.place.Statement.{statement}
 use Rattle.measure_iris.proofs.place.Tie as tie
-use Rattle.measure_iris.proofs.place.Reads as reads
-use Rattle.measure_iris.proofs.place.Lts as lts
 
--- src/lib.rt:52:9
 mul-result : tie.Need-mul-result
 mul-result c = search needs
 
--- src/lib.rt:52:9
 add-result : tie.Need-add-result
 add-result c = search needs
 
--- src/lib.rt:54:9
 mul-result-2 : tie.Need-mul-result-2
 mul-result-2 c = search needs
 
--- src/lib.rt:54:9
 add-result-2 : tie.Need-add-result-2
 add-result-2 c = search needs
 
--- src/lib.rt:47:1
 returns : tie.Need-returns
 returns c = (place-ours _ _ (c .if1 .taken), omega arith)
 
--- src/lib.rt:47:1
 returns-2 : tie.Need-returns-2
 returns-2 c = (place-sent _ _ (c .if1 .left), omega arith)
 

@@ -8,9 +8,6 @@ use Rattle.measure_iris.specs.Laws.{placeFor, store-more}
 use borrow.Author.Needs.{needs}
 use Rattle.measure_iris.proofs.rearrange.Statement.{statement}
 use Rattle.measure_iris.proofs.rearrange.Tie as tie
-use Rattle.measure_iris.proofs.rearrange.Reads as reads
-use Rattle.measure_iris.proofs.rearrange.Lts as lts
-use Rattle.measure_iris.proofs.rearranged_byte.Reads as rearranged-byte-reads
 
 abbrev Inv-loop : tie.InvT-loop
 Inv-loop ours code out₀ j₀ out j =
@@ -20,28 +17,22 @@ Inv-loop ours code out₀ j₀ out j =
 abbrev μ-loop : tie.MeasureT-loop
 μ-loop ours code out₀ j₀ out j = 64 - j
 
--- src/lib.rt:79:5
 loop-holds : tie.Need-loop-holds Inv-loop μ-loop
 unfolding over tab
 loop-holds c = (search needs, refl, refl)
 
--- src/lib.rt:80:18
 rearranged-byte-requires : tie.Need-rearranged-byte-requires Inv-loop μ-loop
 rearranged-byte-requires c κs = search needs
 
--- src/lib.rt:80:9
 slice-write-out : tie.Need-slice-write-out Inv-loop μ-loop
 slice-write-out c = search needs
 
--- src/lib.rt:81:9
 add-j : tie.Need-add-j Inv-loop μ-loop
 add-j c = search needs
 
--- src/lib.rt:79:5
 loop-less : tie.Need-loop-less Inv-loop μ-loop
 loop-less c = search needs
 
--- src/lib.rt:79:5
 loop-again : tie.Need-loop-again Inv-loop μ-loop
 loop-again c =
     let at = c .before .before in
@@ -52,11 +43,9 @@ loop-again c =
       simp length-set (omega arith),
     )
 
--- src/lib.rt:73:1
 same-length : tie.Need-same-length Inv-loop μ-loop
 same-length c = search needs
 
--- src/lib.rt:73:1
 returns : tie.Need-returns Inv-loop μ-loop
 unfolding codeOf
 returns c =

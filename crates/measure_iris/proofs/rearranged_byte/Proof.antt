@@ -1,4 +1,4 @@
-use mathlib.Core.Path.{_≡_, sym, ap, _∙_}
+use mathlib.Core.Path.{_≡_, ap, _∙_}
 use Prim.Native.Nat.{ℕ, _+_, _*_, _-_, _<_, _≤_}
 use native.Mathlib.Omega.{arith}
 use Rattle.measure_iris.specs.Iris.{bit, fromBits}
@@ -7,54 +7,41 @@ use Rattle.measure_iris.specs.Bits.{byte-start, byte-more, byte-lt, bit-
 use borrow.Author.Needs.{needs}
 use Rattle.measure_iris.proofs.rearranged_byte.Statement.{statement}
 use Rattle.measure_iris.proofs.rearranged_byte.Tie as tie
-use Rattle.measure_iris.proofs.rearranged_byte.Reads as reads
-use Rattle.measure_iris.proofs.rearranged_byte.Lts as lts
-use Rattle.measure_iris.proofs.bit.Reads as bit-reads
-use Rattle.measure_iris.proofs.place.Reads as place-reads
 
 abbrev Inv-loop : tie.InvT-loop
-Inv-loop ours code j byte₀ k₀ byte k = (k ≤ 8) × (byte ≡ fromBits (λ i. bit code (placeFor ours i)) (8 * j + k) (8 - k)) × (byte < 256)
+Inv-loop ours code j byte₀ k₀ byte k =
+    (k ≤ 8) × (byte ≡ fromBits (λ i. bit code (placeFor ours i)) (8 * j + k) (8 - k)) × (byte < 256)
 
 abbrev μ-loop : tie.MeasureT-loop
 μ-loop ours code j byte₀ k₀ byte k = k
 
--- src/lib.rt:65:5
 loop-holds : tie.Need-loop-holds Inv-loop μ-loop
 loop-holds c = (search needs, byte-start _ _, search needs)
 
--- src/lib.rt:66:9
 sub-k : tie.Need-sub-k Inv-loop μ-loop
 sub-k c = search needs
 
--- src/lib.rt:67:16
 mul-byte : tie.Need-mul-byte Inv-loop μ-loop
 mul-byte c = search needs
 
--- src/lib.rt:67:49
 mul-place : tie.Need-mul-place Inv-loop μ-loop
 mul-place c = search needs
 
--- src/lib.rt:67:49
 add-place : tie.Need-add-place Inv-loop μ-loop
 add-place c = search needs
 
--- src/lib.rt:67:37
 place-requires : tie.Need-place-requires Inv-loop μ-loop
 place-requires c κs = search needs
 
--- src/lib.rt:67:27
 bit-requires : tie.Need-bit-requires Inv-loop μ-loop
 bit-requires c κs = search needs
 
--- src/lib.rt:67:16
 add-byte : tie.Need-add-byte Inv-loop μ-loop
 add-byte c = search needs
 
--- src/lib.rt:65:5
 loop-less : tie.Need-loop-less Inv-loop μ-loop
 loop-less c = search needs
 
--- src/lib.rt:65:5
 loop-again : tie.Need-loop-again Inv-loop μ-loop
 loop-again c =
     let at = c .before .before .before in
@@ -66,17 +53,13 @@ loop-again c =
     let f : ℕ → ℕ = λ i. bit code (placeFor ours i) in
     let more = byte-more f j k _ (omega arith) (omega arith) (at .loop .inv .1) in
     let next = c .bit .ensures .0 ∙ ap (bit code) (c .before .place .ensures .0) in
-    let all = ap (λ (b : ℕ). 2 * at .loop .byte + b) next ∙ more in (
-      search needs,
-      all,
-      omega (arith, all, byte-lt f (λ i. bit-lt code (placeFor ours i)) (8 - (k - 1)) (8 * j + (k - 1)) (omega arith)),
-    )
+    let all = ap (λ (b : ℕ). 2 * at .loop .byte + b) next ∙ more in
+    let small = byte-lt f (λ i. bit-lt code (placeFor ours i)) (8 - (k - 1)) (8 * j + (k - 1)) (omega arith) in
+    (search needs, all, omega (arith, all, small))
 
--- src/lib.rt:69:5
 cast-result : tie.Need-cast-result Inv-loop μ-loop
 cast-result c = search needs
 
--- src/lib.rt:59:1
 returns : tie.Need-returns Inv-loop μ-loop
 returns c =
     let at = c .before in

@@ -8,9 +8,6 @@ use Rattle.measure_iris.specs.Laws.{store-more}
 use borrow.Author.Needs.{needs}
 use Rattle.measure_iris.proofs.spread.Statement.{statement}
 use Rattle.measure_iris.proofs.spread.Tie as tie
-use Rattle.measure_iris.proofs.spread.Reads as reads
-use Rattle.measure_iris.proofs.spread.Lts as lts
-use Rattle.measure_iris.proofs.bit.Reads as bit-reads
 
 abbrev Inv-loop : tie.InvT-loop
 Inv-loop code out₀ i₀ out i = (i ≤ 512) × (out ≡ over 0 (tab (bit code) i) out₀) × (length out ≡ length out₀)
@@ -18,43 +15,34 @@ Inv-loop code out₀ i₀ out i = (i ≤ 512) × (out ≡ over 0 (tab (bit code)
 abbrev μ-loop : tie.MeasureT-loop
 μ-loop code out₀ i₀ out i = 512 - i
 
--- src/lib.rt:91:5
 loop-holds : tie.Need-loop-holds Inv-loop μ-loop
 unfolding over tab
 loop-holds c = (search needs, refl, refl)
 
--- src/lib.rt:92:18
 bit-requires : tie.Need-bit-requires Inv-loop μ-loop
 bit-requires c κs = search needs
 
--- src/lib.rt:92:9
 mul-out : tie.Need-mul-out Inv-loop μ-loop
 mul-out c = search needs
 
--- src/lib.rt:92:9
 slice-write-out : tie.Need-slice-write-out Inv-loop μ-loop
 slice-write-out c = search needs
 
--- src/lib.rt:93:9
 add-i : tie.Need-add-i Inv-loop μ-loop
 add-i c = search needs
 
--- src/lib.rt:91:5
 loop-less : tie.Need-loop-less Inv-loop μ-loop
 loop-less c = search needs
 
--- src/lib.rt:91:5
 loop-again : tie.Need-loop-again Inv-loop μ-loop
 loop-again c =
     let at = c .before .before in
     let code = at .before .before .before .args .code .now in
     (search needs, store-more (bit code) _ _ _ _ (c .bit .ensures .0) (at .loop .inv .1), simp length-set (omega arith))
 
--- src/lib.rt:86:1
 same-length : tie.Need-same-length Inv-loop μ-loop
 same-length c = search needs
 
--- src/lib.rt:86:1
 returns : tie.Need-returns Inv-loop μ-loop
 unfolding unpacked
 returns c =

@@ -1,19 +1,13 @@
 use Rattle.measure_iris.specs.Laws.{not-code, code-room, code-taken}
-use borrow.Author.Needs.{needs}
 use Rattle.measure_iris.proofs.why_not_code.Statement.{statement}
 use Rattle.measure_iris.proofs.why_not_code.Tie as tie
-use Rattle.measure_iris.proofs.why_not_code.Reads as reads
-use Rattle.measure_iris.proofs.why_not_code.Lts as lts
 
--- src/lib.rt:142:9
 returns : tie.Need-returns
 returns c = not-code _ _ _ (c .if1 .taken)
 
--- src/lib.rt:145:9
 returns-2 : tie.Need-returns-2
 returns-2 c = code-room _ _ _ (c .before .if1 .left) (c .if2 .taken)
 
--- src/lib.rt:138:1
 returns-3 : tie.Need-returns-3
 returns-3 c = code-taken _ _ _ (c .before .if1 .left) (c .if2 .left)
 
