@@ -1,14 +1,16 @@
-//! Hands the linker the archives that tools/levels makes, and cargo their names.
+//! Hands the linker the archives that tools/levels makes, and what bench/run compiles of plain C, and
+//! cargo their names.
 
 use std::env;
 use std::path::Path;
 
 const LEVELS: [&str; 3] = ["x86-64", "x86-64-v3", "x86-64-v4"];
-const ARCHIVES: [&str; 4] = [
+const ARCHIVES: [&str; 5] = [
     "libbench_cipher.a",
     "libbench_check.a",
     "libc_door.a",
     "libc_lock.a",
+    "plain.o",
 ];
 
 fn main() {

@@ -4,8 +4,8 @@
  * x86-64-v3 and x86-64-v4, and takes the best that the machine has when the program is loaded; the
  * environment variable DOOR_LEVEL, set to one of these names, holds it to a lower one. It needs
  * memcpy, memset and getenv and nothing else; it allocates nothing and keeps nothing between calls,
- * so calls on different states may run at the same time. A call was seen to take up to 70 KB of
- * stack, the states by value with it: have DOOR_STACK bytes left.
+ * so calls on different states, or on none, may run at the same time. A call was seen to take up to
+ * 70 KB of stack, the states by value with it: have DOOR_STACK bytes left.
  *
  * States. A dealer, a box and a lock are plain values. A call takes the state by value and its answer
  * holds the next one: keep that, and hand it to the next call on the same part.
@@ -28,6 +28,10 @@
  *
  * Trial. door_trial says whether a half would be taken, and of which door, measure and length it
  * is, before anyone drives out with it. Nothing is spent: a half that was tried can be loaded.
+ *
+ * Iris codes. A scanner's code of 64 bytes becomes the vector of a check by door_iris_to_rings and
+ * door_iris_unpack. The five calls door_iris_* are on no part: they take no state, answer none, and
+ * may be made at any time. In all other calls a code is a measure's (enum door_code).
  *
  * Older sets. Every set that an older version of this library dealt must be scrapped, of every
  * code. Neither door_load nor door_trial takes an older half: it is refused by 11, if by no earlier
@@ -56,6 +60,8 @@
  * changes nothing: the answer holds the state that was handed in, its word is 0, and every buffer is
  * as it was. So `box = a.party` is right either way. A refused start has no state to hand back: the
  * one in its answer is all zero. A trial has none in its answer; what a refused one tells is zero.
+ * Of the calls on iris codes four return `why` alone, without a struct; a refused door_iris_hamming
+ * tells the distance 0.
  *
  * Buffers. A slice is a pointer and the number of its elements, not of its bytes. It is lent for
  * the call alone. What is const is only read; in a buffer that is not, an accepted call writes
@@ -113,9 +119,10 @@ enum door_refusal {
        tested. */
     DOOR_OUT_OF_TURN = 3,
     /* Key or seed is not 32 bytes, a message's name not 16, L not 1 to 512, a vector not the set's
-       L, or a half not 3 to 16 whole blocks. */
+       L, or a half not 3 to 16 whole blocks; a packed iris code is not 64 bytes, or an unpacked one
+       not 512 words. */
     DOOR_WRONG_LENGTH = 4,
-    /* An output buffer is shorter than what will be written. */
+    /* An output buffer is shorter than what will be written; longer is taken. */
     DOOR_SHORT_BUFFER = 5,
     /* A message of another kind or door, or of another sender than the one expected. */
     DOOR_WRONG_MESSAGE = 6,
@@ -124,7 +131,8 @@ enum door_refusal {
        between two joined answers. */
     DOOR_WRONG_NUMBER = 7,
     /* An element, a threshold, P or Q is outside its measure's range; by the clock it is the chosen
-       row's threshold, and a minute of DOOR_DAY or above is refused so too. */
+       row's threshold, and a minute of DOOR_DAY or above is refused so too. Where an iris code is
+       packed, an element is neither 0 nor 1. */
     DOOR_OUT_OF_RANGE = 8,
     /* The dealer starts with two equal keys. */
     DOOR_EQUAL_KEYS = 9,
@@ -177,8 +185,8 @@ enum door_kind {
     DOOR_ANSWER = 2         /* sent by door_finish, taken by the lock */
 };
 
-/* The structs of the crates base_messages, measure_table, dcf_node, half_content, call_dealer,
-   call_party and call_lock, all #[repr(C)]. */
+/* The structs of the crates base_messages, measure_table, measure_iris, dcf_node, half_content,
+   call_dealer, call_party and call_lock, all #[repr(C)]. */
 
 /* Who a box is. */
 struct door_identity {
@@ -286,7 +294,8 @@ struct door_lock_answer {
 /* What door_iris_hamming answers. */
 struct door_hamming_answer {
     uint32_t why;
-    uint32_t distance; /* accepted: in how many bits the two codes differ, 0 to 512; refused: 0 */
+    uint32_t distance; /* accepted: in how many bits the two codes differ, 0 to 512; refused: 0,
+                          which is also the distance of equal codes: look at why first */
 };
 
 /*
@@ -466,44 +475,6 @@ struct door_lock_answer door_join(
     uint32_t answer1);
 
 /*
- * Iris codes. A code has 512 bits, for each of 64 angles and 8 rings one. It is packed in 64 bytes,
- * where bit i is bit i % 8 of byte i / 8, the lowest first. The scanner sends it angle by angle, at
- * bit angle * 8 + ring; we store it ring by ring, at bit ring * 64 + angle. These calls are on no
- * part: they take no state. Those that write return why not: 0 or the refusal's number.
- *
- * From the scanner's order to ours, 64 bytes to out. Refusals: 4, 5.
- */
-uint32_t door_iris_to_rings(
-    const uint8_t *code, size_t code_len,
-    uint8_t *out, size_t out_len);
-
-/* From our order to the scanner's, 64 bytes to out. Refusals: 4, 5. */
-uint32_t door_iris_to_angles(
-    const uint8_t *code, size_t code_len,
-    uint8_t *out, size_t out_len);
-
-/*
- * The vector for DOOR_HAMMING with L 512: 512 words to out, element i is bit i of the bytes as they
- * stand, in whichever order. Refusals: 4, 5.
- */
-uint32_t door_iris_unpack(
-    const uint8_t *code, size_t code_len,
-    uint32_t *out, size_t out_len);
-
-/* Back: 64 bytes to out, bit i is element i of the vector, each 0 or 1. Refusals: 4, 5, 8. */
-uint32_t door_iris_pack(
-    const uint32_t *v, size_t v_len,
-    uint8_t *out, size_t out_len);
-
-/*
- * In how many bits two codes differ: the measure of DOOR_HAMMING of the two unpacked. Both have to
- * be in one order, either one: no call can tell. Refusal: 4.
- */
-struct door_hamming_answer door_iris_hamming(
-    const uint8_t *a, size_t a_len,
-    const uint8_t *b, size_t b_len);
-
-/*
  * The same join without a struct, for a small lock: its archive (`rt staticlib c_lock`) is proved in
  * seconds. The host keeps the door's padded name and the last joined number, first the floor, and
  * hands them in. 0 or 1 is what is reported; a refused join answers LOCK_REFUSED plus the refusal's
@@ -538,6 +509,77 @@ uint64_t lock_last(
     uint32_t sender1,
     uint64_t number1,
     uint32_t answer1);
+
+/*
+ * Iris codes. A code has 512 bits, one for each of 64 angles and 8 rings. It is packed in 64 bytes:
+ * bit i is bit i % 8 of byte i / 8, so bit 0 is the lowest of the first byte. There are two orders.
+ * The bit of an angle, 0 to 63, and a ring, 0 to 7, is
+ *
+ *     in the scanner's, angle by angle, bit angle * 8 + ring: code[angle] >> ring & 1
+ *     in ours, ring by ring, bit ring * 64 + angle: code[ring * 8 + angle / 8] >> angle % 8 & 1
+ *
+ * The bytes do not tell their order, and no call can test it. Rearrange a code once, where it comes
+ * from the scanner, and keep it in our order from there on. A code that goes through the same
+ * rearrangement twice is in neither order.
+ *
+ * To enrol from a scanner's file, and to mask the code at a check, of a set that was dealt with the
+ * terms {DOOR_HAMMING, DOOR_IRIS_BITS}:
+ *
+ *     uint8_t scanned[DOOR_IRIS_BYTES + 1], code[DOOR_IRIS_BYTES]; // + 1: a longer file is refused
+ *     size_t size = fread(scanned, 1, sizeof scanned, file);
+ *     if (door_iris_to_rings(scanned, size, code, sizeof code) != DOOR_ACCEPTED)
+ *         return false; // the file has not 64 bytes; else keep the code
+ *
+ *     uint32_t v[DOOR_IRIS_BITS], sent[DOOR_IRIS_BITS];
+ *     if (door_iris_unpack(code, sizeof code, v, DOOR_IRIS_BITS) != DOOR_ACCEPTED)
+ *         return false;
+ *     struct door_party_answer a = door_mask(box, v, DOOR_IRIS_BITS, sent, DOOR_IRIS_BITS);
+ *
+ * With a threshold T the lock's 1 then means that at most T bits differ. The camera box does both
+ * steps in one with its fresh scan. A code is as secret as its vector, and no call clears a buffer.
+ *
+ * The four calls that write return `why`: 0, or the refusal's number. None of them works in place:
+ * out is another buffer than the one that is read.
+ */
+
+/* From the scanner's order to ours: 64 bytes to out. Refusals: 4, 5. */
+uint32_t door_iris_to_rings(
+    const uint8_t *code, size_t code_len,
+    uint8_t *out, size_t out_len);
+
+/* From our order to the scanner's: 64 bytes to out. Refusals: 4, 5. */
+uint32_t door_iris_to_angles(
+    const uint8_t *code, size_t code_len,
+    uint8_t *out, size_t out_len);
+
+/*
+ * From a packed code to a vector for door_mask: 512 words to out, so out_len counts words too.
+ * Element i is bit i of the bytes as they stand: this call rearranges nothing. Both boxes must have
+ * their codes in one order. Refusals: 4, 5.
+ */
+uint32_t door_iris_unpack(
+    const uint8_t *code, size_t code_len,
+    uint32_t *out, size_t out_len);
+
+/*
+ * Back, from a vector of 512 elements to a packed code: 64 bytes to out, of which bit i is element
+ * i. An element that is neither 0 nor 1 is refused, and not cut to a bit. Refusals: 4, 5, 8.
+ */
+uint32_t door_iris_pack(
+    const uint32_t *v, size_t v_len,
+    uint8_t *out, size_t out_len);
+
+/*
+ * In how many bits two packed codes differ. That is the measure of DOOR_HAMMING of the two
+ * unpacked, and the same number in either order. But both codes must be in one order: of a code in
+ * each, the call tells a number that means nothing. Refusal: 4.
+ *
+ * This is not the private check. It works in the clear, on two codes that one box has anyway, such
+ * as two scans of one eye at its enrolment. Bring no code from one box to the other for it.
+ */
+struct door_hamming_answer door_iris_hamming(
+    const uint8_t *a, size_t a_len,
+    const uint8_t *b, size_t b_len);
 
 /* The level in use: "x86-64", "x86-64-v3" or "x86-64-v4". A DOOR_LEVEL that names none of them, or
    one that the machine has not, counts as not set. */

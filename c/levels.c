@@ -16,22 +16,27 @@
 #include <stdlib.h>
 
 /* Every call, once. c/library fails where the archives have others. */
-#define CALLS(CALL)          \
-    CALL(door_start_dealer)  \
-    CALL(door_deal)          \
-    CALL(door_deal_between)  \
-    CALL(door_deal_by_clock) \
-    CALL(door_start_party)   \
-    CALL(door_load)          \
-    CALL(door_trial)         \
-    CALL(door_mask)          \
-    CALL(door_take)          \
-    CALL(door_finish)        \
-    CALL(door_drop)          \
-    CALL(door_start_lock)    \
-    CALL(door_join)          \
-    CALL(lock_join)          \
-    CALL(lock_last)
+#define CALLS(CALL)           \
+    CALL(door_start_dealer)   \
+    CALL(door_deal)           \
+    CALL(door_deal_between)   \
+    CALL(door_deal_by_clock)  \
+    CALL(door_start_party)    \
+    CALL(door_load)           \
+    CALL(door_trial)          \
+    CALL(door_mask)           \
+    CALL(door_take)           \
+    CALL(door_finish)         \
+    CALL(door_drop)           \
+    CALL(door_start_lock)     \
+    CALL(door_join)           \
+    CALL(lock_join)           \
+    CALL(lock_last)           \
+    CALL(door_iris_to_rings)  \
+    CALL(door_iris_to_angles) \
+    CALL(door_iris_unpack)    \
+    CALL(door_iris_pack)      \
+    CALL(door_iris_hamming)
 
 /* A call at each level, under the names that tools/levels gives, and the slot with the one in use:
    the plain one, which runs everywhere, until choose() has run. Hidden, so that they are reached

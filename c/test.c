@@ -3,12 +3,12 @@
  * measure computed here; deals by the clock, which must be those by the row's threshold; a trial
  * beside every load, which must say what that answers; each refusal of each call, which must change
  * nothing, empty slices with a null pointer among them; and loads of sets that older versions
- * dealt, which are all refused. Its argument is the level that must be in use. c/test runs it.
+ * dealt, which are all refused. The calls on iris codes are in test_iris.c. Its argument is the
+ * level that must be in use. c/test runs it.
  */
-#include "door.h"
 #include "older.h"
+#include "test.h"
 
-#include <stdbool.h>
 #include <stdio.h>
 #include <stdlib.h>
 #include <string.h>
@@ -20,27 +20,25 @@
 
 static long passed;
 
-static void expect(bool holds, const char *what, int line)
+void expect(bool holds, const char *what, const char *file, int line)
 {
     if (!holds) {
-        fprintf(stderr, "c/test.c:%d: not so: %s\n", line, what);
+        fprintf(stderr, "%s:%d: not so: %s\n", file, line, what);
         exit(EXIT_FAILURE);
     }
     passed++;
 }
 
-#define EXPECT(what) expect((what), #what, __LINE__)
-
-/* A sequence of numbers with no meaning (Knuth's MMIX), always the same. */
+/* Knuth's MMIX. */
 static uint64_t drawn = 1;
 
-static uint32_t draw(void)
+uint32_t draw(void)
 {
     drawn = drawn * 6364136223846793005u + 1442695040888963407u;
     return (uint32_t)(drawn >> 32);
 }
 
-static void draw_bytes(uint8_t *bytes, size_t size)
+void draw_bytes(uint8_t *bytes, size_t size)
 {
     for (size_t i = 0; i < size; i++)
         bytes[i] = (uint8_t)draw();
@@ -2908,5 +2906,6 @@ int main(int count, char **arguments)
     take_older_keys();
     older_sets(false);
     older_sets(true);
+    iris_codes();
     printf("c/test: %s: %ld passed\n", door_level(), passed);
 }

@@ -10,9 +10,10 @@ pub type Nonce = [u8; 12];
 pub type Tag = [u8; 16];
 
 /// The verified functions of crates/bench_cipher, bench_check, c_door and c_lock, at each level of x86-64,
-/// and what the cipher and the check are handed.
+/// and what the cipher and the check are handed; beside them those of plain/iris.c.
 pub mod ours {
     use super::door::{ClockAnswer, Dealer, DealerAnswer, Party, PartyAnswer, Terms, TrialAnswer};
+    use super::iris::HammingAnswer;
     use super::*;
     use crate::level::Level;
     use second::dcf::{self, Seed};
@@ -252,6 +253,28 @@ pub mod ours {
             number1: u64,
             answer1: u32,
         ) -> u32;
+
+        fn door_iris_to_rings(code: *const u8, code_len: usize, out: *mut u8, out_len: usize,) -> u32;
+        fn door_iris_to_angles(code: *const u8, code_len: usize, out: *mut u8, out_len: usize,) -> u32;
+        fn door_iris_unpack(code: *const u8, code_len: usize, out: *mut u32, out_len: usize,) -> u32;
+        fn door_iris_pack(v: *const u32, v_len: usize, out: *mut u8, out_len: usize,) -> u32;
+        fn door_iris_hamming(
+            a: *const u8,
+            a_len: usize,
+            b: *const u8,
+            b_len: usize,
+        ) -> HammingAnswer;
+
+        fn plain_to_rings(code: *const u8, code_len: usize, out: *mut u8, out_len: usize,) -> u32;
+        fn plain_to_angles(code: *const u8, code_len: usize, out: *mut u8, out_len: usize,) -> u32;
+        fn plain_unpack(code: *const u8, code_len: usize, out: *mut u32, out_len: usize,) -> u32;
+        fn plain_pack(v: *const u32, v_len: usize, out: *mut u8, out_len: usize,) -> u32;
+        fn plain_hamming(
+            a: *const u8,
+            a_len: usize,
+            b: *const u8,
+            b_len: usize,
+        ) -> HammingAnswer;
     });
 
     /// Ours at one level.
@@ -271,6 +294,10 @@ pub mod ours {
                 Level::V4 => &V4,
             };
             level.fits().then_some(Ours { level, functions })
+        }
+
+        pub fn level(self) -> Level {
+            self.level
         }
 
         pub fn plain() -> Ours {
@@ -363,6 +390,7 @@ pub mod ours {
 
 /// The verified calls of dealer, box and lock, and their states.
 pub mod door {
+    use super::iris::HammingAnswer;
     use super::ours::{ComparisonKey, Ours};
     use super::*;
     use crate::calls::{Calls, Said, States, Step};
@@ -697,7 +725,7 @@ pub mod door {
     }
 
     /// The structs of the calls, with their sizes in bytes.
-    pub const SIZES: [(&str, usize); 7] = [
+    pub const SIZES: [(&str, usize); 8] = [
         ("door_dealer", size_of::<Dealer>()),
         ("door_dealer_answer", size_of::<DealerAnswer>()),
         ("door_clock_answer", size_of::<ClockAnswer>()),
@@ -705,7 +733,77 @@ pub mod door {
         ("door_party", size_of::<Party>()),
         ("door_party_answer", size_of::<PartyAnswer>()),
         ("door_trial_answer", size_of::<TrialAnswer>()),
+        ("door_hamming_answer", size_of::<HammingAnswer>()),
     ];
+}
+
+/// The calls on iris codes, ours and those of plain/iris.c.
+pub mod iris {
+    use super::ours::Ours;
+
+    #[repr(C)]
+    pub struct HammingAnswer {
+        why: u32,
+        distance: u32,
+    }
+
+    type Rearrange = unsafe extern "C" fn(*const u8, usize, *mut u8, usize) -> u32;
+
+    /// The five of one level: whoever has them is called by the same code.
+    #[derive(Clone, Copy)]
+    pub struct Iris {
+        to_rings: Rearrange,
+        to_angles: Rearrange,
+        unpack: unsafe extern "C" fn(*const u8, usize, *mut u32, usize) -> u32,
+        pack: unsafe extern "C" fn(*const u32, usize, *mut u8, usize) -> u32,
+        hamming: unsafe extern "C" fn(*const u8, usize, *const u8, usize) -> HammingAnswer,
+    }
+
+    impl Iris {
+        pub fn ours(ours: Ours) -> Iris {
+            Iris {
+                to_rings: ours.functions.door_iris_to_rings,
+                to_angles: ours.functions.door_iris_to_angles,
+                unpack: ours.functions.door_iris_unpack,
+                pack: ours.functions.door_iris_pack,
+                hamming: ours.functions.door_iris_hamming,
+            }
+        }
+
+        /// In plain C, compiled for the level that this one of ours is compiled for.
+        pub fn plain(ours: Ours) -> Iris {
+            Iris {
+                to_rings: ours.functions.plain_to_rings,
+                to_angles: ours.functions.plain_to_angles,
+                unpack: ours.functions.plain_unpack,
+                pack: ours.functions.plain_pack,
+                hamming: ours.functions.plain_hamming,
+            }
+        }
+
+        pub fn to_rings(self, code: &[u8], out: &mut [u8]) -> u32 {
+            unsafe { (self.to_rings)(code.as_ptr(), code.len(), out.as_mut_ptr(), out.len()) }
+        }
+
+        pub fn to_angles(self, code: &[u8], out: &mut [u8]) -> u32 {
+            unsafe { (self.to_angles)(code.as_ptr(), code.len(), out.as_mut_ptr(), out.len()) }
+        }
+
+        pub fn unpack(self, code: &[u8], out: &mut [u32]) -> u32 {
+            unsafe { (self.unpack)(code.as_ptr(), code.len(), out.as_mut_ptr(), out.len()) }
+        }
+
+        pub fn pack(self, v: &[u32], out: &mut [u8]) -> u32 {
+            unsafe { (self.pack)(v.as_ptr(), v.len(), out.as_mut_ptr(), out.len()) }
+        }
+
+        /// The distance goes to `out`.
+        pub fn hamming(self, a: &[u8], b: &[u8], out: &mut u32) -> u32 {
+            let answer = unsafe { (self.hamming)(a.as_ptr(), a.len(), b.as_ptr(), b.len()) };
+            *out = answer.distance;
+            answer.why
+        }
+    }
 }
 
 /// How much of the stack a call takes.

@@ -2,8 +2,9 @@
 
 use crate::cases::{Case, ACCEPTED, BY_CLOCK, EUCLID, REFUSED};
 use crate::door::Door;
+use crate::iris;
 use crate::level::{Level, LACKING};
-use crate::measure::Who;
+use crate::measure::{Row, Who};
 use crate::report::{by_length, Columns, LENGTHS};
 use crate::table::Table;
 use second::measure::Measure;
@@ -83,13 +84,9 @@ fn of_run(call: &str, length: usize, who: &str, calls: u32) -> Result<u64, Strin
     }
 }
 
-/// One call some times, and nothing else that depends on how often: what valgrind runs.
+/// One call some times, and nothing else that depends on how often: what valgrind runs. Of a call on
+/// iris codes L says nothing.
 pub fn once(call: &str, length: &str, who: &str, calls: &str) -> Result<(), String> {
-    let found = |(case, _): &(&Case, Measure)| case.name == call;
-    let scalar = ACCEPTED.iter().chain(&REFUSED).chain(&BY_CLOCK);
-    let scalar = scalar.map(|case| (case, Measure::Scalar));
-    let euclid = EUCLID.iter().map(|case| (case, Measure::Euclid));
-    let (case, measure) = scalar.chain(euclid).find(found).ok_or("no such call")?;
     let length: usize = length.parse().map_err(|_| "L is a number")?;
     let calls: u32 = calls.parse().map_err(|_| "a count is a number")?;
     let asked = |(name, _): &(&str, Who)| *name == who;
@@ -98,9 +95,23 @@ pub fn once(call: &str, length: &str, who: &str, calls: &str) -> Result<(), Stri
     if matches!(who, Who::Ours(level) if !level.fits()) {
         return Err(LACKING.to_string());
     }
-    let door = Door::new(measure, length);
-    let mut row = case.row(&door);
-    let way = row.way(who);
-    row.time(way, calls);
+    let repeat = |row: &mut dyn Row| {
+        let way = row.way(who);
+        row.time(way, calls);
+    };
+    if iris::NAMES.contains(&call) {
+        repeat(&mut *iris::named(call, &iris::Input::new()));
+        return Ok(());
+    }
+    let (case, measure) = named(call).ok_or("no such call")?;
+    repeat(&mut *case.row(&Door::new(measure, length)));
     Ok(())
+}
+
+/// The call of this name, and the measure of its door.
+fn named(call: &str) -> Option<(&'static Case, Measure)> {
+    let scalar = ACCEPTED.iter().chain(&REFUSED).chain(&BY_CLOCK);
+    let scalar = scalar.map(|case| (case, Measure::Scalar));
+    let euclid = EUCLID.iter().map(|case| (case, Measure::Euclid));
+    scalar.chain(euclid).find(|(case, _)| case.name == call)
 }

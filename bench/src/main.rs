@@ -9,6 +9,7 @@ mod check;
 mod door;
 mod foreign;
 mod instructions;
+mod iris;
 mod level;
 mod measure;
 mod memory;
@@ -75,6 +76,7 @@ fn counts(level: &str, style: Style) -> Result<String, String> {
 fn times() -> Result<Vec<Table>, String> {
     foreign::sodium::init();
     let input = rows::Input::new();
+    let codes = iris::Input::new();
     let scalar = LENGTHS.map(|length| Door::new(Measure::Scalar, length));
     let euclid = LENGTHS.map(|length| Door::new(Measure::Euclid, length));
     let mut rows = rows::rows(&input);
@@ -87,6 +89,7 @@ fn times() -> Result<Vec<Table>, String> {
     let refused = rows.len();
     let by_clock = scalar.iter().filter(|door| door.length == CLOCK_LENGTH);
     rows.extend(by_clock.flat_map(|door| BY_CLOCK.each_ref().map(|case| case.row(door))));
+    rows.extend(iris::rows(&codes));
     for row in &mut rows {
         row.check()?;
     }
@@ -97,6 +100,7 @@ fn times() -> Result<Vec<Table>, String> {
     tables.extend(report::refused(&timings[calls..refused]));
     tables.extend([
         report::by_clock(&timings),
+        report::iris(&timings),
         memory::sizes(),
         memory::depths(),
     ]);

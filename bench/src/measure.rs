@@ -25,21 +25,29 @@ pub enum Who {
     Sodium,
     OpenSsl,
     Second,
+    /// What plain C is compiled to at a level.
+    PlainC(Level),
 }
 
 /// Who has a turn after whom: those that may use AVX-512 come last.
-const ORDER: [Who; 6] = [
+const ORDER: [Who; 9] = [
     Who::Ours(Level::Plain),
+    Who::PlainC(Level::Plain),
     Who::Second,
     Who::Ours(Level::V3),
+    Who::PlainC(Level::V3),
     Who::Ours(Level::V4),
+    Who::PlainC(Level::V4),
     Who::Sodium,
     Who::OpenSsl,
 ];
 
 impl Who {
     fn may_use_avx512(self) -> bool {
-        matches!(self, Who::Ours(Level::V4) | Who::Sodium | Who::OpenSsl)
+        matches!(
+            self,
+            Who::Ours(Level::V4) | Who::PlainC(Level::V4) | Who::Sodium | Who::OpenSsl
+        )
     }
 }
 

@@ -3,6 +3,7 @@
 use crate::cases::{ACCEPTED, BY_CLOCK, REFUSED};
 use crate::door::Door;
 use crate::foreign::{door, stack};
+use crate::iris;
 use crate::level::Level;
 use crate::measure::{Row, Who};
 use crate::report::LENGTHS;
@@ -50,6 +51,16 @@ fn lines() -> Vec<Vec<String>> {
             let depths = doors.iter().map(|door| depth(&mut *case.row(door), level));
             depths.max().unwrap_or(0).to_string()
         }));
+        lines.push(line);
+    }
+    let codes = iris::Input::new();
+    for mut row in iris::rows(&codes) {
+        let mut line = vec![row.name().to_string()];
+        line.extend(
+            Level::present()
+                .into_iter()
+                .map(|level| depth(&mut *row, level).to_string()),
+        );
         lines.push(line);
     }
     lines

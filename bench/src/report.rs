@@ -3,6 +3,7 @@
 use crate::cases::{Case, ACCEPTED, BY_CLOCK, COPY_STATE, DEAL, EUCLID, REFUSED};
 use crate::cases::{WHOLE_CHECK, WHOLE_CHECK_EUCLID};
 use crate::foreign::{openssl, sodium};
+use crate::iris::{HAMMING, NAMES};
 use crate::level::Level;
 use crate::measure::{Timing, Who};
 use crate::rows::{BUFFERS, LONG_STREAM, OPEN, SEAL};
@@ -32,6 +33,9 @@ pub const CLOCK_LENGTH: usize = 128;
 
 /// A refused call is to take less, in nanoseconds.
 const REFUSED_AIM: f64 = 1000.0;
+
+/// So is the comparison of two iris codes.
+const HAMMING_AIM: f64 = 30.0;
 
 /// A table for each level, and what is to be said of all below the last.
 fn for_each_level(table: impl FnMut(Level) -> Table, notes: Vec<String>) -> Vec<Table> {
@@ -320,6 +324,46 @@ pub fn by_clock(timings: &[Timing]) -> Table {
                 used is the last";
     table.notes.push(note.to_string());
     table
+}
+
+/// The calls on iris codes, with three columns for each level.
+pub fn iris(timings: &[Timing]) -> Table {
+    let mut header = strings(["call"]);
+    for level in Level::present() {
+        header.push(format!("{}: ours, ns", level.name()));
+        header.extend(strings(["second/ours", "plain C/ours"]));
+    }
+    let mut lines = vec![header];
+    for timing in NAMES.map(|name| named(timings, name)) {
+        let mut line = vec![timing.name.clone()];
+        for level in Level::present() {
+            let ours = timing.ours(level);
+            let ratio = |who| match timing.of(who) {
+                Some(theirs) => format!("{:.2}", theirs / ours),
+                None => "-".to_string(),
+            };
+            line.push(nanoseconds(ours));
+            line.extend([Who::Second, Who::PlainC(level)].map(ratio));
+        }
+        lines.push(line);
+    }
+    Table {
+        title: "Iris codes".to_string(),
+        lines,
+        notes: vec![
+            "plain C: plain/iris.c, compiled by gcc -O3 for the same level".to_string(),
+            hamming_aim(named(timings, HAMMING)),
+        ],
+    }
+}
+
+fn hamming_aim(timing: &Timing) -> String {
+    let times: Vec<String> = Level::present()
+        .into_iter()
+        .map(|level| nanoseconds(timing.ours(level)))
+        .collect();
+    let times = times.join(", ");
+    format!("{HAMMING}: at these levels {times} ns (aim: under {HAMMING_AIM})")
 }
 
 fn listed(names: &[&str]) -> String {

@@ -1,6 +1,6 @@
 /*
- * Every call of door.h that a check makes, and the trial, on the states and messages of one check.
- * bench/against compiles this for each of two archives, with the door.h of each.
+ * Every call of door.h that a check makes, and the trial, on the states and messages of one check;
+ * and the calls on iris codes. bench/against compiles this for each of two archives, with the door.h of each.
  */
 #include "calls.h"
 #include "door.h"
@@ -32,6 +32,8 @@ static struct scene {
     uint32_t first[DOOR_ROWS_MOST], last[DOOR_ROWS_MOST], threshold[DOOR_ROWS_MOST];
     uint32_t last_of_day;
     struct door_party loaded_euclid; /* the office box, with a set of squared Euclid */
+    uint8_t iris[2][DOOR_IRIS_BYTES], iris_out[DOOR_IRIS_BYTES];
+    uint32_t iris_vector[DOOR_IRIS_BITS];
 } *at;
 
 static volatile uint32_t heard; /* so that the compiler leaves no call out */
@@ -114,6 +116,32 @@ static uint32_t join(void)
         DOOR_ANSWER, NAME, DOOR_NAME, 1, NUMBER, at->answer[1]);
 }
 
+/* Of the two codes the first is rearranged and unpacked, and both are compared. */
+static uint32_t to_rings(void)
+{
+    return door_iris_to_rings(at->iris[0], DOOR_IRIS_BYTES, at->iris_out, DOOR_IRIS_BYTES);
+}
+
+static uint32_t to_angles(void)
+{
+    return door_iris_to_angles(at->iris[0], DOOR_IRIS_BYTES, at->iris_out, DOOR_IRIS_BYTES);
+}
+
+static uint32_t unpack(void)
+{
+    return door_iris_unpack(at->iris[0], DOOR_IRIS_BYTES, at->iris_vector, DOOR_IRIS_BITS);
+}
+
+static uint32_t pack(void)
+{
+    return door_iris_pack(at->iris_vector, DOOR_IRIS_BITS, at->iris_out, DOOR_IRIS_BYTES);
+}
+
+static struct door_hamming_answer hamming(void)
+{
+    return door_iris_hamming(at->iris[0], DOOR_IRIS_BYTES, at->iris[1], DOOR_IRIS_BYTES);
+}
+
 static void begin(uint32_t party)
 {
     struct door_party_answer a = load(&at->idle[party], at->half[party]);
@@ -160,6 +188,11 @@ static void make_take(void) { heard = take(1).word; }
 static void make_finish(void) { heard = finish(1).word; }
 static void make_drop(void) { heard = door_drop(at->taken[1]).why; }
 static void make_join(void) { heard = join(); }
+static void make_to_rings(void) { heard = to_rings(); }
+static void make_to_angles(void) { heard = to_angles(); }
+static void make_unpack(void) { heard = unpack(); }
+static void make_pack(void) { heard = pack(); }
+static void make_hamming(void) { heard = hamming().distance; }
 
 static void prepare_table(void)
 {
@@ -181,6 +214,19 @@ static void prepare_euclid(void)
     at->loaded_euclid = a.party;
     expect(mask(&at->loaded_euclid, 1).why, "mask");
     at->terms.code = DOOR_SCALAR;
+}
+
+static void prepare_iris(void)
+{
+    for (uint32_t i = 0; i < DOOR_IRIS_BYTES; i++) {
+        at->iris[0][i] = (uint8_t)(7 * i * i + i / 3);
+        at->iris[1][i] = (uint8_t)(5 * i * i + i / 3);
+    }
+    expect(to_rings(), "iris, to rings");
+    expect(to_angles(), "iris, to angles");
+    expect(unpack(), "iris, unpack");
+    expect(pack(), "iris, pack");
+    expect(hamming().why, "iris, Hamming");
 }
 
 static void prepare(size_t n)
@@ -206,6 +252,7 @@ static void prepare(size_t n)
     expect(trial(&at->idle[1], at->half[1]), "trial");
     expect(trial(&at->loaded[1], at->next_half[1]), "trial ahead");
     expect(door_drop(at->taken[1]).why, "drop");
+    prepare_iris();
 }
 
 /* A DOOR_LEVEL that this processor has not would count as not set. */
@@ -237,6 +284,11 @@ struct calls calls_for(size_t n, void *room, size_t room_size)
         {"drop", make_drop},
         {"join", make_join},
         {"whole check", check},
+        {"to rings", make_to_rings},
+        {"to angles", make_to_angles},
+        {"unpack", make_unpack},
+        {"pack", make_pack},
+        {"Hamming", make_hamming},
         {NULL, NULL},
     };
     expect_level();
