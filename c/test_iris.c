@@ -77,8 +77,8 @@ static void pack(const void *vector, void *out)
 }
 
 /* What is lent stands on a page of drawn bytes, at its beginning or at its end, or in between. The
-   rest of the page must stay as it is, and what lies around the page must not be touched: behind it
-   that is much, so that a slice can be said to be very long. */
+   rest of the page must stay as it is, and what lies around the page must not be touched. Behind it
+   that is much: it is made readable where a slice is said to be very long. */
 
 #define PAGE 4096
 #define BEHIND (((size_t)1 << 34) + 4 * PAGE)
@@ -100,7 +100,13 @@ static void map(struct page *p)
     EXPECT(mprotect(p->at, PAGE, PROT_READ | PROT_WRITE) == 0);
 }
 
-/* Of a slice that reaches past the page only what lies on it is there. */
+static void protect_behind(int protection)
+{
+    const struct page *const pages[] = {&first, &second, &output};
+    for (size_t i = 0; i < sizeof pages / sizeof *pages; i++)
+        EXPECT(mprotect(pages[i]->at + PAGE, BEHIND - PAGE, protection) == 0);
+}
+
 static void *lend(struct page *p, size_t from, const void *bytes, size_t size)
 {
     memcpy(p->expected, drawn_page, PAGE);
@@ -478,25 +484,29 @@ static void every_length_of_two(void)
             hamming_says(a, i, b, k, i == BYTES && k == BYTES ? said : refused);
 }
 
-/* Lengths and rooms of which a part would be right: those that are cut to 8, 16 or 32 bits. */
+/* Lengths and rooms that would be others if they were cut to 8, 16 or 32 bits. A call may read all
+   that it is lent before it looks at the length: so no vector has 16 GB. */
 static void long_ones(void)
 {
     static const size_t more[] = {256, 512, 65536, (size_t)1 << 32};
     static const struct door_hamming_answer refused = {DOOR_WRONG_LENGTH, 0};
     static const uint32_t in[BITS];
     const uint8_t *code = (const uint8_t *)in;
+    protect_behind(PROT_READ);
     for (size_t i = 0; i < sizeof more / sizeof *more; i++) {
         for (int call = 0; call < WRITERS; call++) {
             const struct writer *w = &WRITER[call];
             const struct lent too_long = {w->takes + more[i], w->writes, 0, 0};
             const struct lent much_room = {w->takes, more[i] + 1, 0, 0};
-            says_at(w, NULL, too_long, DOOR_WRONG_LENGTH);
+            if (call != PACK || more[i] <= 65536)
+                says_at(w, NULL, too_long, DOOR_WRONG_LENGTH);
             says_at(w, in, much_room, why_not(w, w->takes, more[i] + 1));
         }
         hamming_at(NULL, BYTES + more[i], 0, code, BYTES, 0, refused);
         hamming_at(code, BYTES, 0, NULL, BYTES + more[i], 0, refused);
         hamming_at(NULL, BYTES + more[i], 0, NULL, BYTES + more[i], 0, refused);
     }
+    protect_behind(PROT_NONE);
 }
 
 /* An empty slice may have a null pointer. */
