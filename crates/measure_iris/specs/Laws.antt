@@ -4,22 +4,27 @@
 use mathlib.Core.Path.{_≡_, refl, sym, ap, ap₂, _∙_}
 use mathlib.Core.Bool.{Bool, true, false, cond, not, _&&_}
 use mathlib.Core.List.{List, [], _∷_}
+use mathlib.Core.Logic.{_⊎_, inl, inr}
 use Prim.Native.Nat.{ℕ, zero, suc, _+_, _*_, _/_, _%_, _^_, _<_, _≤_}
 use native.Mathlib.Omega.{arith}
-use borrow.Author.Tests.{eqb-true, leb-true, ltb-true, ltb-false, not-false}
-use lib.Dec.{ltb}
+use borrow.Author.Tests.{eqb-true, leb-true, ltb-true, ltb-false, not-false, ne-eqb}
+use lib.Bits.{bitXor, xor-block, xor-lt}
+use lib.Count.{ones, ones-cat, ones-le}
+use lib.Dec.{eqb, ltb, leb}
 use lib.IntN.{ℤ, pos}
 use lib.ListN.{length, getD, set}
 use lib.Signed.{leZ}
 use Rattle.base_algebra.specs.Bit.{both, neither}
 use Rattle.base_algebra.specs.Word.{signed}
-use Rattle.base_messages.specs.Messages.{wrongLength}
-use Rattle.base_messages.specs.Laws.{turned-down, goes-on, passed, taken, refused}
+use Rattle.base_algebra.specs.Sum.{sumℕ}
+use Rattle.base_messages.specs.Messages.{wrongLength, shortBuffer, outOfRange, unless}
+use Rattle.base_messages.specs.Laws.{unless-false, turned-down, goes-on, passed, taken, refused}
+use Rattle.base_words.specs.Bytes.{wordAt}
 use Rattle.base_words.specs.List.{tab, over, over-tab}
 use Rattle.measure_table.specs.Measure.{row, hamming, within, inRange, allInRange}
 use Rattle.measure_table.specs.Laws.{signed-low, signed-high, in-range-at}
 use Rattle.measure_iris.specs.declared.HammingAnswer.{HammingAnswer}
-use Rattle.measure_iris.specs.Iris.{codeBytes, angles, rings, Vector, sentAt, storedAt}
+use Rattle.measure_iris.specs.Iris.{codeBits, codeBytes, angles, rings, Vector, sentAt, storedAt}
 use Rattle.measure_iris.specs.Iris.{sentWhereStored, storedWhereSent, distance, irisTerms, codeLong, whyNotCode}
 use Rattle.measure_iris.specs.Iris.{whyNotVector, whyNotPair, bufferAfter, hammingAnswer}
 
@@ -76,6 +81,64 @@ vector-fits v room words e =
     let small : (i : ℕ) → getD v i 0 < 2 =
     λ i. in-range-bit (getD v i 0) (words i) (in-range-at irisTerms v (third .0) i) in
     (record { long = eqb-true _ _ (first .0); small = small }, leb-true codeBytes room (second .0))
+
+-- a vector's tests, with the elements of one of another length not looked at
+pub vector-tested : (v : List ℕ) (room : ℕ) (bits : Bool)
+    → ((length v ≡ codeBits) × (bits ≡ allInRange irisTerms v)) ⊎ (length v ≡ codeBits → ⊥)
+    → unless (eqb (length v) codeBits) wrongLength (unless (leb codeBytes room) shortBuffer (unless bits outOfRange 0))
+    ≡ whyNotVector v room
+unfolding whyNotVector
+vector-tested v room bits (inl h) =
+    ap (λ (b : Bool). unless (eqb (length v) codeBits) wrongLength
+    (unless (leb codeBytes room) shortBuffer (unless b outOfRange 0))) (h .1)
+vector-tested v room bits (inr h) =
+    sym (unless-false _ _ _ (ne-eqb _ _ h)) ∙ unless-false _ _ _ (ne-eqb _ _ h)
+
+-- ---- comparing by words
+
+-- the ones of a byte of the xor
+unfoldable pub onesAt : List ℕ → List ℕ → ℕ → ℕ
+onesAt a b j = ones (bitXor (getD a j 0) (getD b j 0))
+
+module _ (a b : List ℕ) (la : (j : ℕ) → getD a j 0 < 2 ^ 8) (lb : (j : ℕ) → getD b j 0 < 2 ^ 8) where
+  onesAt-most : (j : ℕ) → onesAt a b j ≤ 8
+  unfolding onesAt
+  onesAt-most j = ones-le 8 _ (xor-lt 8 _ _ (la j) (lb j))
+
+  -- those of a word are its four bytes'
+  pub word-ones : (i : ℕ) → ones (bitXor (wordAt a i) (wordAt b i))
+      ≡ onesAt a b i + onesAt a b (i + 1) + onesAt a b (i + 2) + onesAt a b (i + 3)
+  unfolding wordAt onesAt
+  word-ones i =
+      ap ones (ap₂ bitXor (nested (getD a i 0) _ _ _) (nested (getD b i 0) _ _ _))
+      ∙ low _ _ _ _ (la i) (lb i)
+      ∙ ap (λ (k : ℕ). k + ones (bitXor (getD a i 0) (getD b i 0))) (low _ _ _ _ (la (i + 1)) (lb (i + 1))
+      ∙ ap (λ (k : ℕ). k + ones (bitXor (getD a (i + 1) 0) (getD b (i + 1) 0))) (low _ _ _ _ (la (i + 2)) (lb (i + 2))))
+      ∙ omega arith
+    where
+      nested : (x y z w : ℕ) → x + y * 2 ^ 8 + z * 2 ^ 16 + w * 2 ^ 24 ≡ ((w * 2 ^ 8 + z) * 2 ^ 8 + y) * 2 ^ 8 + x
+      nested x y z w = omega arith
+
+      low : (x y r s : ℕ) → r < 2 ^ 8 → s < 2 ^ 8
+          → ones (bitXor (x * 2 ^ 8 + r) (y * 2 ^ 8 + s)) ≡ ones (bitXor x y) + ones (bitXor r s)
+      low x y r s lr ls =
+          ap ones (xor-block 8 x y r s lr ls) ∙ ones-cat 8 (bitXor x y) (bitXor r s) (xor-lt 8 r s lr ls)
+
+  pub word-most : (i : ℕ) → ones (bitXor (wordAt a i) (wordAt b i)) ≤ 32
+  word-most i =
+      rw (word-ones i)
+      (omega (arith, onesAt-most i, onesAt-most (i + 1), onesAt-most (i + 2), onesAt-most (i + 3)))
+
+-- four bytes more
+pub sum-four : (f : ℕ → ℕ) (i n m : ℕ) → n ≡ sumℕ f (4 * i)
+    → m ≡ f (4 * i) + f (4 * i + 1) + f (4 * i + 2) + f (4 * i + 3) → n + m ≡ sumℕ f (4 * (i + 1))
+unfolding sumℕ
+sum-four f i n m e h =
+    let more : 4 * (i + 1) ≡ suc (suc (suc (suc (4 * i)))) = omega arith in
+    let s1 : suc (4 * i) ≡ 4 * i + 1 = omega arith in
+    let s2 : suc (suc (4 * i)) ≡ 4 * i + 2 = omega arith in
+    let s3 : suc (suc (suc (4 * i))) ≡ 4 * i + 3 = omega arith in
+    rw more (omega (arith, e, h, ap f s1, ap f s2, ap f s3))
 
 -- ---- a lent buffer
 

@@ -26,6 +26,9 @@ pub const CODE_BYTES: usize = 64;
 
 pub const CODE_BITS: usize = 512;
 
+// As many words as its bytes make.
+const CODE_WORDS: usize = 16;
+
 // The code of Hamming in the table of measures.
 const HAMMING: u32 = 2;
 
@@ -122,16 +125,17 @@ fn gather(v: &[u32], out: &mut [u8])
     }
 }
 
-// How many bits of the xor of two codes are 1.
+// How many bits of the xor of two codes are 1. Counted word by word: byte by byte takes four times as long
+// where the processor has no instruction that counts.
 fn differing(a: &[u8], b: &[u8]) -> u32
     requires { ⌜ (length (now a) ≡ codeBytes) × (length (now b) ≡ codeBytes) ⌝ }
     ensures { λ r. ⌜ r ≡ distanceOf (now (a .entry)) (now (b .entry)) ⌝ }
 {
     let mut n: u32 = 0;
-    let mut j: usize = 0;
-    while j < CODE_BYTES {
-        n += u8::count_ones(a[j] ^ b[j]);
-        j += 1;
+    let mut i: usize = 0;
+    while i < CODE_WORDS {
+        n += u32::count_ones(base_slices::load(a, 4 * i) ^ base_slices::load(b, 4 * i));
+        i += 1;
     }
     n
 }
@@ -160,7 +164,7 @@ fn why_not_code(code: &[u8], n: usize, room: usize) -> u32
     why_not(code.len() == CODE_BYTES, n <= room, true)
 }
 
-// Why a vector is, where a code is to be written.
+// Why a vector is, where a code is to be written. Of another length, its elements are not looked at.
 fn why_not_vector(v: &[u32], room: usize) -> u32
     ensures { λ r. ⌜ r ≡ whyNotVector (now (v .entry)) room ⌝ }
 {
@@ -168,8 +172,13 @@ fn why_not_vector(v: &[u32], room: usize) -> u32
         code: HAMMING,
         n: CODE_BITS,
     };
-    let bits = measure_table::all_in_range(terms, v);
-    why_not(v.len() == CODE_BITS, CODE_BYTES <= room, bits)
+    let long = v.len() == CODE_BITS;
+    let bits = if long {
+        measure_table::all_in_range(terms, v)
+    } else {
+        true
+    };
+    why_not(long, CODE_BYTES <= room, bits)
 }
 
 // A code rearranged, if it is one and there is room.

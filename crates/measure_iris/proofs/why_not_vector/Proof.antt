@@ -1,9 +1,7 @@
-use mathlib.Core.Path.{ap, _∙_}
-use mathlib.Core.Bool.{Bool}
-use lib.Dec.{eqb, leb}
-use lib.ListN.{length}
-use Rattle.base_messages.specs.Messages.{unless}
-use Rattle.measure_iris.specs.Iris.{whyNotVector}
+use mathlib.Core.Path.{_∙_}
+use mathlib.Core.Logic.{inl, inr, ⊎-elim}
+use borrow.Author.Tests.{eqb-true, eqb-false}
+use Rattle.measure_iris.specs.Laws.{vector-tested}
 use borrow.Author.Needs.{needs}
 use Rattle.measure_iris.proofs.why_not_vector.Statement.{statement}
 use Rattle.measure_iris.proofs.why_not_vector.Tie as tie
@@ -15,12 +13,12 @@ why-not-requires : tie.Need-why-not-requires
 why-not-requires c κs = search needs
 
 returns : tie.Need-returns
-unfolding whyNotVector
 returns c =
-    let args = c .before .before .before .args in
     c .why-not .ensures
-    ∙ ap (λ (b : Bool). unless (eqb (length (args .v .now)) 512) 4 (unless (leb 64 (args .room)) 5 (unless b 8 0)))
-    (c .before .all-in-range .ensures)
+    ∙ vector-tested _ _ _ (⊎-elim
+    (λ w. inl (eqb-true _ _ (w .0 .taken), w .2 ∙ w .1 .ensures))
+    (λ w. inr (eqb-false _ _ (w .0 .left)))
+    (c .before .if1 .came))
 
 pub why-not-vector-spec : {M : Type 1} → statement M
 why-not-vector-spec = tie.close (tie.spec all-in-range-requires why-not-requires returns)
