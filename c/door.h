@@ -131,8 +131,8 @@ enum door_refusal {
        between two joined answers. */
     DOOR_WRONG_NUMBER = 7,
     /* An element, a threshold, P or Q is outside its measure's range; by the clock it is the chosen
-       row's threshold, and a minute of DOOR_DAY or above is refused so too. Where an iris code is
-       packed, an element is neither 0 nor 1. */
+       row's threshold, and a minute of DOOR_DAY or above is refused so too. At door_iris_pack an
+       element is neither 0 nor 1. */
     DOOR_OUT_OF_RANGE = 8,
     /* The dealer starts with two equal keys. */
     DOOR_EQUAL_KEYS = 9,
