@@ -40,7 +40,7 @@ unfolding sumℕ
 worth x zero = omega arith
 worth x (suc n) =
     let e : 1 + n ≡ suc n = omega arith in
-    omega (arith, worth x n, mod-pow-add x 1 n ∙ refl, ap (λ (k : ℕ). x % 2 ^ k) e)
+    omega (arith, worth x n, mod-pow-add x 1 n, ap (λ (k : ℕ). x % 2 ^ k) e)
 
 module _ (code : List ℕ) where
   pub bit-small : (i : ℕ) → bit code i < 2
@@ -299,6 +299,18 @@ module _ (a b : List ℕ) (c : Code a) (d : Code b) where
       at : (i : ℕ) → differs a b i ≤ 1
       at i = differ-most (is-bit (bit a i) (bit-lt a i)) (is-bit (bit b i) (bit-lt b i))
 
+-- .. and both ends are reached: by codes that differ everywhere, and by a code and itself
+pub farthest : distance (replicate codeBytes 0) (replicate codeBytes 255) ≡ codeBits
+unfolding distance sumℕ ones
+farthest = refl
+
+pub nearest : (code : List ℕ) → distance code code ≡ 0
+unfolding distance sumℕ ones
+nearest code = sumℕ-ext (λ j. ones (bitXor (getD code j 0) (getD code j 0))) (λ j. 0) codeBytes none
+  where
+    none : (j : ℕ) → j < codeBytes → ones (bitXor (getD code j 0) (getD code j 0)) ≡ 0
+    none j l = ap ones (xor-self (getD code j 0))
+
 -- ---- "in either order of storage", and the same number in both
 
 sent-sum : (g : ℕ → ℕ) → sumℕ (λ i. g (sentWhereStored i)) codeBits ≡ sumℕ g codeBits
@@ -354,18 +366,6 @@ module _ (a b : List ℕ) (c : Code a) (d : Code b) where
   meets-marks p q lp lq =
       ap (λ (m : ℤ). meets irisTerms (Between p q) m) (distance-is-measure a b c d)
       ∙ ap₂ (λ (y z : ℤ). leZ y (pos (distance a b)) && leZ (pos (distance a b)) z) (signed-low p lp) (signed-low q lq)
-
--- the ends: codes that differ everywhere, and a code and itself
-pub farthest : distance (replicate codeBytes 0) (replicate codeBytes 255) ≡ codeBits
-unfolding distance sumℕ ones
-farthest = refl
-
-pub nearest : (code : List ℕ) → distance code code ≡ 0
-unfolding distance sumℕ ones
-nearest code = sumℕ-ext (λ j. ones (bitXor (getD code j 0) (getD code j 0))) (λ j. 0) codeBytes none ∙ refl
-  where
-    none : (j : ℕ) → j < codeBytes → ones (bitXor (getD code j 0) (getD code j 0)) ≡ 0
-    none j l = ap ones (xor-self (getD code j 0)) ∙ refl
 
 -- ---- who is refused: "A vector with another element is refused by 01's eighth, a wrong length by its fourth". The
 -- length comes first, whatever else is wrong, and the buffer comes before the elements.
