@@ -380,26 +380,52 @@ void dealt_words(const struct settings *settings, uint32_t row, char words[SETTI
     snprintf(words + size, SETTINGS_ROOM - size, ", by %s", used);
 }
 
-bool read_vector(const char *path, struct vector *vector)
+/* Read up to a zero byte, a file would be taken for a shorter vector without a word. An iris code
+   has zero bytes. */
+static bool read_vector_text(const char *path, char text[VECTOR_TEXT_MOST + 1])
 {
-    static char text[VECTOR_TEXT_MOST + 1]; /* secret as the vector is: wiped below */
-    size_t size;
-    if (!read_file(path, text, VECTOR_TEXT_MOST, &size))
+    static const struct expected vector_file = {
+        .what = "a vector's file, one whole number a line",
+        .where_missing = "see that the path is right, and that you may read it"};
+    struct carried carried = {.bytes = (uint8_t *)text, .room = VECTOR_TEXT_MOST};
+    if (!read_carried(path, &vector_file, &carried))
         return false;
-    text[size] = '\0';
-    const char *at = text;
-    bool right = size < VECTOR_TEXT_MOST;
-    for (vector->length = 0; right && *at != '\0'; vector->length++) {
+    text[carried.size] = '\0';
+    const size_t before_zero = strlen(text);
+    bool fits = carried.size < VECTOR_TEXT_MOST;
+    bool is_text = before_zero == carried.size;
+    if (!is_text)
+        say("%s: byte %zu is zero; expected is %s: give such a file, or an iris code's with "
+            IRIS_OPTION,
+            path, before_zero + 1, vector_file.what);
+    else if (!fits)
+        say("%s has %zu bytes; expected is %s, of at most %d bytes: give such a file", path,
+            carried.file_size, vector_file.what, VECTOR_TEXT_MOST - 1);
+    return fits && is_text;
+}
+
+static bool parse_vector(const char *text, const char *path, struct vector *vector)
+{
+    bool right = true;
+    for (vector->length = 0; right && *text != '\0'; vector->length++) {
         intmax_t number = 0;
         right = vector->length < DOOR_LENGTH_MOST
-            && next_number(&at, INT32_MIN, INT32_MAX, &number);
+            && next_number(&text, INT32_MIN, INT32_MAX, &number);
         if (right)
             vector->words[vector->length] = (uint32_t)number;
     }
-    explicit_bzero(text, sizeof text);
     if (!right)
-        say("%s: line %zu is no whole number, or one too many (at most %d)", path, vector->length,
-            DOOR_LENGTH_MOST);
+        say("%s: line %zu is no whole number, or one too many (at most %d); an iris code's file is "
+            "given with " IRIS_OPTION,
+            path, vector->length, DOOR_LENGTH_MOST);
+    return right;
+}
+
+bool read_vector(const char *path, struct vector *vector)
+{
+    static char text[VECTOR_TEXT_MOST + 1]; /* secret as the vector is: wiped below */
+    bool right = read_vector_text(path, text) && parse_vector(text, path, vector);
+    explicit_bzero(text, sizeof text);
     return right;
 }
 

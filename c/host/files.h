@@ -90,6 +90,8 @@ struct vector {
     size_t length;
 };
 
+/* From a plain file; nothing is waited for. An iris code's file is another command line's. */
+#define IRIS_OPTION "--iris"
 bool read_vector(const char *path, struct vector *vector);
 
 /* Puts it in the place of the enrolled one, from where the office box reads it at every check. */

@@ -406,6 +406,13 @@ static void refuses_file(const char *file, const char *words)
             words);
 }
 
+/* By both commands, as numbers. */
+static void refuses_text(const char *file, const char *words)
+{
+    refuses((char *[]){"door-host", "enrol", ".", (char *)file, NULL}, words);
+    refuses((char *[]){"door-host", "check", ".", (char *)file, NULL}, words);
+}
+
 static void wrong_sizes(void)
 {
     static const uint8_t bytes[TEXT_ROOM];
@@ -422,22 +429,73 @@ static void wrong_sizes(void)
     refuses_file(SCAN, "operator: " SCAN " has 1024 bytes; an iris code has 64: give the file");
 }
 
-static void no_plain_file(void)
+/* Neither as a code nor as numbers. */
+static void no_plain_file_as(
+    void (*refuse)(const char *file, const char *words), const char *expected)
 {
-    static const char expected[] = "expected is an iris code's file of 64 bytes: ";
     static const char *const kinds[][2] = {{"pipe", "a pipe"}, {"office", "a folder"},
         {"watch.sock", "a socket"}, {"/dev/zero", "a device"}};
     char words[LINE_ROOM];
-    EXPECT(mkfifo("pipe", 0600) == 0, "no pipe");
     for (size_t i = 0; i < sizeof kinds / sizeof *kinds; i++) {
-        snprintf(words, sizeof words, "operator: %s is %s; %sgive that file's path\n", kinds[i][0],
-            kinds[i][1], expected);
-        refuses_file(kinds[i][0], words);
+        snprintf(words, sizeof words, "operator: %s is %s; expected is %s: give that file's path\n",
+            kinds[i][0], kinds[i][1], expected);
+        refuse(kinds[i][0], words);
     }
+    snprintf(words, sizeof words, "operator: cannot open none: No such file or directory; expected "
+        "is %s: see that the path is right, and that you may read it\n", expected);
+    refuse("none", words);
+}
+
+static void no_plain_file(void)
+{
+    EXPECT(mkfifo("pipe", 0600) == 0, "no pipe");
+    no_plain_file_as(refuses_file, "an iris code's file of 64 bytes");
+    no_plain_file_as(refuses_text, "a vector's file, one whole number a line");
     EXPECT(unlink("pipe") == 0, "cannot remove the pipe");
-    snprintf(words, sizeof words, "operator: cannot open none: No such file or directory; %ssee "
-        "that the path is right, and that you may read it\n", expected);
-    refuses_file("none", words);
+}
+
+/* Numbers that are as many as the door takes before a zero byte, or behind one. */
+struct zero_text {
+    const char *bytes;
+    size_t size, zero_at;
+};
+
+#define ZERO_TEXT(bytes, zero_at) {bytes, sizeof bytes - 1, zero_at}
+
+static const struct zero_text ZERO_TEXTS[] = {
+    ZERO_TEXT("0\n1\n0\n\0garbage", 7), ZERO_TEXT("0\n1\n0\n\0", 7), ZERO_TEXT("0\n1\n0\0\n", 6),
+    ZERO_TEXT("0\n1\n0\0", 6), ZERO_TEXT("\0000\n1\n0\n", 1), ZERO_TEXT("0\n1\n0\n\0000\n", 7)};
+
+static void zero_byte_is(size_t at)
+{
+    char words[LINE_ROOM];
+    snprintf(words, sizeof words, "operator: " SCAN ": byte %zu is zero; expected is a vector's "
+        "file, one whole number a line: give such a file, or an iris code's with --iris\n", at);
+    refuses_text(SCAN, words);
+}
+
+/* The last one is an iris code, with the option forgotten. */
+static void zero_bytes(void)
+{
+    static const struct code zeros;
+    put_file("dealer/settings", "2 3 1\n", 6);
+    for (size_t i = 0; i < sizeof ZERO_TEXTS / sizeof *ZERO_TEXTS; i++) {
+        put_file(SCAN, ZERO_TEXTS[i].bytes, ZERO_TEXTS[i].size);
+        zero_byte_is(ZERO_TEXTS[i].zero_at);
+    }
+    write_settings_anew();
+    put_code(SCAN, &zeros, BY_RING);
+    zero_byte_is(1);
+}
+
+/* A byte more than a vector's file may have. */
+static void long_text(void)
+{
+    static char text[16384];
+    memset(text, '0', sizeof text);
+    put_file(SCAN, text, sizeof text);
+    refuses_text(SCAN, "operator: " SCAN " has 16384 bytes; expected is a vector's file, one whole "
+        "number a line, of at most 16383 bytes: give such a file\n");
 }
 
 /* What a door is set up for, and how that is told. */
@@ -510,7 +568,8 @@ static const struct bad_text BAD_TEXTS[] = {
     {"0 3 1\n", "1023\n-1025\n0\n", ": number 2 is -1025; with code 0 "},
     {"1 3 1\n", "1024\n0\n0\n", ": number 1 is 1024; with code 1 "},
     {"1 3 1 9\n", "0\n0\n-1025\n", ": number 3 is -1025; with code 1 "},
-    {"1 3 1\n", "0\nx\n0\n", ": line 2 is no whole number"},
+    {"1 3 1\n", "0\nx\n0\n", ": line 2 is no whole number, or one too many (at most 512); an iris "
+        "code's file is given with --iris\n"},
     {"3 3 1\n", "0\n0\n0\n", "dealer/settings has code 3 and length 3; a code is 0 to 2, and a "
         "length 1 to 512: put dealer/settings right first\n"},
     {"2 0 1\n", "", "dealer/settings has code 2 and length 0; "},
@@ -537,6 +596,8 @@ static void refusals(void)
     draw_code(&code);
     wrong_sizes();
     no_plain_file();
+    zero_bytes();
+    long_text();
     put_code(SCAN, &code, BY_ANGLE);
     other_doors();
     usages();
