@@ -62,16 +62,17 @@ static bool fits(const struct vector *vector, const struct settings *settings, c
         && is_in_range(vector, terms.code, file);
 }
 
-static int put_in_place(const struct vector *vector, struct door_terms terms)
+static enum enrolled put_in_place(const struct vector *vector, struct door_terms terms)
 {
     char words[TERMS_ROOM];
     terms_words(terms, words);
-    if (!write_enrolled(vector)) {
-        say("office/vector is what it was, or has the new vector: enrol again");
-        return EXIT_TROUBLE;
-    }
-    say("enrolled: %s; each check that the office box begins from now on goes by it", words);
-    return EXIT_OPEN;
+    enum enrolled done = write_enrolled(vector);
+    if (done == ENROLLED)
+        say("enrolled: %s; each check that the office box begins from now on goes by it", words);
+    if (done == PERHAPS_ENROLLED)
+        say("office/vector has the new vector, but a power cut may bring the old one back: enrol "
+            "again");
+    return done;
 }
 
 /* The file's path is the caller's, so it is read before the working folder changes. Of two
@@ -80,13 +81,13 @@ int run_enrol(const char *folder, const char *file, enum vector_form form)
 {
     static struct vector vector;
     static struct settings settings;
-    int status = EXIT_TROUBLE;
+    enum enrolled done = NOT_ENROLLED;
     if (read_vector_as(form, file, &vector) && go_to(folder) && read_settings(&settings)
         && (form == AS_TEXT || takes_iris(&settings)) && fits(&vector, &settings, file)
         && claim("enrol.running"))
-        status = put_in_place(&vector, settings.terms);
-    else
-        say("nothing was enrolled");
+        done = put_in_place(&vector, settings.terms);
     explicit_bzero(&vector, sizeof vector);
-    return status;
+    if (done == NOT_ENROLLED)
+        say("nothing was enrolled");
+    return done == ENROLLED ? EXIT_OPEN : EXIT_TROUBLE;
 }

@@ -136,20 +136,25 @@ static bool write_forced(const char *path, const void *bytes, size_t size)
     return force(file, path);
 }
 
-/* First the bytes, then the name, then the folder that holds the name: in this order each moment
-   has a whole file under the name, and the end has the new one. */
-bool write_durably(const char *folder, const char *file, const void *bytes, size_t size)
+/* Where this answers false, the name has the file that it had. */
+static bool write_and_name(const char *folder, const char *file, const void *bytes, size_t size)
 {
     char path[PATH_ROOM], fresh[PATH_ROOM + 4];
     snprintf(path, sizeof path, "%s/%s", folder, file);
     snprintf(fresh, sizeof fresh, "%s.tmp", path);
     if (!write_forced(fresh, bytes, size))
         return false;
-    if (rename(fresh, path) != 0) {
-        say_trouble("cannot rename to", path);
-        return false;
-    }
-    return force_folder(folder);
+    if (rename(fresh, path) == 0)
+        return true;
+    say_trouble("cannot rename to", path);
+    return false;
+}
+
+/* First the bytes, then the name, then the folder that holds the name: in this order each moment
+   has a whole file under the name, and the end has the new one. */
+bool write_durably(const char *folder, const char *file, const void *bytes, size_t size)
+{
+    return write_and_name(folder, file, bytes, size) && force_folder(folder);
 }
 
 /* The number and what it lacks to 2^64 - 1, each in twenty digits, and the version, which version 1
@@ -429,25 +434,39 @@ bool read_vector(const char *path, struct vector *vector)
     return right;
 }
 
-/* A vector that could not be written leaves no part of it behind either: it is secret. */
-static void remove_unfinished(const char *path)
+static bool remove_unfinished(const char *path)
 {
-    if (unlink(path) != 0 && errno != ENOENT)
-        say_trouble("cannot remove", path);
+    if (unlink(path) == 0 || errno == ENOENT)
+        return true;
+    say_trouble("cannot remove", path);
+    return false;
 }
 
-bool write_enrolled(const struct vector *vector)
+/* Into a new file: one that was left there may be another's to read. And a vector that could not be
+   written leaves no part of it behind: it is secret. */
+static bool put_enrolled(const char *text, size_t size)
+{
+    static const char unfinished[] = "office/vector.tmp";
+    if (!remove_unfinished(unfinished))
+        return false;
+    bool named = write_and_name("office", "vector", text, size);
+    if (!named)
+        remove_unfinished(unfinished);
+    return named;
+}
+
+enum enrolled write_enrolled(const struct vector *vector)
 {
     static char text[VECTOR_TEXT_MOST]; /* secret as the vector is: wiped below */
     int size = 0;
     for (size_t i = 0; i < vector->length; i++)
         size += snprintf(text + size, sizeof text - (size_t)size, "%" PRId32 "\n",
             (int32_t)vector->words[i]);
-    bool done = write_durably("office", "vector", text, (size_t)size);
+    bool put = put_enrolled(text, (size_t)size);
     explicit_bzero(text, sizeof text);
-    if (!done)
-        remove_unfinished("office/vector.tmp");
-    return done;
+    if (!put)
+        return NOT_ENROLLED;
+    return force_folder("office") ? ENROLLED : PERHAPS_ENROLLED;
 }
 
 static void stick_of(uint32_t party, char folder[PATH_ROOM])

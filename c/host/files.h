@@ -94,8 +94,12 @@ struct vector {
 #define IRIS_OPTION "--iris"
 bool read_vector(const char *path, struct vector *vector);
 
+/* Whether the new vector is in its place. It may be where the disk failed after it was moved there:
+   a power cut could bring the old one back. */
+enum enrolled { NOT_ENROLLED, PERHAPS_ENROLLED, ENROLLED };
+
 /* Puts it in the place of the enrolled one, from where the office box reads it at every check. */
-bool write_enrolled(const struct vector *vector);
+enum enrolled write_enrolled(const struct vector *vector);
 
 /* Halves lie on the stick of the box with that party number, one file for each set. */
 bool write_half(uint32_t party, uint64_t number, const uint8_t *half, size_t size);

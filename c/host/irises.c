@@ -12,6 +12,7 @@
 #include <inttypes.h>
 #include <signal.h>
 #include <stdio.h>
+#include <stdlib.h>
 #include <string.h>
 #include <sys/file.h>
 #include <sys/resource.h>
@@ -608,6 +609,11 @@ static void refusals(void)
 
 static char *const ENROL[] = {"door-host", "enrol", ".", TEMPLATE, "--iris", "angles", NULL};
 
+#define NOTHING "operator: nothing was enrolled\n"
+#define PERHAPS                                                                                    \
+    "operator: office/vector has the new vector, but a power cut may bring the old one back: "     \
+    "enrol again\n"
+
 /* Another one is under way. */
 static void one_at_a_time(void)
 {
@@ -616,7 +622,7 @@ static void one_at_a_time(void)
     EXPECT(file >= 0 && flock(file, LOCK_EX | LOCK_NB) == 0, "cannot claim the enrolment");
     EXPECT(run_and_hear(ENROL, said) == EXIT_TROUBLE, "two enrolments at one time");
     expect_said(said, "operator: another process has claimed enrol.running");
-    expect_said(said, "operator: nothing was enrolled\n");
+    expect_said(said, NOTHING);
     EXPECT(close(file) == 0, "cannot give up the enrolment");
     expect_enrolled();
 }
@@ -636,17 +642,53 @@ static void full_disk(void)
     expect_enrolled();
 }
 
+/* One that was killed has left a file, which others may read. */
+static void left_behind(const struct code *code)
+{
+    put_file("office/vector.tmp", "0\n", 2);
+    EXPECT(chmod("office/vector.tmp", 0644) == 0, "no other mode");
+    enrol(code, BY_RING);
+}
+
+static void fails(const char *trouble, const char *outcome)
+{
+    char said[SAID_ROOM];
+    int status = run_and_hear(ENROL, said);
+    EXPECT(status == EXIT_TROUBLE, "an enrolment ends with status %d; expected is: %s", status,
+        trouble);
+    expect_said(said, trouble);
+    expect_said(said, outcome);
+}
+
 /* The new file cannot be made. */
 static void no_new_file(void)
 {
-    char said[SAID_ROOM];
     EXPECT(mkdir("office/vector.tmp", 0700) == 0, "no folder");
-    EXPECT(run_and_hear(ENROL, said) == EXIT_TROUBLE, "enrolled without a new file");
-    expect_said(said, "operator: cannot make office/vector.tmp: Is a directory");
-    expect_said(
-        said, "operator: office/vector is what it was, or has the new vector: enrol again\n");
+    fails("operator: cannot remove office/vector.tmp: Is a directory\n", NOTHING);
     EXPECT(rmdir("office/vector.tmp") == 0, "no folder");
     expect_enrolled();
+}
+
+static void no_office(void)
+{
+    EXPECT(rename("office", "elsewhere") == 0, "no office");
+    fails("operator: cannot make office/vector.tmp: No such file or directory\n", NOTHING);
+    EXPECT(rename("elsewhere", "office") == 0, "no office");
+    expect_enrolled();
+}
+
+/* At the new file, and at the folder, when the file is in its place. */
+static void failing_disk(const struct code *new)
+{
+    EXPECT(setenv(FORCING_FAILS, "1", 1) == 0, "no setenv");
+    fails("operator: cannot force to disk office/vector.tmp: Input/output error\n", NOTHING);
+    expect_enrolled();
+    EXPECT(setenv(FORCING_FAILS, "2", 1) == 0, "no setenv");
+    fails("operator: cannot force to disk office: Input/output error\n", PERHAPS);
+    EXPECT(unsetenv(FORCING_FAILS) == 0, "no unsetenv");
+    set_vector(OFFICE, new, BY_RING);
+    EXPECT(is_enrolled(current[OFFICE], BITS), "the new vector is not in its place");
+    enrol(new, BY_ANGLE);
 }
 
 /* Killed at that moment, and with its power gone or not: the old vector is there, or the new one.
@@ -692,12 +734,14 @@ static void come_to_nothing(void)
     draw_code(&own);
     draw_code(&other);
     set_threshold(20);
-    enrol(&own, BY_RING);
+    left_behind(&own);
     put_code(TEMPLATE, &other, BY_ANGLE);
     one_at_a_time();
     full_disk();
     no_new_file();
     stop_all();
+    no_office();
+    failing_disk(&other);
     cut_short_at(BEFORE_STEP, 4);
     cut_short_at(AFTER_RENAME, 1);
     start_all();
