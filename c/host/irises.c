@@ -543,7 +543,9 @@ static void usages(void)
         {".", SCAN, "--iris", "rings", "--iris", "rings", NULL},
         {".", SCAN, "--iris", "angles", "more", NULL}, {".", SCAN, "--rings", "rings", NULL},
         {".", SCAN, "rings", "--iris", NULL}, {".", "--iris", NULL}, {".", "--iris", "rings", NULL},
-        {".", "--iris", "rings", SCAN, NULL}, {".", "--iris", "--iris", "rings", NULL}};
+        {".", "--iris", "rings", SCAN, NULL}, {".", "--iris", "--iris", "rings", NULL},
+        {"--iris", "angles", NULL}, {"--iris", SCAN, NULL}, {"--iris", "rings", ".", SCAN, NULL},
+        {"--iris", SCAN, "--iris", "rings", NULL}};
     for (size_t i = 0; i < 2 * sizeof lines / sizeof *lines; i++) {
         char *arguments[10] = {"door-host", i % 2 == 0 ? "enrol" : "check"};
         memcpy(arguments + 2, lines[i / 2], sizeof lines[i / 2]);
