@@ -11,19 +11,11 @@
 #include <inttypes.h>
 #include <string.h>
 
-/* What a measure takes as elements. */
-struct elements {
-    int32_t low, high;
-};
-
-static const struct elements ELEMENTS[] = {
-    [DOOR_SCALAR] = {-1024, 1023}, [DOOR_EUCLID] = {-1024, 1023}, [DOOR_HAMMING] = {0, 1}};
-
-/* Settings that no set is dealt for. */
+/* Whether sets can be dealt for them; says why not. */
 static bool are_of_use(struct door_terms terms)
 {
-    if (terms.code < sizeof ELEMENTS / sizeof *ELEMENTS && terms.n >= 1
-        && terms.n <= DOOR_LENGTH_MOST)
+    struct elements range;
+    if (elements_of(terms.code, &range) && terms.n >= 1 && terms.n <= DOOR_LENGTH_MOST)
         return true;
     say(SETTINGS_FILE " has code %" PRIu32 " and length %zu; a code is 0 to 2, and a length 1 to "
         "%d: put " SETTINGS_FILE " right first",
@@ -42,7 +34,8 @@ static bool has_length(const struct vector *vector, struct door_terms terms, con
 
 static bool is_in_range(const struct vector *vector, uint32_t code, const char *file)
 {
-    const struct elements range = ELEMENTS[code];
+    struct elements range;
+    elements_of(code, &range);
     for (size_t i = 0; i < vector->length; i++) {
         const int32_t element = (int32_t)vector->words[i];
         if (element >= range.low && element <= range.high)
