@@ -26,8 +26,9 @@ bool go_to(const char *folder);
 bool make_folder(const char *folder);
 bool force_folder(const char *folder);
 
-/* Claims a part's folder for this process, until it ends in whatever way: of two processes with
-   one box's state, each would put its own vector under the same mask. */
+/* Claims for this process, until it ends in whatever way, what one may have at a time: a part's
+   folder, a check, an enrolment. Of two processes with one box's state, each would put its own
+   vector under the same mask; of two enrolments, each would write into the other's file. */
 bool claim(const char *path);
 
 bool read_file(const char *path, void *bytes, size_t room, size_t *size);
