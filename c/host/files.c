@@ -386,7 +386,7 @@ void dealt_words(const struct settings *settings, uint32_t row, char words[SETTI
 }
 
 /* Read up to a zero byte, a file would be taken for a shorter vector without a word. An iris code
-   has zero bytes. */
+   may have such bytes. */
 static bool read_vector_text(const char *path, char text[VECTOR_TEXT_MOST + 1])
 {
     static const struct expected vector_file = {

@@ -91,7 +91,8 @@ struct vector {
     size_t length;
 };
 
-/* From a plain file; nothing is waited for. An iris code's file is another command line's. */
+/* From a plain file; nothing is waited for. Of what is no text of numbers it says that an iris
+   code's file is given with this option. */
 #define IRIS_OPTION "--iris"
 bool read_vector(const char *path, struct vector *vector);
 
