@@ -30,8 +30,8 @@
  * is, before anyone drives out with it. Nothing is spent: a half that was tried can be loaded.
  *
  * Iris codes. A scanner's code of 64 bytes becomes the vector of a check by door_iris_to_rings and
- * door_iris_unpack. The five calls door_iris_* are on no part: they take no state, answer none, and
- * may be made at any time. In all other calls a code is a measure's (enum door_code).
+ * door_iris_unpack. The five calls door_iris_* are on no part: they take no state and hand none
+ * back, and may be made at any time. In all other calls a code is a measure's (enum door_code).
  *
  * Older sets. Every set that an older version of this library dealt must be scrapped, of every
  * code. Neither door_load nor door_trial takes an older half: it is refused by 11, if by no earlier

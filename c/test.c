@@ -3,8 +3,8 @@
  * measure computed here; deals by the clock, which must be those by the row's threshold; a trial
  * beside every load, which must say what that answers; each refusal of each call, which must change
  * nothing, empty slices with a null pointer among them; and loads of sets that older versions
- * dealt, which are all refused. The calls on iris codes are in test_iris.c. Its argument is the
- * level that must be in use. c/test runs it.
+ * dealt, which are all refused. Its argument is the level that must be in use. c/test runs it. The
+ * calls on iris codes are in test_iris.c.
  */
 #include "older.h"
 #include "test.h"

@@ -484,8 +484,7 @@ static void every_length_of_two(void)
             hamming_says(a, i, b, k, i == BYTES && k == BYTES ? said : refused);
 }
 
-/* Lengths and rooms that would be others if they were cut to 8, 16 or 32 bits. A call may read all
-   that it is lent before it looks at the length: so no vector has 16 GB. */
+/* Lengths and rooms that would be others if they were cut to 8, 16 or 32 bits. */
 static void long_ones(void)
 {
     static const size_t more[] = {256, 512, 65536, (size_t)1 << 32};
@@ -498,8 +497,7 @@ static void long_ones(void)
             const struct writer *w = &WRITER[call];
             const struct lent too_long = {w->takes + more[i], w->writes, 0, 0};
             const struct lent much_room = {w->takes, more[i] + 1, 0, 0};
-            if (call != PACK || more[i] <= 65536)
-                says_at(w, NULL, too_long, DOOR_WRONG_LENGTH);
+            says_at(w, NULL, too_long, DOOR_WRONG_LENGTH);
             says_at(w, in, much_room, why_not(w, w->takes, more[i] + 1));
         }
         hamming_at(NULL, BYTES + more[i], 0, code, BYTES, 0, refused);

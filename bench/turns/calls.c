@@ -1,6 +1,7 @@
 /*
  * Every call of door.h that a check makes, and the trial, on the states and messages of one check;
- * and the calls on iris codes. bench/against compiles this for each of two archives, with the door.h of each.
+ * and the calls on iris codes. bench/against compiles this for each of two archives, with the
+ * door.h of each.
  */
 #include "calls.h"
 #include "door.h"
@@ -284,11 +285,11 @@ struct calls calls_for(size_t n, void *room, size_t room_size)
         {"drop", make_drop},
         {"join", make_join},
         {"whole check", check},
-        {"to rings", make_to_rings},
-        {"to angles", make_to_angles},
-        {"unpack", make_unpack},
-        {"pack", make_pack},
-        {"Hamming", make_hamming},
+        {"iris, to rings", make_to_rings},
+        {"iris, to angles", make_to_angles},
+        {"iris, unpack", make_unpack},
+        {"iris, pack", make_pack},
+        {"iris, Hamming", make_hamming},
         {NULL, NULL},
     };
     expect_level();

@@ -67,7 +67,7 @@ static void measure(size_t n, const struct calls calls[BOTH], const struct call 
         ratios[i] = times[NOW][i] / times[BEFORE][i];
     }
     const double before = nth(times[BEFORE], 0), now = nth(times[NOW], 0);
-    printf("%-12s %5zu %10.1f %10.1f %8.3f %8.3f\n", call[NOW]->name, n, before, now, now / before,
+    printf("%-15s %5zu %10.1f %10.1f %8.3f %8.3f\n", call[NOW]->name, n, before, now, now / before,
         nth(ratios, SLICES / 2));
 }
 
@@ -97,7 +97,7 @@ int main(int count, char **arguments)
 {
     static const size_t lengths[] = {1, 128, 512};
     calls_now(lengths[0], room, sizeof room);
-    printf("%s\n\n%-12s %5s %10s %10s %8s %8s\n", count > 1 ? arguments[1] : "", "call", "L",
+    printf("%s\n\n%-15s %5s %10s %10s %8s %8s\n", count > 1 ? arguments[1] : "", "call", "L",
         "before, ns", "now, ns", "of best", "median");
     for (size_t i = 0; i < sizeof lengths / sizeof *lengths; i++)
         measure_all(lengths[i]);

@@ -11,19 +11,11 @@
 #include <inttypes.h>
 #include <string.h>
 
-/* What a measure takes as elements. */
-struct elements {
-    int32_t low, high;
-};
-
-static const struct elements ELEMENTS[] = {
-    [DOOR_SCALAR] = {-1024, 1023}, [DOOR_EUCLID] = {-1024, 1023}, [DOOR_HAMMING] = {0, 1}};
-
-/* Settings that no set is dealt for. */
+/* Whether sets can be dealt for them; says why not. */
 static bool are_of_use(struct door_terms terms)
 {
-    if (terms.code < sizeof ELEMENTS / sizeof *ELEMENTS && terms.n >= 1
-        && terms.n <= DOOR_LENGTH_MOST)
+    struct elements range;
+    if (elements_of(terms.code, &range) && terms.n >= 1 && terms.n <= DOOR_LENGTH_MOST)
         return true;
     say(SETTINGS_FILE " has code %" PRIu32 " and length %zu; a code is 0 to 2, and a length 1 to "
         "%d: put " SETTINGS_FILE " right first",
@@ -42,7 +34,8 @@ static bool has_length(const struct vector *vector, struct door_terms terms, con
 
 static bool is_in_range(const struct vector *vector, uint32_t code, const char *file)
 {
-    const struct elements range = ELEMENTS[code];
+    struct elements range;
+    elements_of(code, &range);
     for (size_t i = 0; i < vector->length; i++) {
         const int32_t element = (int32_t)vector->words[i];
         if (element >= range.low && element <= range.high)
@@ -62,16 +55,17 @@ static bool fits(const struct vector *vector, const struct settings *settings, c
         && is_in_range(vector, terms.code, file);
 }
 
-static int put_in_place(const struct vector *vector, struct door_terms terms)
+static enum enrolled put_in_place(const struct vector *vector, struct door_terms terms)
 {
     char words[TERMS_ROOM];
     terms_words(terms, words);
-    if (!write_enrolled(vector)) {
-        say("office/vector is what it was, or has the new vector: enrol again");
-        return EXIT_TROUBLE;
-    }
-    say("enrolled: %s; each check that the office box begins from now on goes by it", words);
-    return EXIT_OPEN;
+    enum enrolled done = write_enrolled(vector);
+    if (done == ENROLLED)
+        say("enrolled: %s; each check that the office box begins from now on goes by it", words);
+    if (done == PERHAPS_ENROLLED)
+        say("office/vector has the new vector, but a power cut may bring the old one back: enrol "
+            "again");
+    return done;
 }
 
 /* The file's path is the caller's, so it is read before the working folder changes. Of two
@@ -80,13 +74,13 @@ int run_enrol(const char *folder, const char *file, enum vector_form form)
 {
     static struct vector vector;
     static struct settings settings;
-    int status = EXIT_TROUBLE;
+    enum enrolled done = NOT_ENROLLED;
     if (read_vector_as(form, file, &vector) && go_to(folder) && read_settings(&settings)
         && (form == AS_TEXT || takes_iris(&settings)) && fits(&vector, &settings, file)
         && claim("enrol.running"))
-        status = put_in_place(&vector, settings.terms);
-    else
-        say("nothing was enrolled");
+        done = put_in_place(&vector, settings.terms);
     explicit_bzero(&vector, sizeof vector);
-    return status;
+    if (done == NOT_ENROLLED)
+        say("nothing was enrolled");
+    return done == ENROLLED ? EXIT_OPEN : EXIT_TROUBLE;
 }

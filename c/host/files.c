@@ -136,20 +136,25 @@ static bool write_forced(const char *path, const void *bytes, size_t size)
     return force(file, path);
 }
 
-/* First the bytes, then the name, then the folder that holds the name: in this order each moment
-   has a whole file under the name, and the end has the new one. */
-bool write_durably(const char *folder, const char *file, const void *bytes, size_t size)
+/* Where this answers false, the name has the file that it had. */
+static bool write_and_name(const char *folder, const char *file, const void *bytes, size_t size)
 {
     char path[PATH_ROOM], fresh[PATH_ROOM + 4];
     snprintf(path, sizeof path, "%s/%s", folder, file);
     snprintf(fresh, sizeof fresh, "%s.tmp", path);
     if (!write_forced(fresh, bytes, size))
         return false;
-    if (rename(fresh, path) != 0) {
-        say_trouble("cannot rename to", path);
-        return false;
-    }
-    return force_folder(folder);
+    if (rename(fresh, path) == 0)
+        return true;
+    say_trouble("cannot rename to", path);
+    return false;
+}
+
+/* First the bytes, then the name, then the folder that holds the name: in this order each moment
+   has a whole file under the name, and the end has the new one. */
+bool write_durably(const char *folder, const char *file, const void *bytes, size_t size)
+{
+    return write_and_name(folder, file, bytes, size) && force_folder(folder);
 }
 
 /* The number and what it lacks to 2^64 - 1, each in twenty digits, and the version, which version 1
@@ -380,48 +385,88 @@ void dealt_words(const struct settings *settings, uint32_t row, char words[SETTI
     snprintf(words + size, SETTINGS_ROOM - size, ", by %s", used);
 }
 
-bool read_vector(const char *path, struct vector *vector)
+/* Read up to a zero byte, a file would be taken for a shorter vector without a word. An iris code
+   may have such bytes. */
+static bool read_vector_text(const char *path, char text[VECTOR_TEXT_MOST + 1])
 {
-    static char text[VECTOR_TEXT_MOST + 1]; /* secret as the vector is: wiped below */
-    size_t size;
-    if (!read_file(path, text, VECTOR_TEXT_MOST, &size))
+    static const struct expected vector_file = {
+        .what = "a vector's file, one whole number a line",
+        .where_missing = "see that the path is right, and that you may read it"};
+    struct carried carried = {.bytes = (uint8_t *)text, .room = VECTOR_TEXT_MOST};
+    if (!read_carried(path, &vector_file, &carried))
         return false;
-    text[size] = '\0';
-    const char *at = text;
-    bool right = size < VECTOR_TEXT_MOST;
-    for (vector->length = 0; right && *at != '\0'; vector->length++) {
+    text[carried.size] = '\0';
+    const size_t before_zero = strlen(text);
+    bool fits = carried.size < VECTOR_TEXT_MOST;
+    bool is_text = before_zero == carried.size;
+    if (!is_text)
+        say("%s: byte %zu is zero; expected is %s: give such a file, or an iris code's with "
+            IRIS_OPTION,
+            path, before_zero + 1, vector_file.what);
+    else if (!fits)
+        say("%s has %zu bytes; expected is %s, of at most %d bytes: give such a file", path,
+            carried.file_size, vector_file.what, VECTOR_TEXT_MOST - 1);
+    return fits && is_text;
+}
+
+static bool parse_vector(const char *text, const char *path, struct vector *vector)
+{
+    bool right = true;
+    for (vector->length = 0; right && *text != '\0'; vector->length++) {
         intmax_t number = 0;
         right = vector->length < DOOR_LENGTH_MOST
-            && next_number(&at, INT32_MIN, INT32_MAX, &number);
+            && next_number(&text, INT32_MIN, INT32_MAX, &number);
         if (right)
             vector->words[vector->length] = (uint32_t)number;
     }
-    explicit_bzero(text, sizeof text);
     if (!right)
-        say("%s: line %zu is no whole number, or one too many (at most %d)", path, vector->length,
-            DOOR_LENGTH_MOST);
+        say("%s: line %zu is no whole number, or one too many (at most %d); an iris code's file is "
+            "given with " IRIS_OPTION,
+            path, vector->length, DOOR_LENGTH_MOST);
     return right;
 }
 
-/* A vector that could not be written leaves no part of it behind either: it is secret. */
-static void remove_unfinished(const char *path)
+bool read_vector(const char *path, struct vector *vector)
 {
-    if (unlink(path) != 0 && errno != ENOENT)
-        say_trouble("cannot remove", path);
+    static char text[VECTOR_TEXT_MOST + 1]; /* secret as the vector is: wiped below */
+    bool right = read_vector_text(path, text) && parse_vector(text, path, vector);
+    explicit_bzero(text, sizeof text);
+    return right;
 }
 
-bool write_enrolled(const struct vector *vector)
+static bool remove_unfinished(const char *path)
+{
+    if (unlink(path) == 0 || errno == ENOENT)
+        return true;
+    say_trouble("cannot remove", path);
+    return false;
+}
+
+/* Into a new file: one that was left there may be another's to read. And a vector that could not be
+   written leaves no part of it behind: it is secret. */
+static bool put_enrolled(const char *text, size_t size)
+{
+    static const char unfinished[] = "office/vector.tmp";
+    if (!remove_unfinished(unfinished))
+        return false;
+    bool named = write_and_name("office", "vector", text, size);
+    if (!named)
+        remove_unfinished(unfinished);
+    return named;
+}
+
+enum enrolled write_enrolled(const struct vector *vector)
 {
     static char text[VECTOR_TEXT_MOST]; /* secret as the vector is: wiped below */
     int size = 0;
     for (size_t i = 0; i < vector->length; i++)
         size += snprintf(text + size, sizeof text - (size_t)size, "%" PRId32 "\n",
             (int32_t)vector->words[i]);
-    bool done = write_durably("office", "vector", text, (size_t)size);
+    bool put = put_enrolled(text, (size_t)size);
     explicit_bzero(text, sizeof text);
-    if (!done)
-        remove_unfinished("office/vector.tmp");
-    return done;
+    if (!put)
+        return NOT_ENROLLED;
+    return force_folder("office") ? ENROLLED : PERHAPS_ENROLLED;
 }
 
 static void stick_of(uint32_t party, char folder[PATH_ROOM])

@@ -26,8 +26,9 @@ bool go_to(const char *folder);
 bool make_folder(const char *folder);
 bool force_folder(const char *folder);
 
-/* Claims a part's folder for this process, until it ends in whatever way: of two processes with
-   one box's state, each would put its own vector under the same mask. */
+/* Claims for this process, until it ends in whatever way, what one may have at a time: a part's
+   folder, a check, an enrolment. Of two processes with one box's state, each would put its own
+   vector under the same mask; of two enrolments, each would write into the other's file. */
 bool claim(const char *path);
 
 bool read_file(const char *path, void *bytes, size_t room, size_t *size);
@@ -90,10 +91,17 @@ struct vector {
     size_t length;
 };
 
+/* From a plain file; nothing is waited for. Of what is no text of numbers it says that an iris
+   code's file is given with this option. */
+#define IRIS_OPTION "--iris"
 bool read_vector(const char *path, struct vector *vector);
 
+/* Whether the new vector is in its place. It may be where the disk failed after it was moved there:
+   a power cut could bring the old one back. */
+enum enrolled { NOT_ENROLLED, PERHAPS_ENROLLED, ENROLLED };
+
 /* Puts it in the place of the enrolled one, from where the office box reads it at every check. */
-bool write_enrolled(const struct vector *vector);
+enum enrolled write_enrolled(const struct vector *vector);
 
 /* Halves lie on the stick of the box with that party number, one file for each set. */
 bool write_half(uint32_t party, uint64_t number, const uint8_t *half, size_t size);

@@ -16,7 +16,6 @@ enum exit_status {
 
 /* What a vector's file has: numbers as text, or an iris code's 64 bytes in one of two orders. */
 enum vector_form { AS_TEXT, IRIS_BY_ANGLES, IRIS_BY_RINGS };
-#define IRIS_OPTION "--iris"
 
 /* Whatever order an iris code's file has, its vector is in ours, ring by ring. */
 bool read_vector_as(enum vector_form form, const char *path, struct vector *vector);

@@ -12,6 +12,7 @@
 #include <inttypes.h>
 #include <signal.h>
 #include <stdio.h>
+#include <stdlib.h>
 #include <string.h>
 #include <sys/file.h>
 #include <sys/resource.h>
@@ -406,6 +407,13 @@ static void refuses_file(const char *file, const char *words)
             words);
 }
 
+/* By both commands, as numbers. */
+static void refuses_text(const char *file, const char *words)
+{
+    refuses((char *[]){"door-host", "enrol", ".", (char *)file, NULL}, words);
+    refuses((char *[]){"door-host", "check", ".", (char *)file, NULL}, words);
+}
+
 static void wrong_sizes(void)
 {
     static const uint8_t bytes[TEXT_ROOM];
@@ -422,22 +430,73 @@ static void wrong_sizes(void)
     refuses_file(SCAN, "operator: " SCAN " has 1024 bytes; an iris code has 64: give the file");
 }
 
-static void no_plain_file(void)
+/* Neither as a code nor as numbers. */
+static void no_plain_file_as(
+    void (*refuse)(const char *file, const char *words), const char *expected)
 {
-    static const char expected[] = "expected is an iris code's file of 64 bytes: ";
     static const char *const kinds[][2] = {{"pipe", "a pipe"}, {"office", "a folder"},
         {"watch.sock", "a socket"}, {"/dev/zero", "a device"}};
     char words[LINE_ROOM];
-    EXPECT(mkfifo("pipe", 0600) == 0, "no pipe");
     for (size_t i = 0; i < sizeof kinds / sizeof *kinds; i++) {
-        snprintf(words, sizeof words, "operator: %s is %s; %sgive that file's path\n", kinds[i][0],
-            kinds[i][1], expected);
-        refuses_file(kinds[i][0], words);
+        snprintf(words, sizeof words, "operator: %s is %s; expected is %s: give that file's path\n",
+            kinds[i][0], kinds[i][1], expected);
+        refuse(kinds[i][0], words);
     }
+    snprintf(words, sizeof words, "operator: cannot open none: No such file or directory; expected "
+        "is %s: see that the path is right, and that you may read it\n", expected);
+    refuse("none", words);
+}
+
+static void no_plain_file(void)
+{
+    EXPECT(mkfifo("pipe", 0600) == 0, "no pipe");
+    no_plain_file_as(refuses_file, "an iris code's file of 64 bytes");
+    no_plain_file_as(refuses_text, "a vector's file, one whole number a line");
     EXPECT(unlink("pipe") == 0, "cannot remove the pipe");
-    snprintf(words, sizeof words, "operator: cannot open none: No such file or directory; %ssee "
-        "that the path is right, and that you may read it\n", expected);
-    refuses_file("none", words);
+}
+
+/* Numbers that are as many as the door takes before a zero byte, or behind one. */
+struct zero_text {
+    const char *bytes;
+    size_t size, zero_at;
+};
+
+#define ZERO_TEXT(bytes, zero_at) {bytes, sizeof bytes - 1, zero_at}
+
+static const struct zero_text ZERO_TEXTS[] = {
+    ZERO_TEXT("0\n1\n0\n\0garbage", 7), ZERO_TEXT("0\n1\n0\n\0", 7), ZERO_TEXT("0\n1\n0\0\n", 6),
+    ZERO_TEXT("0\n1\n0\0", 6), ZERO_TEXT("\0000\n1\n0\n", 1), ZERO_TEXT("0\n1\n0\n\0000\n", 7)};
+
+static void zero_byte_is(size_t at)
+{
+    char words[LINE_ROOM];
+    snprintf(words, sizeof words, "operator: " SCAN ": byte %zu is zero; expected is a vector's "
+        "file, one whole number a line: give such a file, or an iris code's with --iris\n", at);
+    refuses_text(SCAN, words);
+}
+
+/* The last one is an iris code, with the option forgotten. */
+static void zero_bytes(void)
+{
+    static const struct code zeros;
+    put_file("dealer/settings", "2 3 1\n", 6);
+    for (size_t i = 0; i < sizeof ZERO_TEXTS / sizeof *ZERO_TEXTS; i++) {
+        put_file(SCAN, ZERO_TEXTS[i].bytes, ZERO_TEXTS[i].size);
+        zero_byte_is(ZERO_TEXTS[i].zero_at);
+    }
+    write_settings_anew();
+    put_code(SCAN, &zeros, BY_RING);
+    zero_byte_is(1);
+}
+
+/* A byte more than a vector's file may have. */
+static void long_text(void)
+{
+    static char text[16384];
+    memset(text, '0', sizeof text);
+    put_file(SCAN, text, sizeof text);
+    refuses_text(SCAN, "operator: " SCAN " has 16384 bytes; expected is a vector's file, one whole "
+        "number a line, of at most 16383 bytes: give such a file\n");
 }
 
 /* What a door is set up for, and how that is told. */
@@ -484,7 +543,9 @@ static void usages(void)
         {".", SCAN, "--iris", "rings", "--iris", "rings", NULL},
         {".", SCAN, "--iris", "angles", "more", NULL}, {".", SCAN, "--rings", "rings", NULL},
         {".", SCAN, "rings", "--iris", NULL}, {".", "--iris", NULL}, {".", "--iris", "rings", NULL},
-        {".", "--iris", "rings", SCAN, NULL}, {".", "--iris", "--iris", "rings", NULL}};
+        {".", "--iris", "rings", SCAN, NULL}, {".", "--iris", "--iris", "rings", NULL},
+        {"--iris", "angles", NULL}, {"--iris", SCAN, NULL}, {"--iris", "rings", ".", SCAN, NULL},
+        {"--iris", SCAN, "--iris", "rings", NULL}};
     for (size_t i = 0; i < 2 * sizeof lines / sizeof *lines; i++) {
         char *arguments[10] = {"door-host", i % 2 == 0 ? "enrol" : "check"};
         memcpy(arguments + 2, lines[i / 2], sizeof lines[i / 2]);
@@ -510,7 +571,8 @@ static const struct bad_text BAD_TEXTS[] = {
     {"0 3 1\n", "1023\n-1025\n0\n", ": number 2 is -1025; with code 0 "},
     {"1 3 1\n", "1024\n0\n0\n", ": number 1 is 1024; with code 1 "},
     {"1 3 1 9\n", "0\n0\n-1025\n", ": number 3 is -1025; with code 1 "},
-    {"1 3 1\n", "0\nx\n0\n", ": line 2 is no whole number"},
+    {"1 3 1\n", "0\nx\n0\n", ": line 2 is no whole number, or one too many (at most 512); an iris "
+        "code's file is given with --iris\n"},
     {"3 3 1\n", "0\n0\n0\n", "dealer/settings has code 3 and length 3; a code is 0 to 2, and a "
         "length 1 to 512: put dealer/settings right first\n"},
     {"2 0 1\n", "", "dealer/settings has code 2 and length 0; "},
@@ -537,6 +599,8 @@ static void refusals(void)
     draw_code(&code);
     wrong_sizes();
     no_plain_file();
+    zero_bytes();
+    long_text();
     put_code(SCAN, &code, BY_ANGLE);
     other_doors();
     usages();
@@ -547,6 +611,11 @@ static void refusals(void)
 
 static char *const ENROL[] = {"door-host", "enrol", ".", TEMPLATE, "--iris", "angles", NULL};
 
+#define NOTHING "operator: nothing was enrolled\n"
+#define PERHAPS                                                                                    \
+    "operator: office/vector has the new vector, but a power cut may bring the old one back: "     \
+    "enrol again\n"
+
 /* Another one is under way. */
 static void one_at_a_time(void)
 {
@@ -555,7 +624,7 @@ static void one_at_a_time(void)
     EXPECT(file >= 0 && flock(file, LOCK_EX | LOCK_NB) == 0, "cannot claim the enrolment");
     EXPECT(run_and_hear(ENROL, said) == EXIT_TROUBLE, "two enrolments at one time");
     expect_said(said, "operator: another process has claimed enrol.running");
-    expect_said(said, "operator: nothing was enrolled\n");
+    expect_said(said, NOTHING);
     EXPECT(close(file) == 0, "cannot give up the enrolment");
     expect_enrolled();
 }
@@ -575,17 +644,53 @@ static void full_disk(void)
     expect_enrolled();
 }
 
+/* One that was killed has left a file, which others may read. */
+static void left_behind(const struct code *code)
+{
+    put_file("office/vector.tmp", "0\n", 2);
+    EXPECT(chmod("office/vector.tmp", 0644) == 0, "no other mode");
+    enrol(code, BY_RING);
+}
+
+static void fails(const char *trouble, const char *outcome)
+{
+    char said[SAID_ROOM];
+    int status = run_and_hear(ENROL, said);
+    EXPECT(status == EXIT_TROUBLE, "an enrolment ends with status %d; expected is: %s", status,
+        trouble);
+    expect_said(said, trouble);
+    expect_said(said, outcome);
+}
+
 /* The new file cannot be made. */
 static void no_new_file(void)
 {
-    char said[SAID_ROOM];
     EXPECT(mkdir("office/vector.tmp", 0700) == 0, "no folder");
-    EXPECT(run_and_hear(ENROL, said) == EXIT_TROUBLE, "enrolled without a new file");
-    expect_said(said, "operator: cannot make office/vector.tmp: Is a directory");
-    expect_said(
-        said, "operator: office/vector is what it was, or has the new vector: enrol again\n");
+    fails("operator: cannot remove office/vector.tmp: Is a directory\n", NOTHING);
     EXPECT(rmdir("office/vector.tmp") == 0, "no folder");
     expect_enrolled();
+}
+
+static void no_office(void)
+{
+    EXPECT(rename("office", "elsewhere") == 0, "no office");
+    fails("operator: cannot make office/vector.tmp: No such file or directory\n", NOTHING);
+    EXPECT(rename("elsewhere", "office") == 0, "no office");
+    expect_enrolled();
+}
+
+/* At the new file, and at the folder, when the file is in its place. */
+static void failing_disk(const struct code *new)
+{
+    EXPECT(setenv(FORCING_FAILS, "1", 1) == 0, "no setenv");
+    fails("operator: cannot force to disk office/vector.tmp: Input/output error\n", NOTHING);
+    expect_enrolled();
+    EXPECT(setenv(FORCING_FAILS, "2", 1) == 0, "no setenv");
+    fails("operator: cannot force to disk office: Input/output error\n", PERHAPS);
+    EXPECT(unsetenv(FORCING_FAILS) == 0, "no unsetenv");
+    set_vector(OFFICE, new, BY_RING);
+    EXPECT(is_enrolled(current[OFFICE], BITS), "the new vector is not in its place");
+    enrol(new, BY_ANGLE);
 }
 
 /* Killed at that moment, and with its power gone or not: the old vector is there, or the new one.
@@ -631,12 +736,14 @@ static void come_to_nothing(void)
     draw_code(&own);
     draw_code(&other);
     set_threshold(20);
-    enrol(&own, BY_RING);
+    left_behind(&own);
     put_code(TEMPLATE, &other, BY_ANGLE);
     one_at_a_time();
     full_disk();
     no_new_file();
     stop_all();
+    no_office();
+    failing_disk(&other);
     cut_short_at(BEFORE_STEP, 4);
     cut_short_at(AFTER_RENAME, 1);
     start_all();

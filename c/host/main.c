@@ -85,12 +85,13 @@ static bool parse_form(int count, char **arguments, enum vector_form *form)
     return *form == IRIS_BY_ANGLES || strcmp(arguments[1], "rings") == 0;
 }
 
-/* The command, its folder, a file and its form. Where the option stands in the file's place, the
-   file was left out. */
+/* The command, its folder, a file and its form. Where the option stands in the folder's place or
+   in the file's, that was left out. */
 static int run_with_vector(int count, char **arguments)
 {
     enum vector_form form;
-    if (count < 3 || strcmp(arguments[2], IRIS_OPTION) == 0
+    if (count < 3 || strcmp(arguments[1], IRIS_OPTION) == 0
+        || strcmp(arguments[2], IRIS_OPTION) == 0
         || !parse_form(count - 3, arguments + 3, &form))
         return usage();
     if (strcmp(arguments[0], "enrol") == 0)

@@ -81,32 +81,46 @@ const char *refusal_words(uint32_t why)
     return why < sizeof words / sizeof *words ? words[why] : "a number that no call answers";
 }
 
-/* A measure by its code, and the range of its thresholds and marks. */
-struct measure_words {
+/* A measure by its code, with the range of its thresholds and marks, and that of its elements. */
+struct measure {
     const char *name, *range;
+    struct elements elements;
 };
 
-static struct measure_words measure_words(uint32_t code)
+static const struct measure MEASURES[] = {
+    [DOOR_SCALAR] = {"scalar product", "-1073741824 to 1073741824", {-1024, 1023}},
+    [DOOR_EUCLID] = {"squared Euclid", "0 to 2147483647", {-1024, 1023}},
+    [DOOR_HAMMING] = {"Hamming", "0 to 513", {0, 1}},
+};
+
+static bool is_measure(uint32_t code)
 {
-    static const struct measure_words measures[] = {
-        [DOOR_SCALAR] = {"scalar product", "-1073741824 to 1073741824"},
-        [DOOR_EUCLID] = {"squared Euclid", "0 to 2147483647"},
-        [DOOR_HAMMING] = {"Hamming", "0 to 513"},
-    };
-    static const struct measure_words none = {"a measure of no known code", "no threshold"};
-    return code < sizeof measures / sizeof *measures ? measures[code] : none;
+    return code < sizeof MEASURES / sizeof *MEASURES;
+}
+
+static struct measure measure_of(uint32_t code)
+{
+    static const struct measure none = {.name = "a measure of no known code",
+        .range = "no threshold"};
+    return is_measure(code) ? MEASURES[code] : none;
 }
 
 void terms_words(struct door_terms terms, char words[TERMS_ROOM])
 {
-    snprintf(words, TERMS_ROOM, "%s, %zu element%s", measure_words(terms.code).name, terms.n,
+    snprintf(words, TERMS_ROOM, "%s, %zu element%s", measure_of(terms.code).name, terms.n,
         terms.n == 1 ? "" : "s");
 }
 
 void range_words(uint32_t code, char words[RANGE_ROOM])
 {
-    const struct measure_words measure = measure_words(code);
+    const struct measure measure = measure_of(code);
     snprintf(words, RANGE_ROOM, "%s takes %s", measure.name, measure.range);
+}
+
+bool elements_of(uint32_t code, struct elements *elements)
+{
+    *elements = measure_of(code).elements;
+    return is_measure(code);
 }
 
 void say_refused(const char *call, uint64_t number, uint32_t why, const char *done)

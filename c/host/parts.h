@@ -6,6 +6,7 @@
 
 #include "../door.h"
 
+#include <stdbool.h>
 #include <stdint.h>
 
 /* The two boxes have their party numbers, so that a part is also what a message has as sender. */
@@ -46,6 +47,14 @@ void terms_words(struct door_terms terms, char words[TERMS_ROOM]);
 /* Which thresholds and marks a measure takes: 'Hamming takes 0 to 513'. */
 #define RANGE_ROOM 64
 void range_words(uint32_t code, char words[RANGE_ROOM]);
+
+/* Which numbers a measure takes as elements, from the low to the high one. False where no measure
+   has that code. */
+struct elements {
+    int32_t low, high;
+};
+
+bool elements_of(uint32_t code, struct elements *elements);
 
 /* Says which call was refused for which set, why, and what this host did about it. */
 void say_refused(const char *call, uint64_t number, uint32_t why, const char *done);

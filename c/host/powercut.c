@@ -27,12 +27,17 @@ int __wrap_unlink(const char *path);
 int __wrap_flock(int file, int operation);
 int __wrap_socket(int family, int type, int protocol);
 
-/* Counts on, and ends the process where the environment says so. */
-static void come_to(const char *moment, unsigned long *count)
+/* Counts on. Whether the environment has this number. */
+static bool is_at(const char *moment, unsigned long *count)
 {
     const char *at = getenv(moment);
     ++*count;
-    if (at != NULL && strtoul(at, NULL, 10) == *count)
+    return at != NULL && strtoul(at, NULL, 10) == *count;
+}
+
+static void come_to(const char *moment, unsigned long *count)
+{
+    if (is_at(moment, count))
         raise(SIGKILL);
 }
 
@@ -128,9 +133,14 @@ static void wait_as_for_a_disk(void)
    time and the machine's disk do. */
 int __wrap_fsync(int file)
 {
+    static unsigned long forced;
     char path[ROOM];
     wait_as_for_a_disk();
     come_to_step();
+    if (is_at(FORCING_FAILS, &forced)) {
+        errno = EIO;
+        return -1;
+    }
     path_of(file, path);
     if (is_of_type(file, S_IFDIR)) {
         settle_folder(path);

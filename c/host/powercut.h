@@ -8,8 +8,9 @@
  * never calls fsync would pass.
  *
  * A process may also be killed at a moment that is not left to chance: before the n-th step, a
- * write, fsync, rename or unlink, right after the n-th rename, or before the n-th contact with other
- * processes, a claim or a new socket, where the environment has that n.
+ * write, fsync, rename or unlink, right after the n-th rename, or before the n-th contact with
+ * other processes, a claim or a new socket, where the environment has that n. And so the n-th fsync
+ * may fail.
  */
 #ifndef HOST_POWERCUT_H
 #define HOST_POWERCUT_H
@@ -22,5 +23,6 @@
 #define BEFORE_STEP "POWERCUT_BEFORE_STEP"
 #define AFTER_RENAME "POWERCUT_AFTER_RENAME"
 #define BEFORE_CONTACT "POWERCUT_BEFORE_CONTACT"
+#define FORCING_FAILS "POWERCUT_FORCING_FAILS"
 
 #endif
