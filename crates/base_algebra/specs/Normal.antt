@@ -103,11 +103,15 @@ ord_eq i j h = eqb→eq i j (subst (λ (o : Ordering). T (compare_is_eq o)) (sym
 
 cmp_eq : (k l : List ℕ) → T (compare_is_eq (cmp k l)) → k ≡ l
 cmp_eq [] [] t = refl
+cmp_eq [] (j ∷ l) t = elim t [ ]
+cmp_eq (i ∷ k) [] t = elim t [ ]
 cmp_eq (i ∷ k) (j ∷ l) t = go (compare i j) refl (cmp_eq k l) t
   where
     go : (o : Ordering) → compare i j ≡ o → (T (compare_is_eq (cmp k l)) → k ≡ l)
         → T (compare_is_eq (elim o [ Ordering.lt ↦ Ordering.lt | Ordering.eq ↦ cmp k l | Ordering.gt ↦ Ordering.gt ]))
         → ◌≡◌ {A = List ℕ} (i ∷ k) (j ∷ l)
+    go Ordering.lt e h u = elim u [ ]
+    go Ordering.gt e h u = elim u [ ]
     go Ordering.eq e h u = ap₂ (λ (x : ℕ) (y : List ℕ). x ∷ y) (ord_eq i j e) (h u)
 
 mono_mins : (ρ : List ℕ) (i : ℕ) (l : List ℕ) → mono ρ (mins i l) ≡ slice_index ρ i * mono ρ l
