@@ -1,4 +1,6 @@
 // What every call of a door has in common: the door's name and a message's label.
+#![tactic(auto)]
+
 ghost use Rattle.std.specs.Prelude.{◌≡◌, ◌≤◌, length};
 ghost use Rattle.base_messages.specs.Messages.{unless, printable as printable_of, name_fits, padded as padded_of};
 ghost use Rattle.base_messages.specs.Messages.{expected as expected_of};

@@ -1,5 +1,7 @@
 // Words in byte slices, little-endian (01, "Measures"): loads and stores, and copies and compares of
 // bytes. [SPEC 2.5]
+#![tactic(auto)]
+
 ghost use Rattle.std.specs.Prelude.{◌≡◌, ◌+◌, ◌*◌, ◌<◌, ◌≤◌, min, length};
 ghost use Rattle.base_words.specs.List.{over, same};
 ghost use Rattle.base_words.specs.Bytes.{le32, bytes_of, word_at};

@@ -237,3 +237,4 @@ same_refl (x ∷ a) = ap₂ ◌&&◌ (is_true (x == x) (eqb_refl x)) (same_refl 
   where
     is_true : (c : Bool) → T c → c ≡ true
     is_true true t = refl
+    is_true false t = elim t [ ]

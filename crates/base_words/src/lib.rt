@@ -1,4 +1,6 @@
 // A word is a u32; sums, differences and products are taken modulo 2^32 (01, "Measures"). [SPEC 2.1, 2.2]
+#![tactic(auto)]
+
 ghost use Rattle.std.specs.Prelude.{◌≡◌, ◌<◌};
 ghost use Rattle.base_algebra.specs.Word.{add as add_of, sub as sub_of, mul as mul_of};
 ghost use Rattle.base_algebra.specs.Bit.{only as only_if, odd};
