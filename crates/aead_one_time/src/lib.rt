@@ -1,5 +1,7 @@
 // The one-time keys of Poly1305, RFC 8439, 2.6, for up to 16 nonces that differ in their last word: one
 // pass over eight blocks makes eight of them, for the blocks of a half.
+#![tactic(auto)]
+
 ghost use Rattle.std.specs.Prelude.{◌≡◌, [], length, get_or, take, drop, ◌+◌, ◌*◌, ◌<◌, ◌≤◌};
 ghost use Rattle.base_words.specs.List.{over};
 ghost use Rattle.base_words.specs.Bytes.{bytes_of};

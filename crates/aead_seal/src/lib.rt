@@ -1,5 +1,7 @@
 // ChaCha20-Poly1305, the AEAD of RFC 8439, 2.8: sealing and opening in place, for any additional
 // data and any length.
+#![tactic(auto)]
+
 ghost use Rattle.std.specs.Prelude.{◌≡◌, ◌++◌, ◌≤◌, length};
 ghost use Rattle.base_words.specs.Numbers.{bytes};
 ghost use Rattle.base_algebra.specs.Mod.{Mod};
@@ -14,7 +16,7 @@ const LIMIT: usize = 274877906880;
 const FIRST: u32 = 1;
 
 // `ok` is whether the text was sealed; where it was not, it is too long, and the tag is zeros.
-#[derive(Drop)]
+#[derive(Clone, Copy)]
 pub struct Sealed {
     pub ok: bool,
     pub tag: [u8; 16],

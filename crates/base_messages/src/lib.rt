@@ -58,7 +58,7 @@ pub const KEY: usize = 32;
 
 // Who a box is: the door's padded name, its party and its key.
 #[repr(C)]
-#[derive(Drop)]
+#[derive(Clone, Copy)]
 pub struct Identity {
     pub name: [u8; NAME],
     pub party: u32,
@@ -67,7 +67,7 @@ pub struct Identity {
 
 // What a message carries beside its name and its content.
 #[repr(C)]
-#[derive(Drop)]
+#[derive(Clone, Copy)]
 pub struct Label {
     pub kind: u32,
     pub sender: u32,

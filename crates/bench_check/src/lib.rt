@@ -2,6 +2,8 @@
 // languages to link: the benchmark does. They are no calls of 01 and stand in no door's archive. A
 // slice is handed over as a pointer and a length; an array of fixed size as a pointer; a key as a
 // struct by value. No function asks anything of its caller.
+#![tactic(auto)]
+
 ghost use Rattle.std.specs.Prelude.{◌≡◌};
 ghost use Rattle.dcf_node.specs.Node.{key_for, value_at};
 ghost use Rattle.measure_table.specs.Measure.{ordinary_width};

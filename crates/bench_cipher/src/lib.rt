@@ -1,6 +1,8 @@
 // The cipher as C functions, for programs in other languages to link: the benchmark does. They are
 // no calls of 01 and stand in no door's archive; neither are bench_check's, and neither do those. A
 // slice is handed over as a pointer and a length; an array of fixed size as a pointer.
+#![tactic(auto)]
+
 ghost use Rattle.std.specs.Prelude.{◌≡◌, cond, length};
 ghost use Rattle.base_words.specs.Bytes.{words_at};
 ghost use Rattle.chacha20_stream.specs.Keystream.{stream};

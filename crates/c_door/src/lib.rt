@@ -1,6 +1,8 @@
 // Every call of dealer, box and lock, those on iris codes, and the margin, as C functions, for the hosts.
 // A state is handed over and comes back by value, but for a trial's, which does not come back; a slice is
 // a pointer and a length. No function asks anything of its caller.
+#![tactic(auto)]
+
 ghost use Rattle.std.specs.Prelude.{◌≡◌, length};
 ghost use Rattle.half_deal.specs.Dealing.{deal_from};
 ghost use Rattle.call_day.specs.Table.{table_of};

@@ -1,6 +1,8 @@
 // The lock's join and its number as C functions, for the lock's host: it keeps the padded name and
 // the last number itself, and hands them in beside the two answers. A slice is handed over as a
 // pointer and a length. No function asks anything of its caller.
+#![tactic(auto)]
+
 ghost use Rattle.std.specs.Prelude.{◌≡◌};
 ghost use Rattle.c_lock.specs.Host.{label, answer_on, c_join, c_last};
 

@@ -1,5 +1,7 @@
 // The table of the day (02, §5): rows of a first minute, a last minute and a threshold, handed in as
 // three lists. It tells which row holds a minute, or why a table is turned down and at which place.
+#![tactic(auto)]
+
 ghost use Rattle.std.specs.Prelude.{◌≡◌, ◌≤◌, length};
 ghost use Rattle.call_day.specs.Table.{in_row, row_fits, rows_with, first_bad_row, first_bad_minute, row_at, table_of};
 ghost use Rattle.call_day.specs.Table.{why_not_table, choose as choose_of};
@@ -15,7 +17,7 @@ pub const ROWS: usize = 32;
 const NO_THRESHOLD: u32 = 2147483648;
 
 // Why a table is turned down, or 0; and the place beside it.
-#[derive(Drop)]
+#[derive(Clone, Copy)]
 pub struct Fault {
     pub why: u32,
     pub place: u32,
@@ -24,7 +26,7 @@ pub struct Fault {
 // The same, and for a good table the row that holds a minute: its place, counted from 1, and its
 // threshold. For a minute that is not of the day the place is 0. Where no row is chosen the threshold
 // is NO_THRESHOLD.
-#[derive(Drop)]
+#[derive(Clone, Copy)]
 pub struct Choice {
     pub why: u32,
     pub place: u32,

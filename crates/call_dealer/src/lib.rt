@@ -1,4 +1,6 @@
 // The dealer: deals a numbered set of masks to the two boxes as sealed halves.
+#![tactic(auto)]
+
 ghost use Rattle.std.specs.Prelude.{◌≡◌, List, ℕ, length};
 ghost use Rattle.base_words.specs.List.{over};
 ghost use Rattle.half_deal.specs.Dealing.{deal_from};
@@ -15,7 +17,7 @@ use measure_table::{Rule, Terms};
 
 // What the dealer keeps: the door's padded name, the keys of the two boxes, and its last set number.
 #[repr(C)]
-#[derive(Drop)]
+#[derive(Clone, Copy)]
 pub struct Dealer {
     pub name: [u8; NAME],
     pub key0: [u8; KEY],
@@ -25,7 +27,7 @@ pub struct Dealer {
 
 // Why a call was refused (0 if it was not), and the next state.
 #[repr(C)]
-#[derive(Drop)]
+#[derive(Clone, Copy)]
 pub struct DealerAnswer {
     pub why: u32,
     pub dealer: Dealer,
@@ -34,7 +36,7 @@ pub struct DealerAnswer {
 // The same of a deal by the clock, and a place: the row that was used, counted from 1; with 14 to 16
 // the row or the minute that they name; else 0.
 #[repr(C)]
-#[derive(Drop)]
+#[derive(Clone, Copy)]
 pub struct ClockAnswer {
     pub why: u32,
     pub place: u32,

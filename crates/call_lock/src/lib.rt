@@ -1,4 +1,6 @@
 // The lock: joins the two boxes' answers to a yes or no.
+#![tactic(auto)]
+
 ghost use Rattle.std.specs.Prelude.{◌≡◌};
 ghost use Rattle.call_lock.specs.Lock.{refused as refused_for, start_lock, why_not_join, join as join_of};
 
@@ -6,7 +8,7 @@ use base_messages::{Label, NAME};
 
 // The door's padded name and the last joined number.
 #[repr(C)]
-#[derive(Drop)]
+#[derive(Clone, Copy)]
 pub struct Lock {
     pub name: [u8; NAME],
     pub last: u64,
@@ -14,7 +16,7 @@ pub struct Lock {
 
 // Why a call was refused (0 if it was not), the next state, and what a join reports.
 #[repr(C)]
-#[derive(Drop)]
+#[derive(Clone, Copy)]
 pub struct LockAnswer {
     pub why: u32,
     pub lock: Lock,

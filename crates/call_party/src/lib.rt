@@ -3,6 +3,8 @@
 // hands it back as it was, with the refusal's number, and leaves every lent buffer as it was. A trial
 // (02, "Trial load") hands none back.
 // [SPEC 12.1, 15.3, 16.3, 17.5, 18.5, 19.1, 22.4, 22.5, 34.1 to 34.3]
+#![tactic(auto)]
+
 ghost use Rattle.std.specs.Prelude.{◌≡◌, ◌-◌, ◌≤◌, eqb, leb, length};
 ghost use Rattle.base_words.specs.List.{over};
 ghost use Rattle.measure_table.specs.Measure.{most_elements, all_in_range};
@@ -32,7 +34,7 @@ pub const TAKEN: u32 = 3;
 // The check that a box has open: the set, this box's masked vector and own term after call 2, and its
 // word after call 3. With no set open all of it is zero. [SPEC 1.2, 1.3, 12.5, 12.8]
 #[repr(C)]
-#[derive(Drop)]
+#[derive(Clone, Copy)]
 pub struct Check {
     pub phase: u32,
     pub set: Set,
@@ -44,7 +46,7 @@ pub struct Check {
 // A box of 01: who it is, its last set number, its check, and the set that waits for that check to
 // end. A set waits if its L is not 0; with none waiting all of it is zero.
 #[repr(C)]
-#[derive(Drop)]
+#[derive(Clone, Copy)]
 pub struct Party {
     pub who: Identity,
     pub last: u64,
@@ -54,7 +56,7 @@ pub struct Party {
 
 // Why a call was refused (0 if it was not), the next state, and the word or answer that is sent.
 #[repr(C)]
-#[derive(Drop)]
+#[derive(Clone, Copy)]
 pub struct PartyAnswer {
     pub why: u32,
     pub party: Party,
@@ -64,7 +66,7 @@ pub struct PartyAnswer {
 // What a trial says: why a load would be refused (0 if it would not), and of a half that it would take
 // the door's name, and measure code and L, as they stand in the half. Else these are zero.
 #[repr(C)]
-#[derive(Drop)]
+#[derive(Clone, Copy)]
 pub struct TrialAnswer {
     pub why: u32,
     pub name: [u8; NAME],

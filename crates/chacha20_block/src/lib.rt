@@ -1,5 +1,7 @@
 // The ChaCha20 block function of RFC 8439, 2.3, on words. Keys and nonces are words already:
 // key_words and nonce_words read them from bytes.
+#![tactic(auto)]
+
 ghost use Rattle.std.specs.Prelude.{◌≡◌};
 ghost use Rattle.base_words.specs.Bytes.{words_at};
 ghost use Rattle.chacha20_rounds.specs.Rounds.{words, rounds};

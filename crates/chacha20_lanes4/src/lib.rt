@@ -1,5 +1,7 @@
 // Four ChaCha20 states side by side in 64 words: one read, one written. Word w of state l stands
 // at 4 * w + l, so that LLVM makes one vector operation of the four states' words.
+#![tactic(auto)]
+
 ghost use Rattle.std.specs.Prelude.{◌≡◌, [], length, get_or, set, ◌<◌};
 ghost use Rattle.chacha20_rounds.specs.Rounds.{words};
 ghost use Rattle.chacha20_lanes4.specs.Lanes.{rows, four_at, put_four};

@@ -1,5 +1,7 @@
 // Eight ChaCha20 states side by side in 128 words, as `chacha20_lanes4` has four in 64: word w of state l stands
 // at 8 * w + l.
+#![tactic(auto)]
+
 ghost use Rattle.std.specs.Prelude.{◌≡◌, [], length, get_or, set, ◌<◌};
 ghost use Rattle.chacha20_rounds.specs.Rounds.{words};
 ghost use Rattle.chacha20_lanes4.specs.Lanes.{rows, four_at, put_four};

@@ -1,9 +1,11 @@
 // The rounds of ChaCha20, RFC 8439, 2.1 to 2.3, on a state of 16 words: the quarter round, and a
 // round of four on the columns or on the diagonals.
+#![tactic(auto)]
+
 ghost use Rattle.std.specs.Prelude.{◌≡◌};
 ghost use Rattle.chacha20_rounds.specs.Rounds.{words, quarter, column_round, diagonal_round, added};
 
-#[derive(Drop)]
+#[derive(Clone, Copy)]
 pub struct Four {
     pub a: u32,
     pub b: u32,
@@ -11,7 +13,7 @@ pub struct Four {
     pub d: u32,
 }
 
-#[derive(Drop)]
+#[derive(Clone, Copy)]
 pub struct State {
     pub x0: u32,
     pub x1: u32,

@@ -1,5 +1,7 @@
 // The key stream of RFC 8439, 2.4, eight blocks at a time, and a rest of up to four blocks by four:
 // its words, and the xor of bytes with it.
+#![tactic(auto)]
+
 ghost use Rattle.std.specs.Prelude.{◌≡◌, [], length, get_or, ◌+◌, ◌-◌, ◌<◌, ◌≤◌, min};
 ghost use Rattle.std.specs.Int.Bits.{bit_xor};
 ghost use Rattle.base_words.specs.List.{over, tab};

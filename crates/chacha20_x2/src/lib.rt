@@ -6,6 +6,8 @@
 // in registers: two blocks then take little more than half the time of two calls of chacha20_block::block.
 // Where rows stood side by side LLVM turned two of them at once with AVX-512, and had to go through
 // memory for that: three times slower.
+#![tactic(auto)]
+
 ghost use Rattle.std.specs.Prelude.{◌≡◌, ◌+◌, ◌≤◌, ◌<◌, length, take};
 ghost use Rattle.chacha20_rounds.specs.Rounds.{words, quarter_at, double_round, rounds, added, block_from};
 ghost use Rattle.chacha20_x2.specs.Pair.{four_at, put_four, left_by, half, put, columns as columns_of};
@@ -13,7 +15,7 @@ ghost use Rattle.chacha20_x2.specs.Pair.{turned as turned_at, turned_rows};
 
 use chacha20_rounds::{Four, State};
 
-#[derive(Drop)]
+#[derive(Clone, Copy)]
 pub struct Two {
     pub a: State,
     pub b: State,

@@ -1,4 +1,6 @@
 // Four ChaCha20 blocks in one pass: nearly all of the time of a door check goes here.
+#![tactic(auto)]
+
 ghost use Rattle.std.specs.Prelude.{◌≡◌, map, length, get_or};
 ghost use Rattle.base_algebra.specs.Word.{add};
 ghost use Rattle.base_words.specs.List.{tab};

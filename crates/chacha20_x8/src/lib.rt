@@ -1,4 +1,6 @@
 // Eight ChaCha20 blocks in one pass, as `chacha20_x4` has four.
+#![tactic(auto)]
+
 ghost use Rattle.std.specs.Prelude.{◌≡◌, map, length, get_or};
 ghost use Rattle.base_algebra.specs.Word.{add};
 ghost use Rattle.base_words.specs.List.{tab};

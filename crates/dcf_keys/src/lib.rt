@@ -1,6 +1,8 @@
 // Makes a comparison key: two key seeds and a point give 32 corrections and a final word. Each
 // level opens both children of both parties' nodes in one four-block pass; the side that the
 // point's bit keeps is picked by its lane, so that nothing branches on the point or on a flag.
+#![tactic(auto)]
+
 ghost use Rattle.std.specs.Prelude.{◌≡◌, true, [], get_or, ◌+◌, ◌*◌, ◌<◌};
 ghost use Rattle.std.specs.Bool.{xor};
 ghost use Rattle.base_algebra.specs.Word.{add, sub};
@@ -13,7 +15,7 @@ ghost use Rattle.dcf_keys.specs.Keys.{as_child, as_making, both_opened, opened_a
 
 use dcf_node::{Correction, Key};
 
-#[derive(Drop)]
+#[derive(Clone, Copy)]
 pub struct Child {
     pub seed: [u32; 8],
     pub word: u32,
@@ -21,7 +23,7 @@ pub struct Child {
 }
 
 // Key making before a level: both parties' seeds and flags, and V.
-#[derive(Drop)]
+#[derive(Clone, Copy)]
 pub struct Making {
     pub s0: [u32; 8],
     pub s1: [u32; 8],

@@ -1,6 +1,8 @@
 // A node of a comparison key's tree, opened by a ChaCha20 block: the seed, word and flag of a child,
 // and what key making and walking do with them. A flag is a word whose lowest bit counts, and
 // nothing here branches on one: a mask of ones or zeros takes a correction or leaves it.
+#![tactic(auto)]
+
 ghost use Rattle.std.specs.Prelude.{◌≡◌, ◌&&◌, ◌<◌};
 ghost use Rattle.std.specs.Bool.{xor};
 ghost use Rattle.base_algebra.specs.Bit.{only as only_if, odd};
@@ -13,7 +15,7 @@ use chacha20_rounds::State;
 
 // A level's correction. Of the flags, bit 0 is the left one and bit 1 the right one.
 #[repr(C)]
-#[derive(Drop)]
+#[derive(Clone, Copy)]
 pub struct Correction {
     pub seed: [u32; 8],
     pub word: u32,
@@ -21,14 +23,14 @@ pub struct Correction {
 }
 
 #[repr(C)]
-#[derive(Drop)]
+#[derive(Clone, Copy)]
 pub struct Key {
     pub corrections: [Correction; 32],
     pub last: u32,
 }
 
 // A party's walk before a level.
-#[derive(Drop)]
+#[derive(Clone, Copy)]
 pub struct Walk {
     pub seed: [u32; 8],
     pub flag: u32,

@@ -1,5 +1,7 @@
 // A party's value of a comparison key at an input: the walk of the input's bits from the highest,
 // opening only the side taken. [SPEC 8.2]
+#![tactic(auto)]
+
 ghost use Rattle.std.specs.Prelude.{◌≡◌};
 ghost use Rattle.base_algebra.specs.Bit.{odd};
 ghost use Rattle.base_words.specs.Xor.{xors};
@@ -23,7 +25,7 @@ fn finished(w: Walk, last: u32, party: u32) -> u32
 }
 
 // The values at two inputs.
-#[derive(Drop)]
+#[derive(Clone, Copy)]
 pub struct Both {
     pub first: u32,
     pub second: u32,
@@ -52,7 +54,7 @@ pub fn value(key: Key, seed: [u32; 8], party: u32, u: u32) -> u32
 }
 
 // Two walks side by side.
-#[derive(Drop)]
+#[derive(Clone, Copy)]
 pub struct Walks {
     pub a: Walk,
     pub b: Walk,

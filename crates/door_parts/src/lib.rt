@@ -1,6 +1,8 @@
 // A door's four parts as one value, with their calls (01, "A door's list of calls"). Each call is a step
 // of the lists that demand 3 speaks of: it goes to its part, whose next state is put back, and the other
 // three parts stay. A trial has no next state.
+#![tactic(auto)]
+
 ghost use Rattle.std.specs.Prelude.{◌≡◌};
 ghost use Rattle.half_deal.specs.Dealing.{deal_from};
 ghost use Rattle.call_day.specs.Table.{table_of};
@@ -17,14 +19,14 @@ use call_party::{Party, PartyAnswer};
 use measure_table::{Rule, Terms};
 
 // Which box is called.
-#[derive(Drop)]
+#[derive(Clone, Copy)]
 pub enum Side {
     Camera,
     Office,
 }
 
 // The states of the four parts.
-#[derive(Drop)]
+#[derive(Clone, Copy)]
 pub struct Door {
     pub dealer: Dealer,
     pub camera: Party,
@@ -34,7 +36,7 @@ pub struct Door {
 
 // Why a call was refused (0 if it was not), the number that it answered (the word of call 3, the share of
 // call 4, what a join reported, else 0), and the next door.
-#[derive(Drop)]
+#[derive(Clone, Copy)]
 pub struct DoorAnswer {
     pub why: u32,
     pub word: u32,
@@ -42,7 +44,7 @@ pub struct DoorAnswer {
 }
 
 // The same of a deal by the clock, with a place where the others have a word.
-#[derive(Drop)]
+#[derive(Clone, Copy)]
 pub struct PlacedAnswer {
     pub why: u32,
     pub place: u32,
@@ -50,7 +52,7 @@ pub struct PlacedAnswer {
 }
 
 // The same of a trial, with what it tells of the half.
-#[derive(Drop)]
+#[derive(Clone, Copy)]
 pub struct TriedAnswer {
     pub why: u32,
     pub name: [u8; NAME],

@@ -1,5 +1,7 @@
 // What a half holds (01, "The sealed half"): a set as a box carries it once it is opened. `half_layout`
 // writes its plain bytes and `half_reading` reads them. [SPEC 9.1, 12.6]
+#![tactic(auto)]
+
 ghost use Rattle.std.specs.Prelude.{◌≡◌, ◌≤◌};
 ghost use Rattle.half_content.specs.Content.{x_field, y_field, c_field, r_field, seed_field, corrections_field};
 ghost use Rattle.half_content.specs.Content.{last_field, width_field, mark_field, offset, size, block_count};
@@ -25,7 +27,7 @@ pub const ROOM: usize = MOST_BLOCKS * TEXT;
 // words, its key seed, the comparison key, and the width and mark of the rule that it was dealt by.
 // Arrays are zero past the terms' length. [SPEC 3.1, 3.14, 12.11]
 #[repr(C)]
-#[derive(Drop)]
+#[derive(Clone, Copy)]
 pub struct Set {
     pub number: u64,
     pub terms: Terms,

@@ -1,6 +1,8 @@
 // Deals a set (01, "Dealing a set"): from the set seed's key stream to what each party's half holds.
 // The words that are drawn stand in one array, in 01's order, and are read from there by their place.
 // [SPEC 5.2, 5.3, 5.9 to 5.11]
+#![tactic(auto)]
+
 ghost use Rattle.std.specs.Prelude.{◌≡◌, List, ℕ, ◌+◌, ◌*◌, ◌≤◌, length, take};
 ghost use Rattle.share_vectors.specs.Share.{plus};
 ghost use Rattle.measure_table.specs.Measure.{most_elements, width_of, mark_of};
@@ -15,7 +17,7 @@ use measure_table::{MOST_ELEMENTS, Rule, Terms};
 // The words that are drawn for the longest vectors.
 const MOST_WORDS: usize = 4 * MOST_ELEMENTS + 19;
 
-#[derive(Drop)]
+#[derive(Clone, Copy)]
 pub struct Dealt {
     pub camera: Set,
     pub office: Set,

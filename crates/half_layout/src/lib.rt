@@ -1,4 +1,6 @@
 // The plain bytes of a set (01, "The sealed half"), field after field. [SPEC 9.1 to 9.3, 9.5]
+#![tactic(auto)]
+
 ghost use Rattle.std.specs.Prelude.{◌≡◌, [], ◌∷◌, ◌++◌, map, ◌+◌, ◌-◌, ◌*◌, ◌<◌, ◌≤◌, length, take, replicate};
 ghost use Rattle.base_words.specs.Numbers.{bytes};
 ghost use Rattle.base_words.specs.List.{over, flat};

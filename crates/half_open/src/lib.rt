@@ -1,5 +1,7 @@
 // Examines a half: opens its blocks and reads the set (01, "The sealed half" and "When a call is turned
 // down"). [SPEC 15.2, 15.3, 23.4, 23.7, 23.10, 23.11]
+#![tactic(auto)]
+
 ghost use Rattle.std.specs.Prelude.{◌≡◌, true, ◌&&◌, ◌+◌, ◌*◌, ◌/◌, ◌%◌, ◌^◌, ◌≤◌, eqb, leb, ltb, length, take};
 ghost use Rattle.base_words.specs.Bytes.{word_at, words_at};
 ghost use Rattle.aead_seal.specs.Aead.{poly_key, opens};
@@ -114,14 +116,14 @@ fn is_whole(bytes: usize) -> bool
 }
 
 // What examining a half finds: why it is turned down (0 if it is not), and the set, or no set.
-#[derive(Drop)]
+#[derive(Clone, Copy)]
 pub struct Examined {
     pub why: u32,
     pub set: Set,
 }
 
 // What a trial is told of it: why, and measure code and L, or zeros.
-#[derive(Drop)]
+#[derive(Clone, Copy)]
 pub struct Told {
     pub why: u32,
     pub terms: Terms,

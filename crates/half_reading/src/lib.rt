@@ -1,5 +1,7 @@
 // A set read from its plain bytes, and whether these are what a deal writes (01, "The sealed half").
 // [SPEC 9.1, 23.11]
+#![tactic(auto)]
+
 ghost use Rattle.std.specs.Prelude.{◌≡◌, ◌*◌, ◌<◌, ◌≤◌, length, get_or};
 ghost use Rattle.base_words.specs.Bytes.{words_at};
 ghost use Rattle.measure_table.specs.Measure.{most_elements};

@@ -1,4 +1,6 @@
 // Seals a half in blocks (01, "The sealed half"). `half_open` examines one. [SPEC 10.1 to 10.4, 10.6]
+#![tactic(auto)]
+
 ghost use Rattle.std.specs.Prelude.{◌≡◌, ◌*◌, ◌/◌, ◌%◌, ◌^◌, ◌≤◌, ◌<◌, length};
 ghost use Rattle.base_words.specs.List.{over};
 ghost use Rattle.aead_seal.specs.Aead.{poly_key};

@@ -3,6 +3,8 @@
 // ring * 64 + angle. No public function asks anything of its caller. Each tells 0, or the number of why
 // not; with a number it leaves a lent buffer as it was. No part of a door is touched.
 // [SPEC 35.1 to 35.12]
+#![tactic(auto)]
+
 ghost use Rattle.std.specs.Prelude.{◌≡◌, ℕ, ◌*◌, ◌<◌, ◌≤◌, length, get_or};
 ghost use Rattle.base_words.specs.List.{over};
 ghost use Rattle.base_messages.specs.Messages.{wrong_length, short_buffer, out_of_range, unless};
@@ -31,7 +33,7 @@ const HAMMING: u32 = 2;
 
 // In how many bits two codes differ, or why they were not compared.
 #[repr(C)]
-#[derive(Drop)]
+#[derive(Clone, Copy)]
 pub struct HammingAnswer {
     pub why: u32,
     pub distance: u32,

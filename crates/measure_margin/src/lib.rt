@@ -2,6 +2,8 @@
 // the largest e from 0 to 2047 such that no whole-number vector with each element within e of X changes
 // that answer. Elements and T are words; a negative number stands for itself plus 2^32. The public
 // function asks nothing of its caller. No part of a door is touched. [SPEC 36.1 to 36.9]
+#![tactic(auto)]
+
 ghost use Rattle.std.specs.Prelude.{◌≡◌, ℕ, ◌≤◌, nat_abs, length};
 ghost use Rattle.base_algebra.specs.Word.{signed};
 ghost use Rattle.measure_table.specs.Measure.{element};
@@ -25,7 +27,7 @@ const MINUS_1: u32 = 4294967295;
 // Why not, as 01's number, or 0; the answer for X, 1 if T is reached; and the margin. Both are 0 where
 // the call is refused.
 #[repr(C)]
-#[derive(Drop)]
+#[derive(Clone, Copy)]
 pub struct MarginAnswer {
     pub why: u32,
     pub bit: u32,

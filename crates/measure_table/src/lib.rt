@@ -2,6 +2,8 @@
 // the rule that a set is dealt by. Elements, thresholds and marks are words; a negative number stands
 // for itself plus 2^32. No public function asks anything of its caller. (1073741824 is 2^30, and
 // 2147483648 is 2^31.) `share_vectors` has the own term. [SPEC 2.3, 2.4, 3.3, 3.7, 3.13]
+#![tactic(auto)]
+
 ghost use Rattle.std.specs.Prelude.{◌≡◌};
 ghost use Rattle.base_algebra.specs.Word.{signed};
 ghost use Rattle.measure_table.specs.Measure.{row, is_code, length_fits, in_range, all_in_range, threshold_fits};
@@ -13,7 +15,7 @@ pub const MOST_ELEMENTS: usize = 512;
 
 // What a set's measure is of: its code, and how many elements a vector has (01's L).
 #[repr(C)]
-#[derive(Drop)]
+#[derive(Clone, Copy)]
 pub struct Terms {
     pub code: u32,
     pub n: usize,
@@ -22,7 +24,7 @@ pub struct Terms {
 // What a set answers yes to: a measure that reaches the threshold, or one that lies from the first
 // mark to the second, both included. Only the dealer knows it: the boxes know which of the two it is,
 // and of two marks how far they are apart.
-#[derive(Drop)]
+#[derive(Clone, Copy)]
 pub enum Rule {
     Threshold(u32),
     Between(u32, u32),
@@ -49,7 +51,7 @@ const MINUS_2_30: u32 = 3221225472;
 // A row of the table. `squares`: own is the sum of squares, else 0. An element lies from `low` to
 // `high`, a threshold from `least` to `most`. A vector has at most `longest` elements. `sign`: 1 where
 // what an ordinary set opens, less r, is measure - T, and -1 where that is T - measure.
-#[derive(Drop)]
+#[derive(Clone, Copy)]
 pub struct Row {
     pub squares: bool,
     pub k: u32,

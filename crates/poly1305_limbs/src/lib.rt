@@ -1,6 +1,8 @@
 // Arithmetic modulo 2^130 - 5, for Poly1305: a number is five limbs of 26 bits, lowest first
 // (67108864 is 2^26). Each stands in a u64, so that the five products of a column are summed with
 // no carry between them. Nothing here branches on a limb.
+#![tactic(auto)]
+
 ghost use Rattle.std.specs.Prelude.{◌≡◌, ◌+◌, ◌*◌, ◌^◌, ◌<◌, ◌≤◌};
 ghost use Rattle.base_algebra.specs.Mod.{Mod};
 ghost use Rattle.poly1305_limbs.specs.Limbs.{prime, value, words4, Below, Limbs, column as column_of, over_prime};

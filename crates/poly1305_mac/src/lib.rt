@@ -1,6 +1,8 @@
 // Poly1305, the one-time authenticator of RFC 8439, 2.5: the tag of a message under a key of
 // 32 bytes that is used once. Nothing here branches on, or indexes by, a byte of the key or of
 // the message.
+#![tactic(auto)]
+
 ghost use Rattle.std.specs.Prelude.{◌≡◌, ◌+◌, ◌-◌, ◌*◌, ◌%◌, ◌/◌, ◌^◌, ◌<◌, ◌≤◌, ◌++◌, length, take, drop, replicate};
 ghost use Rattle.base_words.specs.Numbers.{number};
 ghost use Rattle.base_algebra.specs.Mod.{Mod};
@@ -9,7 +11,7 @@ ghost use Rattle.poly1305_mac.specs.Poly1305.{r_of, s_of, piece, pieces, pad16, 
 ghost use Rattle.poly1305_mac.specs.Blocks.{unreduced};
 
 // The two halves of a key: r, clamped, in limbs; and s, in words, lowest first.
-#[derive(Drop)]
+#[derive(Clone, Copy)]
 pub struct OneTimeKey {
     pub r: [u64; 5],
     pub s: [u32; 4],

@@ -2,6 +2,8 @@
 // r^4 and given every fourth block, and combined at the end. Limb i of lane l stands at 4 * i + l of
 // 20, and the loop over the lanes is innermost, so that LLVM makes one vector operation of the four.
 // Nothing here branches on, or indexes by, a limb.
+#![tactic(auto)]
+
 ghost use Rattle.std.specs.Prelude.{◌≡◌, ◌+◌, ◌*◌, ◌%◌, ◌^◌, ◌<◌, ◌≤◌, [], ◌∷◌, ◌++◌, length, get_or, set, take, drop};
 ghost use Rattle.base_words.specs.Numbers.{number};
 ghost use Rattle.base_algebra.specs.Mod.{Mod};

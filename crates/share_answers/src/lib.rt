@@ -1,5 +1,7 @@
 // What a box sends in one check (01, "One check at a box"): its word, and its answer to the lock.
 // [SPEC 17.4, 18.3, 18.4]
+#![tactic(auto)]
+
 ghost use Rattle.std.specs.Prelude.{◌≡◌};
 ghost use Rattle.base_algebra.specs.Bit.{less};
 ghost use Rattle.share_vectors.specs.Share.{box_word as word_of, answer as answer_of};

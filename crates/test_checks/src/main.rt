@@ -1,5 +1,7 @@
 // Answers a script of keys, values, whole checks, own terms and tables of the day, a line for each line. A second
 // implementation made it, and the output is compared with that implementation's.
+#![tactic(auto)]
+
 mod run;
 mod table;
 
@@ -12,7 +14,7 @@ fn bad_line(out: &mut [u8; ROOM], at: usize) -> usize {
 }
 
 // A key, with the two seeds that it was made from. `ok`: they and the point were read.
-#[derive(Drop)]
+#[derive(Clone, Copy)]
 struct Dealt {
     ok: bool,
     seed0: [u32; 8],

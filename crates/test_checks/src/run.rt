@@ -27,7 +27,7 @@ fn read_vector(line: &[u8], place: usize, w: &mut [u32]) -> usize {
 }
 
 // The numbers of a line. `ok`: they were read.
-#[derive(Drop)]
+#[derive(Clone, Copy)]
 struct Numbers {
     ok: bool,
     code: u32,
@@ -62,7 +62,7 @@ fn read_numbers(line: &[u8]) -> Numbers {
     }
 }
 
-#[derive(Drop)]
+#[derive(Clone, Copy)]
 struct Two(u32, u32);
 
 // The sum of the two shares of a vector's mask, and the vector masked: its first and last word.

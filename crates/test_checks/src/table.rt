@@ -6,7 +6,7 @@ use test_script::{ROOM, word_at};
 const LIST: usize = 512;
 
 // A list of words at the start of an array. `ok`: it was read.
-#[derive(Drop)]
+#[derive(Clone, Copy)]
 struct List {
     ok: bool,
     count: usize,

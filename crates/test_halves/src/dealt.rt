@@ -13,7 +13,7 @@ pub const HALF: usize = (MOST_BLOCKS + 1) * BLOCK;
 
 // A set's half for a party: its plain content with fill and the same sealed, each from the start of
 // an array. No blocks: it could not be made.
-#[derive(Drop)]
+#[derive(Clone, Copy)]
 pub struct Dealt {
     pub holder: Holder,
     pub number: u64,
@@ -118,7 +118,7 @@ pub fn refusal(b: Holder, half: [u8; HALF], size: usize) -> u32 {
 }
 
 // What a half is once its set is opened, laid out and sealed again, or why it is turned down.
-#[derive(Drop)]
+#[derive(Clone, Copy)]
 pub struct Resealed {
     pub why: u32,
     pub half: [u8; HALF],

@@ -15,7 +15,7 @@ use measure_table::{Rule, Terms};
 // spread HALF LAST FROM TO BYTE
 // before HALF LAST FROM TO
 // where HALF is PARTY CODE L RULE NUMBER SEED KEY NAME, and RULE is T or P:Q.
-#[derive(Drop)]
+#[derive(Clone, Copy)]
 pub enum Command {
     Half,
     Tag,
@@ -90,7 +90,7 @@ fn bytes_16(line: &[u8], place: usize) -> [u8; 16] {
 }
 
 // A box.
-#[derive(Drop)]
+#[derive(Clone, Copy)]
 pub struct Holder {
     pub party: u32,
     pub key: [u8; 32],
@@ -109,7 +109,7 @@ pub fn read_holder(line: &[u8], party: usize, key: usize, name: usize, last: usi
 }
 
 // What a half is made from, and the box that it is for.
-#[derive(Drop)]
+#[derive(Clone, Copy)]
 pub struct Half {
     pub terms: Terms,
     pub rule: Rule,

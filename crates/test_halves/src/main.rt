@@ -1,6 +1,8 @@
 // Answers a script of halves, a line for each line: what is dealt and sealed, and why a half is
 // turned down that is handed to a box whole, changed or mixed. A second implementation made the
 // script, and the output is compared with that implementation's.
+#![tactic(auto)]
+
 ghost use Rattle.std.specs.Prelude.{◌≤◌};
 ghost use Rattle.half_content.specs.Content.{most_blocks};
 

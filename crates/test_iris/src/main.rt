@@ -1,5 +1,7 @@
 // Answers a script of calls on iris codes, a line for each line. A second implementation made it, and the
 // output is compared with that implementation's; second/src/iris_lines.rs says what the lines are.
+#![tactic(auto)]
+
 use test_script::{ROOM, word_at};
 
 // The most bytes of a code that is handed in and of a buffer that is lent, and the most words.
@@ -13,7 +15,7 @@ fn bad_line(out: &mut [u8; ROOM], at: usize) -> usize {
 }
 
 // A code at the start of an array. `ok`: it was read.
-#[derive(Drop)]
+#[derive(Clone, Copy)]
 struct Code {
     ok: bool,
     count: usize,
@@ -31,7 +33,7 @@ fn read_code(line: &[u8], place: usize) -> Code {
 }
 
 // A vector at the start of an array. `ok`: it was read.
-#[derive(Drop)]
+#[derive(Clone, Copy)]
 struct Vector {
     ok: bool,
     count: usize,
@@ -59,7 +61,7 @@ fn read_vector(line: &[u8], place: usize) -> Vector {
 }
 
 // A number that counts places. `ok`: it was read, and is at most what is asked.
-#[derive(Drop)]
+#[derive(Clone, Copy)]
 struct Count {
     ok: bool,
     value: usize,

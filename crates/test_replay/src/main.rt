@@ -1,5 +1,7 @@
 // Answers a script of calls on a door's four parts, a line for each line (docs/REPLAY.md), so that a
 // host's log can be run again. The output is compared with a second implementation's.
+#![tactic(auto)]
+
 use test_replay_lines::lines::Line;
 use test_replay_lines::memory::{BYTES, NUMBERS};
 use test_replay_lines::{kept, lines, put};

@@ -68,7 +68,7 @@ pub const NO_PART: u64 = 4;
 
 // A line's command, the part that it asks for something, and its fields: a number, a place among the
 // parts, or the count of bytes that stand in the field's slot.
-#[derive(Drop)]
+#[derive(Clone, Copy)]
 pub struct Line {
     pub command: usize,
     pub part: u64,
@@ -87,7 +87,7 @@ pub struct Line {
 }
 
 // What one field says. `ok`: it could be read.
-#[derive(Drop)]
+#[derive(Clone, Copy)]
 struct Value {
     ok: bool,
     n: u64,

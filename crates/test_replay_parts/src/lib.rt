@@ -1,4 +1,6 @@
 // What a line of a script asks of a door's four parts (docs/REPLAY.md). `test_replay` runs it.
+#![tactic(auto)]
+
 mod calls;
 mod starts;
 mod states;

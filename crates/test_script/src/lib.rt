@@ -4,6 +4,8 @@
 // No public function has a `requires`: what can't be read is refused, and a position past the end
 // counts as the end. The contracts say where a part of a text lies. None says what a field stands for,
 // and none can say what a program writes: the programs' outputs are compared instead.
+#![tactic(auto)]
+
 mod read;
 mod write;
 
@@ -43,7 +45,7 @@ pub fn script_of(text: &[u8; SIZE], n: usize) -> &[u8] {
 
 // The bytes from start to end, and where to look for what follows the mark at end: past the end of
 // the text if there is no mark.
-#[derive(Drop)]
+#[derive(Clone, Copy)]
 pub struct Span {
     pub start: usize,
     pub end: usize,

@@ -2,20 +2,20 @@
 // read all fields of a line and refuse it once.
 ghost use Rattle.std.specs.Prelude.{◌≤◌};
 
-#[derive(Drop)]
+#[derive(Clone, Copy)]
 pub struct Number {
     pub ok: bool,
     pub value: u64,
 }
 
-#[derive(Drop)]
+#[derive(Clone, Copy)]
 pub struct Word {
     pub ok: bool,
     pub value: u32,
 }
 
 // How many bytes a field stands for. Unless `ok`, the buffer does not hold them.
-#[derive(Drop)]
+#[derive(Clone, Copy)]
 pub struct Bytes {
     pub ok: bool,
     pub count: usize,
@@ -88,7 +88,7 @@ fn read_words(text: &[u8], w: &mut [u32]) -> bool {
 }
 
 // One word, or two with a colon between them; of one, `second` is 0.
-#[derive(Drop)]
+#[derive(Clone, Copy)]
 pub struct Words {
     pub ok: bool,
     pub two: bool,

@@ -1,5 +1,7 @@
 // Answers a script of test vectors, a line for each line: RFC 8439's own, and those that a second
 // implementation made. The output is compared with that implementation's.
+#![tactic(auto)]
+
 mod cipher;
 mod sealing;
 
