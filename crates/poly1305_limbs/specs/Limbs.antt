@@ -28,7 +28,8 @@ Limbs h = Below (2 ^ 26 + 2 ^ 13) h
 
 -- a column of a product
 unfoldable pub column : List ℕ → ℕ → ℕ → ℕ → ℕ → ℕ → ℕ
-column h b0 b1 b2 b3 b4 = get_or h 0 0 * b0 + get_or h 1 0 * b1 + get_or h 2 0 * b2 + get_or h 3 0 * b3 + get_or h 4 0 * b4
+column h b0 b1 b2 b3 b4 =
+    get_or h 0 0 * b0 + get_or h 1 0 * b1 + get_or h 2 0 * b2 + get_or h 3 0 * b3 + get_or h 4 0 * b4
 
 -- (These have names because `omega` stops at numbers as large as theirs, and takes a name for an unknown.)
 -- how often x and 5 hold 2^130; x modulo the prime; the lowest 128 bits of x
