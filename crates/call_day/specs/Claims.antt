@@ -417,4 +417,5 @@ pub whole_day_row : (threshold minute : ℕ) → minute < day
     → choose (whole_day threshold) minute ≡ record { why = 0; place = 1; threshold = threshold }
 unfolding choose row_at holds least
 whole_day_row threshold minute h =
-    rw (whole_day_lem threshold, lt-ltb minute day h, le-leb 0 minute (omega arith), le-leb minute 1439 (omega arith)) refl
+    rw (whole_day_lem threshold, lt-ltb minute day h, le-leb 0 minute (omega arith), le-leb minute 1439 (omega arith))
+    refl

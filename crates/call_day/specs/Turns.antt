@@ -137,7 +137,8 @@ module _ (firsts lasts : List ℕ) where
         → bad_minute firsts lasts (suc m) ≡ false
     turn_good m i l h e = go (eqb (get_or firsts i 0) (suc m)) refl (eqb (get_or lasts i 0) m) refl e
       where
-        go : (a : Bool) → eqb (get_or firsts i 0) (suc m) ≡ a → (b : Bool) → eqb (get_or lasts i 0) m ≡ b → a || b ≡ true
+        go : (a : Bool) → eqb (get_or firsts i 0) (suc m) ≡ a → (b : Bool) → eqb (get_or lasts i 0) m ≡ b
+            → a || b ≡ true
             → bad_minute firsts lasts (suc m) ≡ false
         go true f b g e =
             let at = eqb-true _ _ f in

@@ -5,7 +5,8 @@ use Rattle.std.specs.Prelude.{◌&&◌, List, ℕ, eqb, leb, ltb, replicate}
 use Rattle.base_algebra.specs.Word.{add}
 use Rattle.base_messages.specs.declared.Label.{Label}
 use Rattle.base_messages.specs.Messages.{bad_name, wrong_length, wrong_message, wrong_number, bad_sum, answer_kind}
-use Rattle.base_messages.specs.Messages.{camera_party, office_party, unless, if_taken, name_fits, padded, is_name, expected}
+use Rattle.base_messages.specs.Messages.{camera_party, office_party, unless, if_taken, name_fits, padded, is_name}
+use Rattle.base_messages.specs.Messages.{expected}
 use Rattle.call_lock.specs.declared.Lock.{Lock}
 use Rattle.call_lock.specs.declared.LockAnswer.{LockAnswer}
 

@@ -1,7 +1,8 @@
 -- 01, "The proved cases": the lines marked *, as one table with one theorem; and lines on 02, §2, "Distances mean
 -- close", §4, "Between two marks", §5, "Strictness by the clock", and §6, "Squares worked out". Assumes nothing.
 -- [SPEC 30.1]
-use Rattle.std.specs.Prelude.{◌≡◌, refl, Bool, true, false, ◌&&◌, List, [], ◌∷◌, map, ℕ, ◌-◌, ◌^◌, eqb, ℤ, pos, neg_ℤ, ◌*ℤ◌, length, replicate}
+use Rattle.std.specs.Prelude.{◌≡◌, refl, Bool, true, false, ◌&&◌, List, [], ◌∷◌, map, ℕ, ◌-◌, ◌^◌, eqb, ℤ, pos, neg_ℤ}
+use Rattle.std.specs.Prelude.{◌*ℤ◌, length, replicate}
 use Rattle.std.specs.Bool.{beq}
 use Rattle.std.specs.Int.Signed.{le_z}
 use Rattle.base_algebra.specs.Word.{add, sub}
@@ -20,7 +21,8 @@ use Rattle.half_content.specs.Content.{widths, sum_first, size, block_count}
 use Rattle.call_day.specs.Search.{least, count}
 use Rattle.call_day.specs.declared.Fault.{Fault}
 use Rattle.call_day.specs.declared.Choice.{Choice}
-use Rattle.call_day.specs.Table.{table_of, holds as in_row, bad_row, rows_with, bad_minute, first_bad_row, first_bad_minute}
+use Rattle.call_day.specs.Table.{table_of, holds as in_row, bad_row, rows_with, bad_minute, first_bad_row}
+use Rattle.call_day.specs.Table.{first_bad_minute}
 use Rattle.call_day.specs.Table.{row_at, shaped, why_not_table, choose}
 
 -- a line: what is given, and what it comes to
@@ -205,7 +207,7 @@ all (l ∷ t) = holds l && all t
 
 pub the_cases : all table ≡ true
 unfolding all table holds terms_of sameℤ crossed widths sum_first size block_count ideal_gate measure own cross element
-    sign difference reached within threshold_fits meets rule_fits in_order row scalar_product squared_euclid hamming word
-    own_word plus tab same sum sumℤ add sub W.mul W.neg W.signed only less choose why_not_table shaped first_bad_row
+    sign difference reached within threshold_fits meets rule_fits in_order row scalar_product squared_euclid hamming
+    word own_word plus tab same sum sumℤ add sub W.mul W.neg W.signed only less choose why_not_table shaped first_bad_row
     first_bad_minute rows_with bad_row bad_minute in_row row_at least count
 the_cases = refl

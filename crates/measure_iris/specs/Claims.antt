@@ -365,7 +365,8 @@ module _ (a b : List ℕ) (c : Code a) (d : Code b) where
   unfolding meets within
   meets_marks p q lp lq =
       ap (λ (m : ℤ). meets iris_terms (Between p q) m) (distance_is_measure a b c d)
-      ∙ ap₂ (λ (y z : ℤ). le_z y (pos (distance a b)) && le_z (pos (distance a b)) z) (signed_low p lp) (signed_low q lq)
+      ∙ ap₂ (λ (y z : ℤ). le_z y (pos (distance a b)) && le_z (pos (distance a b)) z)
+      (signed_low p lp) (signed_low q lq)
 
 -- ---- who is refused: "A vector with another element is refused by 01's eighth, a wrong length by its fourth". The
 -- length comes first, whatever else is wrong, and the buffer comes before the elements.
@@ -475,7 +476,8 @@ module _ (code out back : List ℕ) (c : Code code) (room : code_bytes ≤ lengt
   called_to_angles fits =
       ap (λ (b : List ℕ). left to_rings code_bytes b back)
       (left_is to_angles code_bytes code out c.long (angles_code code).long fits)
-      ∙ left_is to_rings code_bytes (to_angles code) back (angles_code code).long (rings_code (to_angles code)).long room
+      ∙ left_is to_rings code_bytes (to_angles code) back (angles_code code).long
+      (rings_code (to_angles code)).long room
       ∙ angles_undone code c
 
   pub called_unpack : code_bits ≤ length out → left_packed (left unpacked code_bits code out) back ≡ code

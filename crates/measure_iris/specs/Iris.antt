@@ -1,7 +1,8 @@
 -- Iris codes (02, §10, "Iris codes in their own order"): 512 bits, packed in 64 bytes or unpacked as a vector of 0 and
 -- 1, in the scanner's order or in ours; how far two packed ones are apart; and of each call why it is turned down, what
 -- it leaves in a lent buffer, and what it answers. Assumes nothing. [SPEC 24.14 to 24.17, 35.1 to 35.11]
-use Rattle.std.specs.Prelude.{◌≡◌, Bool, ◌&&◌, List, ℕ, zero, suc, ◌+◌, ◌*◌, ◌/◌, ◌%◌, ◌^◌, ◌<◌, eqb, leb, length, get_or}
+use Rattle.std.specs.Prelude.{◌≡◌, Bool, ◌&&◌, List, ℕ, zero, suc, ◌+◌, ◌*◌, ◌/◌, ◌%◌, ◌^◌, ◌<◌, eqb, leb, length}
+use Rattle.std.specs.Prelude.{get_or}
 use Rattle.std.specs.Int.Bits.{bit_xor}
 use Rattle.std.specs.Int.Count.{ones}
 use Rattle.base_algebra.specs.Sum.{sumℕ}

@@ -1,7 +1,8 @@
 -- What code that rearranges, tests and compares iris codes is tied to: the place that a bit is taken from, what an
 -- accepted code or vector is, a lent buffer as it is written, and the answer. Assumes nothing.
 -- [SPEC 24.14 to 24.17, 35.5, 35.6, 35.10, 35.11]
-use Rattle.std.specs.Prelude.{◌≡◌, Bool, true, false, cond, ◌&&◌, List, [], ◌∷◌, ◌⊎◌, ℕ, zero, suc, ◌+◌, ◌*◌, ◌/◌, ◌%◌, ◌^◌, ◌<◌, ◌≤◌, eqb, ltb, leb, ℤ, pos, length, get_or, set}
+use Rattle.std.specs.Prelude.{◌≡◌, Bool, true, false, cond, ◌&&◌, List, [], ◌∷◌, ◌⊎◌, ℕ, zero, suc, ◌+◌, ◌*◌, ◌/◌, ◌%◌}
+use Rattle.std.specs.Prelude.{◌^◌, ◌<◌, ◌≤◌, eqb, ltb, leb, ℤ, pos, length, get_or, set}
 use Rattle.std.proofs.Math.Path.{refl, ap, ap₂}
 use Rattle.std.proofs.Common.{sym, ◌∙◌, inl, inr, eqb-true, leb-true, ltb-true, ltb-false, ne_eqb}
 use Rattle.std.proofs.Math.Bool.{not}
@@ -81,7 +82,8 @@ vector_fits v room words e =
 -- a vector's tests, with the elements of one of another length not looked at
 pub vector_tested : (v : List ℕ) (room : ℕ) (bits : Bool)
     → ((length v ≡ code_bits) × (bits ≡ all_in_range iris_terms v)) ⊎ (length v ≡ code_bits → ⊥)
-    → unless (eqb (length v) code_bits) wrong_length (unless (leb code_bytes room) short_buffer (unless bits out_of_range 0))
+    → unless (eqb (length v) code_bits) wrong_length
+    (unless (leb code_bytes room) short_buffer (unless bits out_of_range 0))
     ≡ why_not_vector v room
 unfolding why_not_vector
 vector_tested v room bits (inl h) =
@@ -109,7 +111,8 @@ module _ (a b : List ℕ) (la : (j : ℕ) → get_or a j 0 < 2 ^ 8) (lb : (j : �
       ap ones (ap₂ bit_xor (nested (get_or a i 0) _ _ _) (nested (get_or b i 0) _ _ _))
       ∙ low _ _ _ _ (la i) (lb i)
       ∙ ap (λ (k : ℕ). k + ones (bit_xor (get_or a i 0) (get_or b i 0))) (low _ _ _ _ (la (i + 1)) (lb (i + 1))
-      ∙ ap (λ (k : ℕ). k + ones (bit_xor (get_or a (i + 1) 0) (get_or b (i + 1) 0))) (low _ _ _ _ (la (i + 2)) (lb (i + 2))))
+      ∙ ap (λ (k : ℕ). k + ones (bit_xor (get_or a (i + 1) 0) (get_or b (i + 1) 0)))
+      (low _ _ _ _ (la (i + 2)) (lb (i + 2))))
       ∙ omega arith
     where
       nested : (x y z w : ℕ) → x + y * 2 ^ 8 + z * 2 ^ 16 + w * 2 ^ 24 ≡ ((w * 2 ^ 8 + z) * 2 ^ 8 + y) * 2 ^ 8 + x

@@ -21,7 +21,8 @@ use Rattle.base_messages.specs.Messages.{wrong_length, out_of_range, unless, if_
 use Rattle.base_messages.specs.Laws.{unless_false, unless_true, passed, taken, refused}
 use Rattle.measure_table.specs.Measure.{row, scalar_product, element, own, cross, measure, meets, within, in_range}
 use Rattle.measure_table.specs.Measure.{length_fits, all_in_range, threshold_fits}
-use Rattle.measure_table.specs.Laws.{scalar_sign, reached_plain, length_fits_lem, any_length, in_range_at, all_in_range_lem}
+use Rattle.measure_table.specs.Laws.{scalar_sign, reached_plain, length_fits_lem, any_length, in_range_at}
+use Rattle.measure_table.specs.Laws.{all_in_range_lem}
 use Rattle.measure_table.specs.Order.{above_zero, of_test}
 use Rattle.measure_margin.specs.declared.MarginAnswer.{MarginAnswer}
 use Rattle.measure_margin.specs.Margin.{scalar_terms, answer_to, answer_now, Within, product, absolute_sum, Steady}

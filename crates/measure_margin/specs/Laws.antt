@@ -1,6 +1,7 @@
 -- What the code that tells a margin is tied to: a word's magnitude, the quotient, the tests, and the answer read off
 -- the word of the product less T. Assumes nothing. [SPEC 36.2, 36.5, 36.7, 36.8]
-use Rattle.std.specs.Prelude.{◌≡◌, Bool, List, [], ◌∷◌, ℕ, suc, ◌+◌, ◌-◌, ◌/◌, ◌^◌, ◌<◌, ◌≤◌, min, ℤ, pos, negsuc, neg_ℤ, nat_abs, ◌-ℤ◌, length, get_or}
+use Rattle.std.specs.Prelude.{◌≡◌, Bool, List, [], ◌∷◌, ℕ, suc, ◌+◌, ◌-◌, ◌/◌, ◌^◌, ◌<◌, ◌≤◌, min, ℤ, pos, negsuc}
+use Rattle.std.specs.Prelude.{neg_ℤ, nat_abs, ◌-ℤ◌, length, get_or}
 use Rattle.std.proofs.Math.Path.{refl, sym, ap, ap₂}
 use Rattle.std.proofs.Common.{◌∙◌, arith, leb-true, eq-eqb, ne_eqb}
 use Rattle.std.proofs.Math.Bool.{true, false, not, ◌&&◌}
@@ -61,8 +62,9 @@ module _ (x y : List ℕ) (t : ℕ) {a : Bool} (ea : a ≡ length_fits (scalar_t
   unfolding why_not_margin
   lengths_refused h = turned_down _ _ _ (ap not (sym long_is) ∙ h)
 
-  module _ (long : not (a && eqb (length y) (length x)) ≡ false) {b c d : Bool} (eb : b ≡ all_in_range (scalar_terms x) x)
-      (ec : c ≡ all_in_range (scalar_terms x) y) (ed : d ≡ threshold_fits (scalar_terms x) t) where
+  module _ (long : not (a && eqb (length y) (length x)) ≡ false) {b c d : Bool}
+      (eb : b ≡ all_in_range (scalar_terms x) x) (ec : c ≡ all_in_range (scalar_terms x) y)
+      (ed : d ≡ threshold_fits (scalar_terms x) t) where
     ranges_is : (b && (c && d)) ≡ ranges_fit x y t
     unfolding ranges_fit
     ranges_is = ap₂ ◌&&◌ eb (ap₂ ◌&&◌ ec ed)

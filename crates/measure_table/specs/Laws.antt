@@ -3,7 +3,8 @@
 -- (01, "Measures"), with either sign, and whether that word is at most the rule's width says whether the rule is met;
 -- and that this is the papers' rule for each code and between two marks. Assumes nothing.
 -- [SPEC 2.3, 2.4, 3.5 to 3.7, 3.9, 3.11 to 3.15]
-use Rattle.std.specs.Prelude.{◌≡◌, Bool, true, false, cond, List, [], ◌∷◌, ℕ, zero, suc, ◌+◌, ◌*◌, ◌-◌, ◌%◌, ◌^◌, ◌<◌, ◌≤◌, eqb, ltb, leb, ℤ, negsuc, nat_abs, ◌+ℤ◌, ◌-ℤ◌, ◌*ℤ◌, length, get_or}
+use Rattle.std.specs.Prelude.{◌≡◌, Bool, true, false, cond, List, [], ◌∷◌, ℕ, zero, suc, ◌+◌, ◌*◌, ◌-◌, ◌%◌, ◌^◌, ◌<◌}
+use Rattle.std.specs.Prelude.{◌≤◌, eqb, ltb, leb, ℤ, negsuc, nat_abs, ◌+ℤ◌, ◌-ℤ◌, ◌*ℤ◌, length, get_or}
 use Rattle.std.proofs.Math.Path.{refl, ap, ap₂}
 use Rattle.std.proofs.Common.{sym, ◌∙◌, subst, arith}
 use Rattle.std.proofs.Math.Bool.{◌&&◌, and-true}
@@ -93,7 +94,8 @@ signed_high w l k =
     ap (λ (c : Bool). cond c (pos w) (pos w -ℤ pos (2 ^ 32))) (le-ltb w (2 ^ 31) l)
     ∙ ap (λ (c : Bool). cond c (negsuc (2 ^ 32 - suc w)) (pos (w - 2 ^ 32))) (lt-ltb w (2 ^ 32) k)
 
-pub signed_word : (z : ℤ) → le_z (neg_ℤ (pos (2 ^ 31))) z ≡ true → le_z z (pos (2 ^ 31 - 1)) ≡ true → signed (word z) ≡ z
+pub signed_word : (z : ℤ) → le_z (neg_ℤ (pos (2 ^ 31))) z ≡ true → le_z z (pos (2 ^ 31 - 1)) ≡ true
+    → signed (word z) ≡ z
 unfolding word neg
 signed_word (pos n) from to =
     let small : n < 2 ^ 31 = omega (arith, leb-true n (2 ^ 31 - 1) to) in
@@ -342,7 +344,8 @@ pub all_in_range_lem : (terms : Terms) (v : List ℕ) → ((i : ℕ) → i < len
     → all_in_range terms v ≡ true
 unfolding all_in_range
 all_in_range_lem terms [] h = refl
-all_in_range_lem terms (w ∷ v) h = ap₂ ◌&&◌ (h 0 (omega arith)) (all_in_range_lem terms v (λ i l. h (suc i) (omega arith)))
+all_in_range_lem terms (w ∷ v) h =
+    ap₂ ◌&&◌ (h 0 (omega arith)) (all_in_range_lem terms v (λ i l. h (suc i) (omega arith)))
 
 in_row : (terms : Terms) (v : List ℕ) → all_in_range terms v ≡ true → (i : ℕ) → In (row terms.code) (element v i)
 unfolding in_range within element
@@ -537,7 +540,8 @@ word_within v w (negsuc n) lv from to h hw =
 shifted : (p q m : ℤ) → within (pos 0) (q -ℤ p) (m -ℤ p) ≡ within p q m
 unfolding within
 shifted p q m =
-    ap₂ ◌&&◌ (above_zero m p) (sym (above_zero (q -ℤ p) (m -ℤ p)) ∙ ap (le_z (pos 0)) (less_both p q m) ∙ above_zero q m)
+    ap₂ ◌&&◌ (above_zero m p)
+    (sym (above_zero (q -ℤ p) (m -ℤ p)) ∙ ap (le_z (pos 0)) (less_both p q m) ∙ above_zero q m)
   where
     less_both : (p q m : ℤ) → q -ℤ p -ℤ (m -ℤ p) ≡ q -ℤ m
     less_both p q m = ringℤ (p ∷ q ∷ m ∷ []) (search reifyℤ depth 20 fits 5000) refl

@@ -3,7 +3,8 @@
 -- dealt, and the words that a box computes. Elements, thresholds and marks are words: a negative number stands for
 -- itself plus 2^32. The terms are what a set's measure is of: its code, and L as `n`. Assumes nothing.
 -- [SPEC 2.3, 2.4, 3.1 to 3.4, 3.6, 3.8, 3.13]
-use Rattle.std.specs.Prelude.{Bool, true, false, cond, ◌&&◌, List, [], ◌∷◌, ℕ, zero, suc, ◌-◌, ◌%◌, ◌^◌, eqb, ltb, leb, ℤ, pos, negsuc, neg_ℤ, ◌+ℤ◌, ◌-ℤ◌, ◌*ℤ◌, get_or}
+use Rattle.std.specs.Prelude.{Bool, true, false, cond, ◌&&◌, List, [], ◌∷◌, ℕ, zero, suc, ◌-◌, ◌%◌, ◌^◌, eqb, ltb, leb}
+use Rattle.std.specs.Prelude.{ℤ, pos, negsuc, neg_ℤ, ◌+ℤ◌, ◌-ℤ◌, ◌*ℤ◌, get_or}
 use Rattle.std.specs.Int.Signed.{le_z}
 use Rattle.base_algebra.specs.Word.{neg, sub, mul, signed}
 use Rattle.base_algebra.specs.Sum.{sum, sumℤ}

@@ -119,7 +119,8 @@ module _ (h x y : ℤ) (below : Le (neg_ℤ h) x) (above : Le x h) (below' : Le 
   at_most h x y = ringℤ (h ∷ x ∷ y ∷ []) (search reifyℤ depth 20 fits 5000) refl
 
   at_least : (h x y : ℤ)
-      → x *ℤ y -ℤ neg_ℤ (h *ℤ h) +ℤ (x *ℤ y -ℤ neg_ℤ (h *ℤ h)) ≡ (h -ℤ x) *ℤ (h -ℤ y) +ℤ (x -ℤ neg_ℤ h) *ℤ (y -ℤ neg_ℤ h)
+      → x *ℤ y -ℤ neg_ℤ (h *ℤ h) +ℤ (x *ℤ y -ℤ neg_ℤ (h *ℤ h))
+      ≡ (h -ℤ x) *ℤ (h -ℤ y) +ℤ (x -ℤ neg_ℤ h) *ℤ (y -ℤ neg_ℤ h)
   at_least h x y = ringℤ (h ∷ x ∷ y ∷ []) (search reifyℤ depth 20 fits 5000) refl
 
   pub product_most : Le (x *ℤ y) (h *ℤ h)
