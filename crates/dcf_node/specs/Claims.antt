@@ -11,7 +11,8 @@ use Rattle.base_words.specs.Xor.{xors, xors_back, xors_other}
 use Rattle.chacha20_rounds.specs.Rounds.{added, block_from, length_block_from}
 use Rattle.chacha20_block.specs.ChaCha20.{block, start, length_block}
 use Rattle.dcf_function.specs.Dcf as D
-use Rattle.dcf_function.specs.Comparison.{comparison, all_bits, walk_ext}
+use Rattle.dcf_function.specs.Comparison.{all_bits, walk_ext}
+use Rattle.dcf_function.proofs.Comparison.{comparison}
 use Rattle.dcf_node.specs.declared.Correction.{Correction}
 use Rattle.dcf_node.specs.Node.{child, node_nonce, length_nonce, opened_block, node, first}
 use Rattle.dcf_node.specs.Node.{packed, unpacked, corrections, key_for, none, correction_at, value_at}
