@@ -178,7 +178,8 @@ stored : (t : List ℕ) (o1 o2 o3 o4 : List ℕ) {x : ℕ}
 unfolding words4
 stored t o1 o2 o3 o4 h0 h1 h2 h3 e1 e2 e3 e4 e =
     e4
-    ∙ ap (over 12 (le32 (get_or t 3 0))) (e3 ∙ ap (over 8 (le32 (get_or t 2 0))) (e2 ∙ ap (over 4 (le32 (get_or t 1 0))) e1))
+    ∙ ap (over 12 (le32 (get_or t 3 0)))
+    (e3 ∙ ap (over 8 (le32 (get_or t 2 0))) (e2 ∙ ap (over 4 (le32 (get_or t 1 0))) e1))
     ∙ over_zeros (get_or t 0 0) (get_or t 1 0) (get_or t 2 0) (get_or t 3 0)
     ∙ sym (sixteen (get_or t 0 0) (get_or t 1 0) (get_or t 2 0) (get_or t 3 0) h0 h1 h2 h3)
     ∙ ap (bytes 16) e

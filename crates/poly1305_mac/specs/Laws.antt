@@ -1,6 +1,8 @@
 -- Laws of Poly1305's definitions, for the layers above. Assumes nothing.
-use Rattle.std.specs.Prelude.{◌≡◌, refl, List, [], ◌∷◌, ◌++◌, ℕ, zero, suc, ◌+◌, ◌*◌, ◌-◌, ◌/◌, ◌%◌, ◌^◌, ◌≤◌, ◌<◌, length, take, drop, replicate}
-use Rattle.std.proofs.Common.{sym, ap, ap₂, ◌∙◌, subst, append_assoc, append-nil, mod-lt, mod-eq_of_lt, add-zero, add-suc, arith, lit<, length-append, length-drop, take_all}
+use Rattle.std.specs.Prelude.{◌≡◌, refl, List, [], ◌∷◌, ◌++◌, ℕ, zero, suc, ◌+◌, ◌*◌, ◌-◌, ◌/◌, ◌%◌, ◌^◌, ◌≤◌, ◌<◌}
+use Rattle.std.specs.Prelude.{length, take, drop, replicate}
+use Rattle.std.proofs.Common.{sym, ap, ap₂, ◌∙◌, subst, append_assoc, append-nil, mod-lt, mod-eq_of_lt, add-zero}
+use Rattle.std.proofs.Common.{add-suc, arith, lit<, length-append, length-drop, take_all}
 use Rattle.std.proofs.lemmas.List.{length-replicate, take-append-le, drop-append-le}
 use Rattle.std.proofs.Math.Seq.{drop-append-add}
 use Rattle.base_words.specs.Numbers.{number, length_bytes}
@@ -23,7 +25,8 @@ pub absorb_all_mod : (r : ℕ) {a b : ℕ} (p : List (List ℕ)) → Mod prime a
     → Mod prime (absorb_all r a p) (absorb_all r b p)
 unfolding absorb_all
 absorb_all_mod r [] h = h
-absorb_all_mod r (block ∷ p) h = absorb_all_mod r p (absorb_mod r block h)
+absorb_all_mod r {a = a} {b = b} (block ∷ p) h =
+    absorb_all_mod r {a = absorb r a block} {b = absorb r b block} p (absorb_mod r block h)
 
 pub absorb_all_append : (r a : ℕ) (p q : List (List ℕ)) → absorb_all r a (p ++ q) ≡ absorb_all r (absorb_all r a p) q
 unfolding absorb_all
@@ -33,7 +36,8 @@ absorb_all_append r a (block ∷ p) q = absorb_all_append r (absorb r a block) p
 pub absorb_all_below : (r : ℕ) {a : ℕ} (p : List (List ℕ)) → a < prime → absorb_all r a p < prime
 unfolding absorb_all absorb
 absorb_all_below r [] h = h
-absorb_all_below r {a} (block ∷ p) h = absorb_all_below r p (mod-lt ((a + number (block ++ (1 ∷ []))) * r) (lit< tt))
+absorb_all_below r {a} (block ∷ p) h =
+    absorb_all_below r {a = absorb r a block} p (mod-lt ((a + number (block ++ (1 ∷ []))) * r) (lit< tt))
 
 -- an accumulator that is congruent to what p leaves, after q as well
 pub absorb_all_then : (r a b : ℕ) (p q : List (List ℕ)) {c : ℕ}

@@ -1,6 +1,7 @@
 -- Poly1305, as RFC 8439, 2.5 and 2.5.1 define it. A byte is a number below 256; a key and a message are lists of bytes.
 -- Assumes nothing.
-use Rattle.std.specs.Prelude.{List, [], ◌∷◌, ◌++◌, ℕ, zero, suc, ◌+◌, ◌*◌, ◌-◌, ◌/◌, ◌%◌, ◌^◌, length, get_or, take, drop, replicate}
+use Rattle.std.specs.Prelude.{List, [], ◌∷◌, ◌++◌, ℕ, zero, suc, ◌+◌, ◌*◌, ◌-◌, ◌/◌, ◌%◌, ◌^◌, length, get_or, take}
+use Rattle.std.specs.Prelude.{drop, replicate}
 use Rattle.base_words.specs.Numbers.{bytes, number}
 use Rattle.poly1305_limbs.specs.Limbs.{prime}
 

@@ -1,0 +1,7 @@
+use Rattle.poly1305_mac.specs.Laws.{mac_law, value_zero}
+use Rattle.poly1305_mac.proofs.mac.Goals as goal
+
+pub returns : goal.returns
+returns c =
+    let a = c.absorb-a.ensures.fact in
+    mac_law _ _ c.key-halves.ensures.r_value c.key-halves.ensures.s_value (rw value_zero at a) c.tag.ensures
