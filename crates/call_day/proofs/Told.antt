@@ -4,7 +4,7 @@ use mathlib.Core.Bool.{true, false, not, ◌&&◌}
 use Prim.Native.Nat.{ℕ, suc, ◌+◌, ◌≤◌, ◌<◌}
 use native.Mathlib.Numerals.{add-one}
 use native.Mathlib.Omega.{arith}
-use borrow.Author.Tests.{ltb-true, ltb-false, eqb-true, not-true, not-false}
+use borrow.Author.Tests.{ltb-true, eqb-true, not-true, not-false}
 use lib.Dec.{eqb, ltb}
 use lib.ListN.{length, get_or}
 use Rattle.base_algebra.specs.Bit.{both}
@@ -28,20 +28,20 @@ module _ (t : Table) where
     row l = ap (fault bad_rows) (add-one i ∙ ap suc e) ∙ sym (laws.row t (not-false _ s) (omega arith))
 
     module _ (r : length t.firsts ≤ i) (m : ℕ) (f : m ≡ first_bad_minute t.firsts t.lasts) where
-      pub good : not (ltb m day) ≡ true → fault 0 0 ≡ why_not_table t
-      good l = sym (laws.good t (not-false _ s) (omega arith) (omega (arith, f, ltb-false m day (not-true _ l))))
+      pub good : day ≤ m → fault 0 0 ≡ why_not_table t
+      good l = sym (laws.good t (not-false _ s) (omega arith) (omega arith))
 
-      module _ (l : not (ltb m day) ≡ false) (k : ℕ) (h : k ≡ rows_with t.firsts t.lasts m) where
+      module _ (l : m < day) (k : ℕ) (h : k ≡ rows_with t.firsts t.lasts m) where
         pub none : k ≡ 0 → fault no_row m ≡ why_not_table t
         none z =
             ap (fault no_row) f
-            ∙ sym (laws.none t (not-false _ s) (omega arith) (omega (arith, f, ltb-true m day (not-false _ l)))
+            ∙ sym (laws.none t (not-false _ s) (omega arith) (omega arith)
             (ap (rows_with t.firsts t.lasts) (sym f) ∙ sym h ∙ z))
 
         pub more : (k ≡ 0 → ⊥) → fault more_rows m ≡ why_not_table t
         more z =
             ap (fault more_rows) f
-            ∙ sym (laws.more t (not-false _ s) (omega arith) (omega (arith, f, ltb-true m day (not-false _ l)))
+            ∙ sym (laws.more t (not-false _ s) (omega arith) (omega arith)
             (λ n. z (h ∙ ap (rows_with t.firsts t.lasts) f ∙ n)))
 
 module _ (t : Table) (minute : ℕ) (v : Fault) (e : v ≡ why_not_table t) where
