@@ -11,7 +11,7 @@ use Rattle.half_deal.specs.Dealing.{Deal}
 use Rattle.door_lists.specs.Lists.{Box, camera, office, other, World, Starts, Started, beginning, Message, Call}
 use Rattle.door_lists.specs.Lists.{deal, load, mask, take, finish, join, Event, dealt, step, after, events, In}
 use Rattle.door_lists.specs.Lists.{there, Fits, Sent, SentVector, SentWord, SentAnswer, Admits, history}
-use Rattle.door_lists.specs.Lists.{Admissible, deal_by_clock, here, refused}
+use Rattle.door_lists.specs.Lists.{Admissible, deal_by_clock, here, refused, trial, drop}
 use Rattle.door_lists.specs.Demand.{Progress, nothing_made, onward, Labelled, Ready, Run, start, own, InRange}
 use Rattle.door_lists.specs.Demand.{Free, Begins, Ended}
 use Rattle.door_lists.proofs.Boxes.{both}
@@ -49,6 +49,8 @@ module _ (name : List ℕ) (d : Deal) (v : Box → List ℕ) where
   admitted (mask b x out) g h k f r = tt
   admitted (take b m) g h k f (e, a, i) = as_sent (SentVector k) 0 (other b) m a (i.0, f _ i.1)
   admitted (finish b m) g h k f (e, a, i) = as_sent (SentWord k) 1 (other b) m a (f _ i)
+  admitted (trial b x) g h k f r = elim r [ ]
+  admitted (drop b) g h k f r = elim r [ ]
   admitted (join m n) g h k f (e, a, i, b, j) =
       (as_sent (SentAnswer k) 2 camera m a (f _ i), as_sent (SentAnswer k) 2 office n b (f _ j))
 
@@ -59,6 +61,8 @@ module _ (name : List ℕ) (d : Deal) (v : Box → List ℕ) where
   fitting k (mask b x out) g h r = tt
   fitting k (take b m) g h r = tt
   fitting k (finish b m) g h r = tt
+  fitting k (trial b x) g h r = elim r [ ]
+  fitting k (drop b) g h r = elim r [ ]
   fitting k (join m n) g h r = tt
 
 -- ---- a whole run, box by box
@@ -123,6 +127,8 @@ module _ (s : Starts) (start_ok : Started s) (cs : List Call) (list_ok : Admissi
     begun (take b m) r = absurd (omega (arith, r.0))
     begun (finish b m) r = absurd (omega (arith, r.0))
     begun (join m n) r = elim r.2 [ ]
+    begun (trial b x) r = elim r [ ]
+    begun (drop b) r = elim r [ ]
 
     pub ended : (first : Call) → Begins (door s) d v first → Ended s cs d v first
     ended first r =

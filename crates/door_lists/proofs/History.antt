@@ -78,6 +78,7 @@ module _ (S : Starts) where
   ok_later h e (refused why) r = r
 
   pub look : (h : List Event) (e : Event) → Good h → In e h → EventOk h e
+  look [] e k i = elim i [ ]
   look (g ∷ h) e k (here p) = ok_later h g e (subst (EventOk h) (sym p) k.1)
   look (g ∷ h) e k (there i) = ok_later h g e (look h e k.0 i)
 

@@ -16,7 +16,7 @@ use Rattle.call_party.specs.Laws.{water_of, water_below}
 use Rattle.door_lists.specs.Lists.{Box, camera, office, World, Starts, Call, deal, load, mask, take, finish, drop}
 use Rattle.door_lists.specs.Lists.{join, Body, vector, word, answer, Event, dealt, loaded, tried, sent, dropped}
 use Rattle.door_lists.specs.Lists.{joined, refused, put, on_box, masked_by, step, after, events, In, here, there}
-use Rattle.door_lists.specs.Lists.{deal_by_clock}
+use Rattle.door_lists.specs.Lists.{deal_by_clock, trial}
 use Rattle.call_dealer.specs.Dealer.{half_size}
 use Rattle.call_dealer.specs.Clock.{deal_at}
 use Rattle.call_dealer.specs.ClockLaws.{row_used}
@@ -78,7 +78,7 @@ module _ (S : Starts) (d : Deal) (v : Box → List ℕ) where
     slots_behind n above b zero l = none_behind n
     slots_behind n above b (suc zero) l =
         one_behind n (set_of d b) (rw (set_number_lem d b) above)
-        (rw (set_terms d b) R.Code-fits) (rw (set_terms d b) R.length_fits_lem)
+        (rw (set_terms d b) R.code_fits) (rw (set_terms d b) R.length_fits_lem)
     slots_behind n above b (suc (suc k)) l = absurd (omega (arith, l))
 
     -- with these sets alone a box stands as 01's third refusal asks
@@ -327,6 +327,8 @@ module _ (S : Starts) (d e : Deal) (v u : Box → List ℕ) (above : d.number < 
         (first_called b (λ y. BoxCalls.load y x) (λ y. loaded b (set_number x)) (showing S b K.last [])
         (showing S b d.number (slots_at S d v b 1)) _ 1 K.shows made tt
         (subst (λ l. Holds b (showing S b d.number (slots_at S d v b 1)) 1 l) (sym o) hold))
+    goes_first (trial b x) (r, o) = elim r [ ]
+    goes_first (drop b) (r, o) = elim r [ ]
     goes_first (mask b x out) ((m, q, r), o) =
         let call : Party → PartyAnswer = λ y. BoxCalls.mask y x (length out) in
         let leaves : Party → Event = λ y. sent b y.check.set.number (vector x (masked_by y x out)) in
@@ -504,6 +506,8 @@ module _ (S : Starts) (d e : Deal) (v u : Box → List ℕ) (above : d.number < 
         (x.event ∷ h)) (sym (as_plain w k out0 out1 t))
         (subst (λ y. SecondGoes (deal y out0 out1)) (sym (row_used k t l i j ∙ q)) (second_deal out0 out1 m o r0 r1))
     goes_second (load b x) ((m, f, i, q), o) = second_load b x m o (q ∙ A.exact_at (dealt e f) i b)
+    goes_second (trial b x) (r, o) = elim r [ ]
+    goes_second (drop b) (r, o) = elim r [ ]
     goes_second (mask b x out) ((m, q, r), o) =
         let call : Party → PartyAnswer = λ y. BoxCalls.mask y x (length out) in
         let leaves : Party → Event = λ y. sent b y.check.set.number (vector x (masked_by y x out)) in

@@ -121,6 +121,8 @@ said_no_drop S d v g h (load b x) r e = omega (arith, e)
 said_no_drop S d v g h (mask b x out) r e = omega (arith, e)
 said_no_drop S d v g h (take b m) r e = omega (arith, e)
 said_no_drop S d v g h (finish b m) r e = omega (arith, e)
+said_no_drop S d v g h (trial b x) r e = elim r [ ]
+said_no_drop S d v g h (drop b) r e = elim r [ ]
 said_no_drop S d v g h (join m n) r e = omega (arith, e)
 
 module _ (S : Starts) (d e : Deal) (v u : Box → List ℕ) (above : d.number < e.number) where
@@ -219,6 +221,8 @@ module _ (S : Starts) (d e : Deal) (v u : Box → List ℕ) (above : d.number < 
     track_first (finish b m) (r, o) x q =
         track_box (finish b m) b 3 x r.0 r q refl (λ z. omega (arith, z ∙ ap dealt_number q))
         (T.loaded_deal b (omega (arith, r.0)))
+    track_first (trial b y) (r, o) x q = elim r [ ]
+    track_first (drop b) (r, o) x q = elim r [ ]
     track_first (join m n) (r, o) x q =
         let no_drop : NoDrop x = subst NoDrop (sym q) (said_no_drop S d v g.first h (join m n) r) in
         record {
@@ -266,6 +270,8 @@ module _ (S : Starts) (d e : Deal) (v u : Box → List ℕ) (above : d.number < 
         begun_then (mask b y out) r o z = T.begun_order z
         begun_then (take b m) r o z = T.begun_order z
         begun_then (finish b m) r o z = T.begun_order z
+        begun_then (trial b y) r o z = elim r [ ]
+        begun_then (drop b) r o z = elim r [ ]
         begun_then (join m n) r o z = T.begun_order z
 
     track_dropped : (b : Box) → UnderWay g.first b → (x : Event) → x ≡ dropped b
@@ -304,6 +310,8 @@ module _ (S : Starts) (d e : Deal) (v u : Box → List ℕ) (above : d.number < 
         order (take b m) r = over b
         order (finish b m) r = over b
         order (join m n) r = tt
+        order (trial b y) r = elim r [ ]
+        order (drop b) r = elim r [ ]
 
     module _ (A : (b : Box) → g.first.made b ≡ 0 → g.second.made b ≡ 0) where
       not_begun : (x : Bool) → g.second.begun ≡ x → g.first.begun ≡ false → g.second.begun ≡ false
@@ -328,6 +336,8 @@ module _ (S : Starts) (d e : Deal) (v u : Box → List ℕ) (above : d.number < 
           order (take b m) r = tt
           order (finish b m) r = tt
           order (join m n) r = open_join
+          order (trial b y) r = elim r [ ]
+          order (drop b) r = elim r [ ]
 
       -- the first's next call at box b, which is not ahead of the other: it is loaded, or goes on if the other box did
       -- not drop it, or is dropped too

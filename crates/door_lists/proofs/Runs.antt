@@ -21,7 +21,7 @@ use Rattle.call_party.specs.Laws.{water_of}
 use Rattle.door_lists.specs.Lists.{Box, camera, office, World, Starts, Call, deal, load, mask, take, finish, join}
 use Rattle.door_lists.specs.Lists.{Event, dealt, loaded, tried, sent, dropped, joined, refused, vector, word}
 use Rattle.door_lists.specs.Lists.{answer, put, event_of, on_box, masked_by, step, after, events, In, here, there}
-use Rattle.door_lists.specs.Lists.{deal_by_clock}
+use Rattle.door_lists.specs.Lists.{deal_by_clock, trial, drop}
 use Rattle.door_lists.specs.Demand.{Progress, nothing_made, made_one, onward, Ready, Run, start, own, aside, turned}
 use Rattle.door_lists.specs.Demand.{Answered, InRange, Free}
 use Rattle.door_lists.proofs.Boxes.{party_fits}
@@ -171,6 +171,8 @@ module _ (S : Starts) (d : Deal) (v : Box → List ℕ) where
           let made = finish_made S d v long R b d.number [] (none_behind d.number) (omega arith) tt tt m a
           (A.exact_at _ i) in
           box_goes b call leaves (alone b 2) (showing S b d.number []) _ 3 e (holding b 3 e) made refl tt
+      goes (trial b x) r = elim r [ ]
+      goes (drop b) r = elim r [ ]
       goes (join m n) (e, a, i, b, j) =
           let k = join_made S d v long R w.lock A.lock_at.0 A.lock_at.1
           (A.lock_at.2 e) m n a b (A.exact_at _ i) (A.exact_at _ j) in
@@ -236,4 +238,6 @@ module _ (S : Starts) (d : Deal) (v : Box → List ℕ) where
   answered (mask b x out) g h r = (mask_of d b (v b), refl)
   answered (take b m) g h r = (word_by d v b, refl)
   answered (finish b m) g h r = (answer_by d v b, refl)
+  answered (trial b x) g h r = elim r [ ]
+  answered (drop b) g h r = elim r [ ]
   answered (join m n) g h r = refl

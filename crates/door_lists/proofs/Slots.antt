@@ -119,15 +119,19 @@ rising_le lo hi (t ∷ ts) r = omega (arith, rising_le (set_in t).number hi ts r
 
 rising_some : (P : ℕ → Slot → Type 0) (f : (m : ℕ) (t : Slot) → P m t → (set_in t).number ≡ m)
     (m lo hi : ℕ) (ts : List Slot) → Rising lo hi ts → Some (P m) ts → lo < m
+rising_some P f m lo hi [] r q = elim q [ ]
 rising_some P f m lo hi (t ∷ ts) r (inl q) = omega (arith, f m t q, r.0)
 rising_some P f m lo hi (t ∷ ts) r (inr q) = omega (arith, rising_some P f m (set_in t).number hi ts r.1 q, r.0)
 
 unmasked_is : (m : ℕ) (t : Slot) → Unmasked m t → (set_in t).number ≡ m
 unmasked_is m (fresh s) q = q
+unmasked_is m (masked s x o) q = elim q [ ]
+unmasked_is m (worded s x o w) q = elim q [ ]
 
 unworded_is : (m : ℕ) (t : Slot) → Unworded m t → (set_in t).number ≡ m
 unworded_is m (fresh s) q = q
 unworded_is m (masked s x o) q = q
+unworded_is m (worded s x o w) q = elim q [ ]
 
 rising_load : (lo hi : ℕ) (s : Set) (ts : List Slot) → hi < s.number → Rising lo hi ts
     → Rising lo s.number (ts ++ (fresh s ∷ []))
@@ -136,6 +140,7 @@ rising_load lo hi s (t ∷ ts) l r = (r.0, rising_load (set_in t).number hi s ts
 
 some_load : (P : Slot → Type 0) (u : Slot) (ts : List Slot) → Some P (ts ++ (u ∷ [])) → Some P ts ⊎ P u
 some_load P u [] (inl q) = inr q
+some_load P u [] (inr q) = elim q [ ]
 some_load P u (t ∷ ts) (inl q) = inl (inl q)
 some_load P u (t ∷ ts) (inr q) =
     elim (some_load P u ts q) as (λ z. Some P (t ∷ ts) ⊎ P u) [ inl a ↦ inl (inr a) | inr a ↦ inr a ]

@@ -12,7 +12,7 @@ use Rattle.half_deal.specs.Dealing.{Deal}
 use Rattle.call_dealer.specs.Dealer.{half_size}
 use Rattle.door_lists.specs.Lists.{Box, camera, office, party_of, other, World, Starts, Message, Call, deal, load}
 use Rattle.door_lists.specs.Lists.{mask, take, finish, join, Event, dealt, loaded, sent, vector, word, answer}
-use Rattle.door_lists.specs.Lists.{events, In, here, there, deal_by_clock}
+use Rattle.door_lists.specs.Lists.{events, In, here, there, deal_by_clock, trial, drop}
 use Rattle.door_lists.specs.Demand.{Progress, nothing_made, made_one, onward, Ready, Run, start, own, aside, turned}
 use Rattle.door_lists.specs.Demand.{InRange, Whole}
 use Rattle.door_lists.proofs.Boxes.{each, put_all}
@@ -86,6 +86,8 @@ module _ (S : Starts) (d : Deal) (v : Box → List ℕ) where
   has_next g h H (mask b x out) r e q = has_box g h b 1 e H r.0 (omega arith) q
   has_next g h H (take b m) r e q = has_box g h b 2 e H r.0 (omega arith) q
   has_next g h H (finish b m) r e q = has_box g h b 3 e H r.0 (omega arith) q
+  has_next g h H (trial b x) r e q = elim r [ ]
+  has_next g h H (drop b) r e q = elim r [ ]
   has_next g h H (join m n) r e q =
       record { few = H.few; has_deal = λ t. there (H.has_deal t); has_left = λ b k l. there (H.has_left b k l) }
 

@@ -361,6 +361,8 @@ none_made door d v (mask c x out) (m, q, l) b = absurd (omega (arith, m))
 none_made door d v (take c m) (e, q, i) b = absurd (omega (arith, e))
 none_made door d v (finish c m) (e, q, i) b = absurd (omega (arith, e))
 none_made door d v (join m n) (e, q, i, p, j) b = elim i [ ]
+none_made door d v (trial c h) r b = elim r [ ]
+none_made door d v (drop c) r b = elim r [ ]
 
 can_try : CanTry
 unfolding CanTry TriedInRun
