@@ -72,4 +72,5 @@ abbrev pub First : ℕ → List ℕ → List (List ℕ) → Type 0
 First a m y = (r : ℕ) → LaneAll r a m 0 y
 
 abbrev pub combined_rows : ℕ → List (List ℕ) → ℕ
-combined_rows r y = combined r (value (get_or y 0 [])) (value (get_or y 1 [])) (value (get_or y 2 [])) (value (get_or y 3 []))
+combined_rows r y =
+    combined r (value (get_or y 0 [])) (value (get_or y 1 [])) (value (get_or y 2 [])) (value (get_or y 3 []))
