@@ -58,7 +58,8 @@ module _ (name : List ℕ) (last : ℕ) (l0 : Label) (name0 : List ℕ)
     where
       go : (b : Bool) → eqb (length name) 16 ≡ b → (answer_on name last l0 name0 answer0 l1 name1 answer1).why ≤ 12
       go true e =
-          rw (← on_lock_lem (eqb-true _ _ e)) (most (record { name = name; last = last }) l0 name0 answer0 l1 name1 answer1)
+          rw (← on_lock_lem (eqb-true _ _ e))
+          (most (record { name = name; last = last }) l0 name0 answer0 l1 name1 answer1)
       go false e = rw (← off_lock (eqb-false _ _ e)) (omega arith)
 
   -- "it gets 0 or 1, or 100 plus the refusal number, and after a 0 or 1 the joined number is the last one"

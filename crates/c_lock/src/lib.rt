@@ -1,6 +1,6 @@
-// The lock's join and its number as C functions, for the lock's host: it keeps the padded name and
-// the last number itself, and hands them in beside the two answers. A slice is handed over as a
-// pointer and a length. No function asks anything of its caller.
+// The lock's join and its number for the lock's host: it keeps the padded name and the last number
+// itself, and hands them in beside the two answers. c_lock_c has both as C functions. No function asks
+// anything of its caller.
 #![tactic(auto)]
 
 ghost use Rattle.std.specs.Prelude.{◌≡◌};
@@ -44,8 +44,7 @@ fn answer_on(
 }
 
 // 0 or 1, or 100 plus the refusal's number. Party 0's answer comes first.
-#[unsafe(no_mangle)]
-pub extern "C" fn lock_join(
+pub fn lock_join(
     name: &[u8],
     last: u64,
     kind0: u32,
@@ -77,8 +76,7 @@ pub extern "C" fn lock_join(
 }
 
 // The lock's last number after that join: the joined one, or where it was refused the one handed in.
-#[unsafe(no_mangle)]
-pub extern "C" fn lock_last(
+pub fn lock_last(
     name: &[u8],
     last: u64,
     kind0: u32,

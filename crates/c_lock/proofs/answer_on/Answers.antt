@@ -9,18 +9,7 @@ use Rattle.call_lock.specs.Lock.{join}
 use Rattle.call_lock.specs.declared.LockAnswer.{LockAnswer}
 use Rattle.c_lock.specs.Host.{answer_on}
 use Rattle.c_lock.specs.Claims.{on_lock_lem, off_lock}
-use borrow.Author.Rules.{rules}
-use Rattle.c_lock.proofs.answer_on.Statement.{statement}
-use Rattle.c_lock.proofs.answer_on.Tie as tie
-
-returns : tie.Need-returns
-returns c = off_lock _ _ _ _ _ _ _ _ c.if1.true
-
-padded-requires : tie.Need-padded-requires
-padded-requires c κs = search rules
-
-join-requires : tie.Need-join-requires
-join-requires c κs = search rules
+use Rattle.c_lock.proofs.answer_on.Goals as goal
 
 -- the join on the padded name, where the name has 16 bytes
 on-padded : (name : List ℕ) (last : ℕ) (l0 : Label) (name0 : List ℕ) (answer0 : ℕ)
@@ -31,8 +20,8 @@ on-padded name last l0 name0 answer0 l1 name1 answer1 h ep er =
     er ∙ ap (λ (n : List ℕ). join (record { name = n; last = last }) l0 name0 answer0 l1 name1 answer1)
     (ep ∙ padded_whole name h) ∙ on_lock_lem name last l0 name0 answer0 l1 name1 answer1 h
 
-returns-2 : tie.Need-returns-2
-returns-2 c = on-padded _ _ _ _ _ _ _ _ c.before.before.if1.false c.before.padded.ensures c.join.ensures
+pub returns-then-name-ne-NAME : goal.returns-then-name-ne-NAME
+returns-then-name-ne-NAME c = off_lock _ _ _ _ _ _ _ _ c.if-name-ne-NAME.true
 
-pub answer-on-spec : {M : Type 1} → statement M
-answer-on-spec = tie.close (tie.spec returns padded-requires join-requires returns-2)
+pub returns : goal.returns
+returns c = on-padded _ _ _ _ _ _ _ _ c.if-name-ne-NAME.false c.padded.ensures c.join.ensures
