@@ -7,8 +7,10 @@ use Rattle.std.specs.Prelude.{cond, ◌&&◌, not, List, ℕ, ◌*◌, eqb, leb,
 use Rattle.base_words.specs.List.{over, same}
 use Rattle.measure_table.specs.declared.Terms.{Terms}
 use Rattle.measure_table.specs.Measure.{is_code, length_fits, rule_fits, in_order}
-use Rattle.base_messages.specs.Messages.{bad_name, bad_party_or_code, wrong_length, short_buffer, wrong_number, out_of_range}
-use Rattle.base_messages.specs.Messages.{equal_keys, bad_marks, camera_party, unless, if_taken, name_fits, padded, is_key}
+use Rattle.base_messages.specs.Messages.{bad_name, bad_party_or_code, wrong_length, short_buffer, wrong_number}
+use Rattle.base_messages.specs.Messages.{out_of_range}
+use Rattle.base_messages.specs.Messages.{equal_keys, bad_marks, camera_party, unless, if_taken, name_fits, padded}
+use Rattle.base_messages.specs.Messages.{is_key}
 use Rattle.half_content.specs.Content.{block_bytes, block_count}
 use Rattle.half_deal.specs.Dealing.{Deal, dealt_set}
 use Rattle.half_seal.specs.Half.{half}

@@ -9,7 +9,8 @@ use Rattle.measure_table.specs.declared.Rule.{Rule}
 use Rattle.measure_table.specs.declared.Rule.TheVariants.{Threshold}
 use Rattle.measure_table.specs.Measure.{is_code, length_fits, rule_fits, in_order, width_of, mark_of}
 use Rattle.measure_table.specs.Laws.{scalar_sign}
-use Rattle.base_messages.specs.Messages.{bad_party_or_code, wrong_length, short_buffer, wrong_number, out_of_range, bad_marks}
+use Rattle.base_messages.specs.Messages.{bad_party_or_code, wrong_length, short_buffer, wrong_number, out_of_range}
+use Rattle.base_messages.specs.Messages.{bad_marks}
 use Rattle.base_messages.specs.Messages.{unless, name_fits, is_key}
 use Rattle.base_messages.specs.Laws.{passed}
 use Rattle.half_content.specs.Content.{Proper}
@@ -53,7 +54,8 @@ pub record DealTells (s : Dealer) (d : Deal) (room0 room1 : ℕ) : Type 0 where
   pub rule_fits_lem : rule_fits d.terms d.rule ≡ true
   pub in_order_lem : in_order d.rule ≡ true
 
-pub deal_tells : (s : Dealer) (d : Deal) (room0 room1 : ℕ) → why_not_deal s d room0 room1 ≡ 0 → DealTells s d room0 room1
+pub deal_tells : (s : Dealer) (d : Deal) (room0 room1 : ℕ)
+    → why_not_deal s d room0 room1 ≡ 0 → DealTells s d room0 room1
 unfolding why_not_deal is_key
 deal_tells s d room0 room1 h =
     let a = passed _ h in

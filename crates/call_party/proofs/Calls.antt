@@ -15,8 +15,10 @@ use Rattle.measure_table.specs.Laws.{length_fits_lem}
 use Rattle.share_vectors.specs.Share as Share
 use Rattle.share_vectors.specs.Share.{plus}
 use Rattle.base_messages.specs.declared.Label.{Label}
-use Rattle.base_messages.specs.Messages.{out_of_turn, wrong_length, short_buffer, wrong_message, wrong_number, out_of_range}
-use Rattle.base_messages.specs.Messages.{vector_kind, word_kind, office_party, unless, is_name, is_key, expected, padded}
+use Rattle.base_messages.specs.Messages.{out_of_turn, wrong_length, short_buffer, wrong_message, wrong_number}
+use Rattle.base_messages.specs.Messages.{out_of_range}
+use Rattle.base_messages.specs.Messages.{vector_kind, word_kind, office_party, unless, is_name, is_key, expected}
+use Rattle.base_messages.specs.Messages.{padded}
 use Rattle.base_messages.specs.Laws as Refusals
 use Rattle.base_messages.specs.Laws.{turned_down, goes_on, passed, fits_short}
 use Rattle.half_content.specs.declared.Set.{Set}

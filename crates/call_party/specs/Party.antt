@@ -11,7 +11,8 @@ use Rattle.share_vectors.specs.Share as Share
 use Rattle.share_vectors.specs.Share.{plus}
 use Rattle.base_messages.specs.declared.Label.{Label}
 use Rattle.base_messages.specs.declared.Identity.{Identity}
-use Rattle.base_messages.specs.Messages.{bad_name, bad_party_or_code, out_of_turn, wrong_length, short_buffer, wrong_message}
+use Rattle.base_messages.specs.Messages.{bad_name, bad_party_or_code, out_of_turn, wrong_length, short_buffer}
+use Rattle.base_messages.specs.Messages.{wrong_message}
 use Rattle.base_messages.specs.Messages.{wrong_number, out_of_range, vector_kind, word_kind, camera_party, office_party}
 use Rattle.base_messages.specs.Messages.{unless, if_taken, name_fits, padded, is_key, is_name, expected}
 use Rattle.half_content.specs.declared.Set.{Set}
@@ -76,7 +77,8 @@ answered why next s word = record { why = why; party = if_taken why next s; word
 
 unfoldable pub why_not_party : List ℕ → ℕ → List ℕ → ℕ
 why_not_party name party key =
-    unless (name_fits name) bad_name (unless (leb party office_party) bad_party_or_code (unless (is_key key) wrong_length 0))
+    unless (name_fits name) bad_name
+    (unless (leb party office_party) bad_party_or_code (unless (is_key key) wrong_length 0))
 
 unfoldable pub start_party : List ℕ → ℕ → List ℕ → ℕ → PartyAnswer
 start_party name party key floor =
@@ -207,7 +209,8 @@ why_not_take s l name v =
 -- its share, from its own masked vector and the other's: MX is party 0's, MY party 1's [SPEC 17.2]
 unfoldable pub box_share : ℕ → ℕ → ℕ → List ℕ → List ℕ → List ℕ → List ℕ → ℕ
 box_share party n c own_masked other x y =
-    cond (eqb party camera_party) (Share.share party n c own_masked other x y) (Share.share party n c other own_masked x y)
+    cond (eqb party camera_party) (Share.share party n c own_masked other x y)
+    (Share.share party n c other own_masked x y)
 
 -- its word, by the sign that the set's terms and mark give (Share.`box_word`) [SPEC 17.4]
 unfoldable pub word_of : Set → ℕ → List ℕ → ℕ → List ℕ → ℕ

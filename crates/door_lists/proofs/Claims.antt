@@ -58,7 +58,8 @@ no_wrong_report s f cs a n bit i =
 
 no_reuse : NoReuse
 unfolding NoReuse
-no_reuse s f cs a b n = let k = ((always s f cs a).box_is b).ok.counted in ((k.vectors_once n).few, (k.words_once n).few)
+no_reuse s f cs a b n =
+    let k = ((always s f cs a).box_is b).ok.counted in ((k.vectors_once n).few, (k.words_once n).few)
 
 -- a run in the right order after such a list
 pub begins : (s : Starts) → Started s → (cs : List Call) → Admissible s cs → (d : Deal) (v : Box → List ℕ)

@@ -23,7 +23,8 @@ use Rattle.base_messages.specs.declared.Identity.{Identity}
 use Rattle.half_content.specs.declared.Set.{Set}
 use Rattle.half_content.specs.Content.{no_set}
 use Rattle.call_party.specs.Party.{idle, no_check, waiting_fits}
-use Rattle.call_party.specs.Party.{state_fits, sound, in_turn, why_not_load, why_not_mask, why_not_message, why_not_take}
+use Rattle.call_party.specs.Party.{state_fits, sound, in_turn, why_not_load, why_not_mask, why_not_message}
+use Rattle.call_party.specs.Party.{why_not_take}
 use Rattle.call_party.specs.Party.{why_not_finish, why_not_drop}
 use Rattle.call_party.specs.Laws.{water_of}
 use Rattle.call_lock.specs.declared.Lock.{Lock}

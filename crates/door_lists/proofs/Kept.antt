@@ -14,7 +14,8 @@ use Rattle.half_seal.specs.Half.{block_at, set_number, opened_set}
 use Rattle.half_deal.specs.Dealing.{Deal}
 use Rattle.call_party.specs.declared.Party.{Party}
 use Rattle.call_party.specs.Party as BoxCalls
-use Rattle.call_party.specs.Party.{idle, why_not_load, why_not_mask, why_not_take, why_not_finish, why_not_drop, masked_vector}
+use Rattle.call_party.specs.Party.{idle, why_not_load, why_not_mask, why_not_take, why_not_finish, why_not_drop}
+use Rattle.call_party.specs.Party.{masked_vector}
 use Rattle.call_party.specs.Laws.{water_of, load_tells}
 use Rattle.door_lists.specs.Lists.{Box, camera, office, party_of, other, World, Starts, Message, finish}
 use Rattle.door_lists.specs.Lists.{Event, dealt, loaded, sent, dropped, vector, word, answer, masked_by, In}
@@ -113,7 +114,8 @@ module _ (S : Starts) where
         let t = k.holds.0.0 in
         let f = k.holds.0.1 in
         let r : all_in_range t.d.terms v ≡ true =
-        subst (λ c. all_in_range c v ≡ true) (ap (λ y. y.terms) f ∙ set_terms t.d b) (mask_tells z v _ e).in_range_lem in
+        subst (λ c. all_in_range c v ≡ true) (ap (λ y. y.terms) f ∙ set_terms t.d b)
+        (mask_tells z v _ e).in_range_lem in
         subst (λ m. Stepped h b (BoxCalls.masked z v) (sent b s.number (vector v m))) (sym (masked_is z v out e)) (
           own_sent _ _,
           (t, r, ap (λ y. masked_vector y (party_of b) v) f),
@@ -161,7 +163,13 @@ module _ (S : Starts) where
         subst (λ y. Stepped h b (BoxCalls.worded z u) (sent b s.number (word y))) (sym (new _ _ _ e)) (
           own_sent _ _,
           (record { of = g.0; v = g.2; sents = g.3 }, g.4),
-          record { slots = _; few = few; behind = fr; shows = refl; ok = slots_take h b (last_at S b h) s a o ts k u g },
+          record {
+            slots = _;
+            few = few;
+            behind = fr;
+            shows = refl;
+            ok = slots_take h b (last_at S b h) s a o ts k u g;
+          },
         )
 
     -- ---- call 4 and drop

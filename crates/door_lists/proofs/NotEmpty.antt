@@ -12,7 +12,8 @@ use Rattle.base_algebra.specs.Integer.{ringℤ, reifyℤ}
 use Rattle.base_algebra.specs.Word.{signed}
 use Rattle.base_algebra.specs.Sum.{sumℤ}
 use Rattle.measure_table.specs.Measure.{row, scalar_product, squared_euclid, hamming, element, measure, reached}
-use Rattle.measure_table.specs.Measure.{ordinary_mark, is_code, length_fits, within, in_range, all_in_range, threshold_fits}
+use Rattle.measure_table.specs.Measure.{ordinary_mark, is_code, length_fits, within, in_range, all_in_range}
+use Rattle.measure_table.specs.Measure.{threshold_fits}
 use Rattle.measure_table.specs.Measure.{meets, rule_fits, in_order, mark_of}
 use Rattle.measure_table.specs.declared.Terms.{Terms}
 use Rattle.measure_table.specs.declared.Rule.{Rule}

@@ -285,7 +285,8 @@ module _ (S : Starts) where
           go (t ∷ []) k = absurd (omega (arith, two, k.counted.count))
           go (t ∷ u ∷ ts) k = waits_3 _ x (length_fits_lem (set_in u).terms k.fitting.1.0.1).0
 
-      spent : open_sets b h ≤ 1 → (x : List ℕ) → whole_blocks x ≡ true → set_number x ≤ last → why_not_load p x ≡ wrong_number
+      spent : open_sets b h ≤ 1 → (x : List ℕ) → whole_blocks x ≡ true → set_number x ≤ last
+          → why_not_load p x ≡ wrong_number
       unfolding idle no_set
       spent few x whole low = at p a (λ z. why_not_load z x ≡ wrong_number) go
         where
@@ -434,7 +435,8 @@ unfolding in_turn unless
 not_yet k p rest e = rw (ne_eqb p.check.phase (suc k) (λ q. omega (arith, e, q))) refl
 
 no_turns : (w : World) (b : Box) → (w.box b).check.phase ≡ 0 → NoTurn w b
-unfolding BoxCalls.mask take_vector BoxCalls.finish why_not_mask why_not_take why_not_finish BoxCalls.why_not_message if_taken
+unfolding BoxCalls.mask take_vector BoxCalls.finish why_not_mask why_not_take why_not_finish BoxCalls.why_not_message
+    if_taken
 no_turns w b e =
     record {
       no_mask = λ v out. rw (not_yet 0 (w.box b) _ e) refl;

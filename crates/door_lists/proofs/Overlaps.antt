@@ -96,7 +96,8 @@ module _ (S : Starts) (d : Deal) (v : Box → List ℕ) where
     slots_sound b last (suc (suc (suc (suc k)))) = none_sound S d v b last
 
   -- and what a half's number has to be above is below n, if the last number and the run's are
-  slots_water : (b : Box) (last n k : ℕ) → last < n → d.number < n → water_of (showing S b last (slots_at S d v b k)) < n
+  slots_water : (b : Box) (last n k : ℕ) → last < n → d.number < n
+      → water_of (showing S b last (slots_at S d v b k)) < n
   unfolding BoxCalls.no_check no_set
   slots_water b last n k l m = water_below _ _ last n l (number_below k)
     where

@@ -65,7 +65,8 @@ either b why new s e f = go (eqb why 0) refl
     go false q = λ o h. still s
 
 -- and a call of box b leaves the other box alone
-on_box_lem : (w : World) (b : Box) (why : ℕ) (new : Party) (e : Event) → (why ≡ 0 → Spares b (w.box b) e new) → (c : Box)
+on_box_lem : (w : World) (b : Box) (why : ℕ) (new : Party) (e : Event)
+    → (why ≡ 0 → Spares b (w.box b) e new) → (c : Box)
     → Spares c (w.box c) (event_of why e) (put w.box b (if_taken why new (w.box b)) c)
 on_box_lem w b why new e f =
     let called = either b why new (w.box b) e f in

@@ -112,7 +112,10 @@ module _ (S : Starts) (d : Deal) (v : Box → List ℕ) where
     join_next t m true e = inl (t, (λ b. omega (arith, m b, H.few b)), e)
     join_next t m false e =
         let sends : (b : Box) → In (left b 3) h = λ b. H.has_left b 3 (omega (arith, m b)) in
-        inr (join (answer_from camera) (answer_from office), (e, (refl, refl), sends camera, (refl, refl), sends office))
+        inr (
+          join (answer_from camera) (answer_from office),
+          (e, (refl, refl), sends camera, (refl, refl), sends office),
+        )
 
     behind : g.begun ≡ true → (b : Box) → g.made b ≤ g.made (other b) → Whole g ⊎ Next g h
     behind t b o =

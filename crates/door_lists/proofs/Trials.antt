@@ -95,8 +95,10 @@ module _ (door : List ℕ) (g h : List Event) (more : (x : Event) → In x g →
   admits_more (take b m) a = λ k n. let (c, p, i) = a k n in (c, p, (i.0, more _ i.1))
   admits_more (finish b m) a = sent_more word_kind (λ c n y. sent c n (word y)) m a
   admits_more (drop b) a = a
-  admits_more (join m n) (p, q) =
-      (sent_more answer_kind (λ c k y. sent c k (answer y)) m p, sent_more answer_kind (λ c k y. sent c k (answer y)) n q)
+  admits_more (join m n) (p, q) = (
+    sent_more answer_kind (λ c k y. sent c k (answer y)) m p,
+    sent_more answer_kind (λ c k y. sent c k (answer y)) n q,
+  )
 
 free_call : (s : Starts) (c : Call) (cs : List Call) → Admissible s cs
     → Fits c × Admits (door s) (history s (without_trials cs)) c → Admissible s (c ∷ cs)
@@ -404,7 +406,8 @@ tried_ahead s cs d e v u T rs g o =
 full_refused : FullRefused
 unfolding FullRefused NumbersKept Foretells
 full_refused s f cs b two h =
-    ((foretells (after (beginning s) cs) b h [] refl).refused_alike out_of_turn).1 ((numbers_kept s f cs).no_load b two h)
+    ((foretells (after (beginning s) cs) b h [] refl).refused_alike out_of_turn).1
+    ((numbers_kept s f cs).no_load b two h)
 
 pub trial_load : TrialLoad
 unfolding TrialLoad

@@ -26,7 +26,8 @@ start_of : (p s : List ℕ) (n : ℕ) → length p ≡ n → n ≤ length s → 
 unfolding part
 start_of p s n e l = ap (λ (z : List ℕ). take n z) (over_eq p s 0 (omega arith)) ∙ take_at p (drop (0 + length p) s) n e
 
-pub written_is : (s : Dealer) (d : Deal) (out0 out1 : List ℕ) (b : Box) → why_not_deal s d (length out0) (length out1) ≡ 0
+pub written_is : (s : Dealer) (d : Deal) (out0 out1 : List ℕ) (b : Box)
+    → why_not_deal s d (length out0) (length out1) ≡ 0
     → length (half_for s d (party_of b)) ≡ half_size d.terms.n → written s d out0 out1 b ≡ half_for s d (party_of b)
 unfolding deal_out
 written_is s d out0 out1 camera e l =

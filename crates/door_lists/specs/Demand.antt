@@ -1,13 +1,15 @@
 -- Demand 3 (01, "A door's list of calls"): what a list's accepted calls were, and eight claims: seven over every list,
 -- and one of what the verdict is. No proof stands here. Assumes nothing.
 -- [SPEC 3.6, 25.6 to 25.8, 27.1 to 27.5, 28.1 to 28.13]
-use Rattle.std.specs.Prelude.{◌≡◌, Bool, true, false, cond, ◌&&◌, List, [], ◌∷◌, ◌++◌, map, ◌⊎◌, ℕ, suc, ◌+◌, ◌-◌, ◌^◌, ◌<◌, ◌≤◌, eqb, length, drop as without, ℤ}
+use Rattle.std.specs.Prelude.{◌≡◌, Bool, true, false, cond, ◌&&◌, List, [], ◌∷◌, ◌++◌, map, ◌⊎◌, ℕ, suc, ◌+◌, ◌-◌, ◌^◌}
+use Rattle.std.specs.Prelude.{◌<◌, ◌≤◌, eqb, length, drop as without, ℤ}
 use Rattle.std.specs.Int.Signed.{le_z}
 use Rattle.base_algebra.specs.Word.{signed}
 use Rattle.measure_table.specs.declared.Terms.{Terms}
 use Rattle.measure_table.specs.declared.Rule.{Rule}
 use Rattle.measure_table.specs.declared.Rule.TheVariants.{Threshold, Between}
-use Rattle.measure_table.specs.Measure.{measure, is_code, length_fits, all_in_range, meets, rule_fits, in_order, mark_of}
+use Rattle.measure_table.specs.Measure.{measure, is_code, length_fits, all_in_range, meets, rule_fits, in_order}
+use Rattle.measure_table.specs.Measure.{mark_of}
 use Rattle.base_messages.specs.Messages.{vector_kind, word_kind, answer_kind, padded}
 use Rattle.half_deal.specs.Dealing.{Deal}
 use Rattle.call_day.specs.Table.{day}

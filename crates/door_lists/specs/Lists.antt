@@ -4,7 +4,8 @@
 use Rattle.std.specs.Prelude.{◌≡◌, Bool, true, false, List, [], ◌∷◌, ℕ, ◌/◌, ◌^◌, ◌<◌, length}
 use Rattle.measure_table.specs.declared.Terms.{Terms}
 use Rattle.base_messages.specs.declared.Label.{Label}
-use Rattle.base_messages.specs.Messages.{camera_party, office_party, vector_kind, word_kind, answer_kind, if_taken, padded}
+use Rattle.base_messages.specs.Messages.{camera_party, office_party, vector_kind, word_kind, answer_kind, if_taken}
+use Rattle.base_messages.specs.Messages.{padded}
 use Rattle.half_content.specs.Content.{block_bytes, part}
 use Rattle.half_seal.specs.Half.{block_at, set_number}
 use Rattle.call_dealer.specs.declared.Dealer.{Dealer}
