@@ -208,6 +208,6 @@ all (l ∷ t) = holds l && all t
 pub the_cases : all table ≡ true
 unfolding all table holds terms_of sameℤ crossed widths sum_first size block_count ideal_gate measure own cross element
     sign difference reached within threshold_fits meets rule_fits in_order row scalar_product squared_euclid hamming
-    word own_word plus tab same sum sumℤ add sub W.mul W.neg W.signed only less choose why_not_table shaped first_bad_row
-    first_bad_minute rows_with bad_row bad_minute in_row row_at least count
+    word own_word plus tab same sum sumℤ add sub W.mul W.neg W.signed only less choose why_not_table shaped
+    first_bad_row first_bad_minute rows_with bad_row bad_minute in_row row_at least count
 the_cases = refl

@@ -17,8 +17,11 @@ returns-then-not-row_fits c =
 
 pub loop-i-preserved : goal.loop-i-preserved
 unfolding bad_row
-loop-i-preserved c =
-    (search rules, below_more _ _ c.loop-i.invariant.1 (ap not (sym c.row_fits.ensures) ∙ ap not c.if-not-row_fits.false))
+loop-i-preserved c = (
+  search rules,
+  below_more _ _ c.loop-i.invariant.1
+      (ap not (sym c.row_fits.ensures) ∙ ap not c.if-not-row_fits.false),
+)
 
 pub returns : goal.returns
 unfolding first_bad_row

@@ -18,8 +18,10 @@ loop-i-preserved c =
     let in_row = holds args.firsts.now args.lasts.now args.minute in
     let tested = sym c.in_row.ensures in
     elim c.if-in_row.branch [
-      | then-in_row w ↦ (search rules, omega (arith, count_yes in_row c.loop-i.i (tested ∙ w.if-in_row.true)), omega arith)
-      | else-in_row w ↦ (search rules, omega (arith, count_no in_row c.loop-i.i (tested ∙ w.if-in_row.false)), omega arith)
+      | then-in_row w ↦
+          (search rules, omega (arith, count_yes in_row c.loop-i.i (tested ∙ w.if-in_row.true)), omega arith)
+      | else-in_row w ↦
+          (search rules, omega (arith, count_no in_row c.loop-i.i (tested ∙ w.if-in_row.false)), omega arith)
     ]
 
 pub returns : goal.returns
