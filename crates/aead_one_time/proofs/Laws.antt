@@ -105,7 +105,8 @@ pub keys_law : (m : ℕ) (key k : List ℕ) (a b first : ℕ) (x y : List ℕ) �
 unfolding firsts keys starts block add
 keys_law m key k a b first x y ha hb ek ex ey =
     ap flat
-    (each_ext (λ l. bytes_of (take 8 (get_or (rows m y) l []))) (λ l. poly_key key (nonce_of a b (add first l))) m state)
+    (each_ext (λ l. bytes_of (take 8 (get_or (rows m y) l [])))
+    (λ l. poly_key key (nonce_of a b (add first l))) m state)
   where
     made : rows m y ≡ each (λ l. block k 0 (a ∷ b ∷ add first l ∷ [])) m
     made = ey ∙ ap (map block_from) ex ∙ map_each block_from (λ l. start k 0 (a ∷ b ∷ add first l ∷ [])) m
