@@ -40,7 +40,8 @@ read n x l =
     let e14 : 2 * n + (12 * n + l) ≡ n * 14 + l = omega arith in
     let e15 : 3 * n + (12 * n + l) ≡ n * 15 + l = omega arith in
     λ i. get_or x (e0 i) 0 ∷ get_or x (e1 i) 0 ∷ get_or x (e2 i) 0 ∷ get_or x (e3 i) 0 ∷ get_or x (e4 i) 0
-    ∷ get_or x (e5 i) 0 ∷ get_or x (e6 i) 0 ∷ get_or x (e7 i) 0 ∷ get_or x (e8 i) 0 ∷ get_or x (e9 i) 0 ∷ get_or x (e10 i) 0
+    ∷ get_or x (e5 i) 0 ∷ get_or x (e6 i) 0 ∷ get_or x (e7 i) 0 ∷ get_or x (e8 i) 0 ∷ get_or x (e9 i) 0
+    ∷ get_or x (e10 i) 0
     ∷ get_or x (e11 i) 0 ∷ get_or x (e12 i) 0 ∷ get_or x (e13 i) 0 ∷ get_or x (e14 i) 0 ∷ get_or x (e15 i) 0 ∷ []
 
 -- a state of the words that were read

@@ -1,6 +1,8 @@
 -- n states side by side in 16 n words, for any n. Assumes nothing.
-use Rattle.std.specs.Prelude.{◌≡◌, refl, ℕ, zero, suc, ◌+◌, ◌*◌, ◌<◌, List, [], ◌∷◌, ◌++◌, map, length, get_or, set, take, drop}
-use Rattle.std.proofs.Common.{sym, ap, ap₂, ◌∙◌, append-nil, append_assoc, arith, add-one, length-append, drop_of_length-le, take_all, take_at}
+use Rattle.std.specs.Prelude.{◌≡◌, refl, ℕ, zero, suc, ◌+◌, ◌*◌, ◌<◌}
+use Rattle.std.specs.Prelude.{List, [], ◌∷◌, ◌++◌, map, length, get_or, set, take, drop}
+use Rattle.std.proofs.Common.{sym, ap, ap₂, ◌∙◌, append-nil, append_assoc, arith, add-one, length-append}
+use Rattle.std.proofs.Common.{drop_of_length-le, take_all, take_at}
 use Rattle.std.proofs.lemmas.List.{length-map}
 use Rattle.std.proofs.Math.Seq.{drop-append-add}
 use Rattle.base_words.specs.List.{flat, tab, length_tab, tab_ext, tab_add}
@@ -17,7 +19,12 @@ col n l x = tab (λ w. get_or x (n * w + l) 0) 16
 
 -- four words of a state, from the one at `at` on
 abbrev pub four_at : ℕ → ℕ → List ℕ → Four
-four_at n at x = record { a = get_or x at 0; b = get_or x (n + at) 0; c = get_or x (2 * n + at) 0; d = get_or x (3 * n + at) 0 }
+four_at n at x = record {
+  a = get_or x at 0;
+  b = get_or x (n + at) 0;
+  c = get_or x (2 * n + at) 0;
+  d = get_or x (3 * n + at) 0;
+}
 
 -- and those words written over
 abbrev pub put_four : ℕ → ℕ → ℕ → ℕ → ℕ → ℕ → List ℕ → List ℕ
@@ -169,7 +176,8 @@ pub map_more : (f : List ℕ → List ℕ) (r₀ r r' : List (List ℕ)) (w : Li
 map_more f r₀ r r' w l h e is next =
     next ∙ ap (λ (s : List (List ℕ)). set s l w) e
     ∙ row_more (map f r₀) r₀ w l (length-map r₀ f) h
-    (is ∙ ap (λ (s : List (List ℕ)). f (get_or s l [])) e ∙ ap f (row_next (map f r₀) r₀ l (length-map r₀ f)) ∙ at r₀ l h)
+    (is ∙ ap (λ (s : List (List ℕ)). f (get_or s l [])) e ∙ ap f (row_next (map f r₀) r₀ l (length-map r₀ f))
+    ∙ at r₀ l h)
   where
     at : (r : List (List ℕ)) (l : ℕ) → l < length r → f (get_or r l []) ≡ get_or (map f r) l []
     at [] l h = absurd (omega arith)

@@ -78,7 +78,8 @@ unfolding stream
 filled_all key nonce out₀ out at n f done =
     let all : at ≡ length out₀ = done ∙ f.long in
     rw all at f.written
-    ∙ rw (drop_of_length-le out₀ {i = length out₀} (omega arith)) (append-nil (tab (key_word key 0 nonce) (length out₀)))
+    ∙ rw (drop_of_length-le out₀ {i = length out₀} (omega arith))
+    (append-nil (tab (key_word key 0 nonce) (length out₀)))
 
 -- the blocks' words, written to a place of their own
 pub words_of : (m : ℕ) (key nonce x k₀ k : List ℕ) (n : ℕ) → length key ≡ 8 → length nonce ≡ 3
@@ -96,7 +97,8 @@ filled_last m key nonce out₀ out out' k at n f short part written =
     let all : at + rest ≡ length out₀ = omega (arith, f.long, f.within) in
     let here : (i : ℕ) → i < rest → get_or k i 0 ≡ key_word key 0 nonce (at + i) =
     λ i h.
-    ap (λ (l : List ℕ). get_or l i 0) part ∙ get_or_tab (key_word key n nonce) (16 * m) i (omega (arith, f.long, f.within))
+    ap (λ (l : List ℕ). get_or l i 0) part
+    ∙ get_or_tab (key_word key n nonce) (16 * m) i (omega (arith, f.long, f.within))
     ∙ word_shift key 0 n nonce at i (omega (arith, f.whole)) f.count in
     tab_chunk (key_word key 0 nonce) (λ i. get_or k i 0) out₀ out out' at rest
     (omega (arith, f.long, f.within)) f.written written here
@@ -122,7 +124,8 @@ xored_none key counter nonce d h =
     record { whole = refl; count = omega arith; written = rw none refl; long = refl }
 
 pub bytes_of_lem : (m : ℕ) (key nonce x b : List ℕ) (n : ℕ) → length key ≡ 8 → length nonce ≡ 3
-    → rows m x ≡ blocks_from m key n nonce → b ≡ bytes_of (in_order m x) → b ≡ bytes_of (tab (key_word key n nonce) (16 * m))
+    → rows m x ≡ blocks_from m key n nonce → b ≡ bytes_of (in_order m x)
+    → b ≡ bytes_of (tab (key_word key n nonce) (16 * m))
 bytes_of_lem m key nonce x b n lk ln is stored = stored ∙ ap bytes_of (in_order_lem m key n nonce x lk ln is)
 
 pub xored_more : (m : ℕ) (key : List ℕ) (counter : ℕ) (nonce d₀ d d' b : List ℕ) (at n n' : ℕ)

@@ -38,7 +38,8 @@ within n l w h k = let most : n * w ≤ n * 15 = mul-le-mul_left n (omega arith)
 added_col : (n l : ℕ) (x y : List ℕ) → l < n → col n l (sums (16 * n) x y) ≡ added (col n l x) (col n l y)
 unfolding col
 added_col n l x y h =
-    tab_ext (λ w. get_or (sums (16 * n) x y) (n * w + l) 0) (λ w. add (get_or x (n * w + l) 0) (get_or y (n * w + l) 0)) 16
+    tab_ext (λ w. get_or (sums (16 * n) x y) (n * w + l) 0)
+    (λ w. add (get_or x (n * w + l) 0) (get_or y (n * w + l) 0)) 16
     (λ w k. get_or_tab (λ i. add (get_or x i 0) (get_or y i 0)) (16 * n) (n * w + l) (within n l w h k))
     ∙ sym (added_tab (λ w. get_or x (n * w + l) 0) (λ w. get_or y (n * w + l) 0))
 

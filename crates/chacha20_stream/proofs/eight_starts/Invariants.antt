@@ -6,7 +6,9 @@ use Rattle.chacha20_stream.specs.Keystream.{starts}
 use Rattle.chacha20_stream.proofs.eight_starts.Given as goal
 
 abbrev pub invariant-loop-l : goal.invariant-loop-l
-invariant-loop-l l = (l.l ≤ 8) × (l.n ≡ add l.counter l.l) × (rows 8 l.x ≡ up_to l.l (starts 8 l.key l.counter l.nonce) (rows 8 l.initial.x))
+invariant-loop-l l =
+    (l.l ≤ 8) × (l.n ≡ add l.counter l.l)
+    × (rows 8 l.x ≡ up_to l.l (starts 8 l.key l.counter l.nonce) (rows 8 l.initial.x))
 
 abbrev pub decreases-loop-l : goal.decreases-loop-l
 decreases-loop-l l = 8 - l.l

@@ -6,7 +6,9 @@ use Rattle.base_words.specs.Bytes.{bytes_of}
 use Rattle.chacha20_stream.proofs.store_lane.Given as goal
 
 abbrev pub invariant-loop-w : goal.invariant-loop-w
-invariant-loop-w l = (l.w ≤ 16) × (l.b ≡ over l.at (bytes_of (tab (λ w'. get_or l.x (8 * w' + l.l) 0) l.w)) l.initial.b) × (length l.b ≡ length l.initial.b)
+invariant-loop-w l =
+    (l.w ≤ 16) × (l.b ≡ over l.at (bytes_of (tab (λ w'. get_or l.x (8 * w' + l.l) 0) l.w)) l.initial.b)
+    × (length l.b ≡ length l.initial.b)
 
 abbrev pub decreases-loop-w : goal.decreases-loop-w
 decreases-loop-w l = 16 - l.w

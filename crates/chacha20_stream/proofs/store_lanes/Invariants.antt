@@ -7,7 +7,8 @@ use Rattle.chacha20_stream.proofs.Blocks.{laid}
 use Rattle.chacha20_stream.proofs.store_lanes.Given as goal
 
 abbrev pub invariant-loop-l : goal.invariant-loop-l
-invariant-loop-l l = (l.l ≤ 8) × (l.b ≡ over 0 (bytes_of (laid 8 l.l l.x)) l.initial.b) × (length l.b ≡ length l.initial.b)
+invariant-loop-l l =
+    (l.l ≤ 8) × (l.b ≡ over 0 (bytes_of (laid 8 l.l l.x)) l.initial.b) × (length l.b ≡ length l.initial.b)
 
 abbrev pub decreases-loop-l : goal.decreases-loop-l
 decreases-loop-l l = 8 - l.l

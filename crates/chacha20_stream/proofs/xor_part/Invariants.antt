@@ -6,7 +6,10 @@ use Rattle.base_words.specs.List.{over, tab}
 use Rattle.chacha20_stream.proofs.xor_part.Given as goal
 
 abbrev pub invariant-loop-i : goal.invariant-loop-i
-invariant-loop-i l = (l.i ≤ l.n) × (l.bytes ≡ over l.at (tab (λ i'. bit_xor (get_or l.initial.bytes (l.at + i') 0) (get_or l.b i' 0)) l.i) l.initial.bytes)
+invariant-loop-i l =
+    (l.i ≤ l.n)
+    × (l.bytes ≡ over l.at (tab (λ i'. bit_xor (get_or l.initial.bytes (l.at + i') 0) (get_or l.b i' 0)) l.i)
+    l.initial.bytes)
     × (length l.bytes ≡ length l.initial.bytes)
 
 abbrev pub decreases-loop-i : goal.decreases-loop-i
