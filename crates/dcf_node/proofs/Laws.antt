@@ -53,7 +53,8 @@ next_flag_lem false f a x y ex ey = odd_xor a y ∙ ap (xor (odd a)) (ap odd ey)
 module _ (s c : List ℕ) (hs : length s ≡ 8) (hc : length c ≡ 8) where
   abbrev pub pairs : (ℕ → ℕ) → List ℕ
   pairs x =
-      bit_xor (get_or s 0 0) (x 0) ∷ bit_xor (get_or s 1 0) (x 1) ∷ bit_xor (get_or s 2 0) (x 2) ∷ bit_xor (get_or s 3 0) (x 3)
+      bit_xor (get_or s 0 0) (x 0) ∷ bit_xor (get_or s 1 0) (x 1)
+      ∷ bit_xor (get_or s 2 0) (x 2) ∷ bit_xor (get_or s 3 0) (x 3)
       ∷ bit_xor (get_or s 4 0) (x 4) ∷ bit_xor (get_or s 5 0) (x 5)
       ∷ bit_xor (get_or s 6 0) (x 6) ∷ bit_xor (get_or s 7 0) (x 7) ∷ []
 
@@ -61,6 +62,7 @@ module _ (s c : List ℕ) (hs : length s ≡ 8) (hc : length c ≡ 8) where
   unfolding corrected xors zip_with only
   seed_corrected true = ap₂ (zip_with bit_xor) (all 8 s hs) (all 8 c hc)
   seed_corrected false = (λ i.
-      xor_zero_r (get_or s 0 0) i ∷ xor_zero_r (get_or s 1 0) i ∷ xor_zero_r (get_or s 2 0) i ∷ xor_zero_r (get_or s 3 0) i
+      xor_zero_r (get_or s 0 0) i ∷ xor_zero_r (get_or s 1 0) i
+      ∷ xor_zero_r (get_or s 2 0) i ∷ xor_zero_r (get_or s 3 0) i
       ∷ xor_zero_r (get_or s 4 0) i ∷ xor_zero_r (get_or s 5 0) i
       ∷ xor_zero_r (get_or s 6 0) i ∷ xor_zero_r (get_or s 7 0) i ∷ []) ∙ all 8 s hs

@@ -1,14 +1,12 @@
 -- A key in the ranges of its fields, whatever the key seeds and the point: 32 corrections, each of a seed of eight
 -- words, a word and two flags, and a final word. And the seeds that are opened, in key making and in walks, have eight
--- words. Assumes nothing.
-use Rattle.std.specs.Prelude.{◌≡◌, refl, Bool, true, false, not, ltb, length, get_or, take}
-use Rattle.std.proofs.Common.{sym, ap, ◌∙◌, arith, ltb-true, ltb-false}
-use mathlib.Core.List.{List, [], ◌∷◌, ◌++◌, zip_with}
+-- words. What rests on which correction stands where is in `proofs/Bounds.antt`. Assumes nothing.
+use Rattle.std.specs.Prelude.{◌≡◌, refl, Bool, true, false, not, length, take}
+use Rattle.std.proofs.Common.{sym, ap, ◌∙◌, arith}
+use mathlib.Core.List.{List, [], ◌∷◌, zip_with}
 use Prim.Native.Nat.{ℕ, zero, suc, ◌+◌, ◌*◌, ◌^◌, ◌<◌, ◌≤◌}
 use Rattle.std.proofs.Math.Nat.{suc_inj}
 use Rattle.std.proofs.lemmas.Nat.{xor_lt}
-use Rattle.std.proofs.Math.ListN.{get_or-append}
-use Rattle.std.proofs.lemmas.List.{get_or_at}
 use Rattle.base_algebra.specs.Word.{sub, neg_lt, add_lt, sub_lt}
 use Rattle.base_algebra.specs.Bit.{only, bit_le}
 use Rattle.base_words.specs.Bytes.{Below, Words}
@@ -18,9 +16,9 @@ use Rattle.chacha20_block.specs.ChaCha20.{block}
 use Rattle.dcf_function.specs.Dcf as D
 use Rattle.dcf_node.specs.declared.Correction.{Correction}
 use Rattle.dcf_node.specs.declared.Key.{Key}
-use Rattle.dcf_node.specs.Node.{child, node_nonce, opened_block, node, first, packed, corrections, key_for}
+use Rattle.dcf_node.specs.Node.{child, node_nonce, opened_block, node, first, packed, key_for}
 use Rattle.dcf_node.specs.Node.{correction_at, walk_of}
-use Rattle.dcf_node.specs.Claims.{seed_length, length_corrections, at_level, blockword_lt}
+use Rattle.dcf_node.specs.Claims.{seed_length, length_corrections, blockword_lt}
 
 pub take_below : (n : ℕ) (l : List ℕ) → Below l → Below (take n l)
 take_below zero l h i = omega arith
@@ -36,7 +34,7 @@ block_below key counter nonce i = blockword_lt _ _ i
 
 seed_below : (i : ℕ) (s : List ℕ) (d : Bool) → Below (node i s d).seed
 unfolding node child opened_block
-seed_below i s d = take_below 8 (opened_block (i + 1) s (only d 1)) (block_below s (only d 1) (node_nonce (i + 1)))
+seed_below i s d = take_below 8 (opened_block _ s (only d 1)) (block_below s (only d 1) (node_nonce _))
 
 length_xors : (a b : List ℕ) → length a ≡ length b → length (xors a b) ≡ length b
 unfolding xors zip_with
@@ -64,7 +62,7 @@ xors_eight a b ha hb =
       below = xors_below a b ha.below hb.below;
     }
 
-correction_eight : (i : ℕ) (b : Bool) (g : D.Making (List ℕ))
+pub correction_eight : (i : ℕ) (b : Bool) (g : D.Making (List ℕ))
     → Words 8 (D.level_correction xors node first i b g).seed
 unfolding D.level_correction D.correction
 correction_eight i b g = xors_eight _ _ (child_eight i g.s0 (not b)) (child_eight i g.s1 (not b))
@@ -82,7 +80,7 @@ pub record Fits (c : Correction) : Type 0 where
   pub word_below : c.word < 2 ^ 32
   pub flags_below : c.flags < 4
 
-level_fits : (i : ℕ) (b : Bool) (g : D.Making (List ℕ)) → Fits (packed (D.level_correction xors node first i b g))
+pub level_fits : (i : ℕ) (b : Bool) (g : D.Making (List ℕ)) → Fits (packed (D.level_correction xors node first i b g))
 unfolding packed D.level_correction D.correction
 level_fits i b g =
     record {
@@ -94,21 +92,6 @@ level_fits i b g =
     two : (l r : Bool) → only l 1 + 2 * only r 1 < 4
     two l r = omega (arith, bit_le l, bit_le r)
 
-corrections_fit : (k0 k1 : List ℕ) (r n : ℕ) (d : Correction) (i : ℕ) → i < n → Fits (get_or (corrections k0 k1 r n) i d)
-unfolding corrections D.key_correction
-corrections_fit k0 k1 r zero d i h = absurd (omega arith)
-corrections_fit k0 k1 r (suc n) d i h = go (ltb i n) refl (corrections_fit k0 k1 r n d i)
-  where
-    go : (b : Bool) → ltb i n ≡ b → (i < n → Fits (get_or (corrections k0 k1 r n) i d))
-        → Fits (get_or (corrections k0 k1 r n
-        ++ (packed (D.key_correction xors node first k0 k1 (D.bits 32 r) n) ∷ [])) i d)
-    go true e before =
-        let l : i < length (corrections k0 k1 r n) = omega (arith, ltb-true i n e, length_corrections k0 k1 r n) in
-        rw (get_or-append (corrections k0 k1 r n) _ d i l) (before (ltb-true i n e))
-    go false e before =
-        let j : i ≡ n = omega (arith, ltb-false i n e) in
-        rw (j, get_or_at (corrections k0 k1 r n) _ [] d n (length_corrections k0 k1 r n)) (level_fits n _ _)
-
 -- ---- a key
 
 signed_lt : (t : Bool) (a b : ℕ) → D.by_sign t (sub a b) < 2 ^ 32
@@ -119,11 +102,6 @@ signed_lt false a b = sub_lt a b
 pub key_long : (k0 k1 : List ℕ) (r : ℕ) → length (key_for k0 k1 r).corrections ≡ 32
 unfolding key_for
 key_long k0 k1 r = length_corrections k0 k1 r 32
-
-pub key_fits : (k0 k1 : List ℕ) (r : ℕ) (d : Correction) (i : ℕ) → i < 32
-    → Fits (get_or (key_for k0 k1 r).corrections i d)
-unfolding key_for
-key_fits k0 k1 r d i h = corrections_fit k0 k1 r 32 d i h
 
 pub last_below : (k0 k1 : List ℕ) (r : ℕ) → (key_for k0 k1 r).last < 2 ^ 32
 unfolding key_for D.final_word D.last_word
@@ -141,10 +119,6 @@ module _ (k0 k1 : List ℕ) (point : ℕ) where
     next_eight _ _ _ (correction_eight i _ _) (child_eight i _ _),
     next_eight _ _ _ (correction_eight i _ _) (child_eight i _ _),
   )
-
-  pub key_eight : (i : ℕ) → i < 32 → Words 8 (correction_at (key_for k0 k1 point).corrections i).seed
-  unfolding key_for D.key_correction
-  key_eight i h = rw (at_level k0 k1 point 32 i h) (correction_eight i _ _)
 
 pub walk_eight : (party : ℕ) (key : Key) (seed : List ℕ) (u : ℕ) → Words 8 seed
     → ((i : ℕ) → i < 32 → Words 8 (correction_at key.corrections i).seed) → (i : ℕ) → i ≤ 32

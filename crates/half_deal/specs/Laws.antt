@@ -12,7 +12,8 @@ use Rattle.base_words.specs.List.{tab, length_tab, tab_ext}
 use Rattle.base_words.specs.Bytes.{words_at, Below, Words}
 use Rattle.chacha20_stream.specs.Keystream.{key_word, stream}
 use Rattle.dcf_node.specs.declared.Correction.{Correction}
-use Rattle.dcf_node.specs.Bounds.{Fits, take_below, block_below, key_long, key_fits, last_below}
+use Rattle.dcf_node.specs.Bounds.{Fits, take_below, block_below, key_long, last_below}
+use Rattle.dcf_node.proofs.Bounds.{key_fits}
 use Rattle.measure_table.specs.declared.Terms.{Terms}
 use Rattle.measure_table.specs.declared.Rule.{Rule}
 use Rattle.measure_table.specs.declared.Rule.TheVariants.{Threshold, Between}

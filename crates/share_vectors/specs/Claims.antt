@@ -15,7 +15,7 @@ use Rattle.base_algebra.specs.Sum.{sum, sum_ext}
 use Rattle.base_words.specs.List.{get_or_tab}
 use Rattle.dcf_function.specs.Interval.{interval}
 use Rattle.dcf_node.specs.Node.{key_for, value_at}
-use Rattle.dcf_node.specs.Claims.{shares}
+use Rattle.dcf_node.proofs.Claims.{shares}
 use Rattle.dcf_node.specs.declared.Key.{Key}
 use Rattle.measure_table.specs.declared.Terms.{Terms}
 use Rattle.measure_table.specs.declared.Rule.{Rule}
