@@ -1,7 +1,7 @@
 -- What code that rearranges, tests and compares iris codes is tied to: the place that a bit is taken from, what an
 -- accepted code or vector is, a lent buffer as it is written, and the answer. Assumes nothing.
 -- [SPEC 24.14 to 24.17, 35.5, 35.6, 35.10, 35.11]
-use Rattle.std.specs.Prelude.{◌≡◌, Bool, true, false, cond, ◌&&◌, List, [], ◌∷◌, ◌⊎◌, ℕ, zero, suc, ◌+◌, ◌*◌, ◌/◌, ◌%◌}
+use Rattle.std.specs.Prelude.{◌≡◌, Bool, true, false, cond, ◌&&◌, List, ◌⊎◌, ℕ, zero, suc, ◌+◌, ◌*◌, ◌/◌, ◌%◌}
 use Rattle.std.specs.Prelude.{◌^◌, ◌<◌, ◌≤◌, eqb, ltb, leb, ℤ, pos, length, get_or, set}
 use Rattle.std.proofs.Math.Path.{refl, ap, ap₂}
 use Rattle.std.proofs.Common.{sym, ◌∙◌, inl, inr, eqb-true, leb-true, ltb-true, ltb-false, ne_eqb}
