@@ -6,16 +6,12 @@ use Rattle.dcf_node.specs.declared.Correction.{Correction}
 use Rattle.half_content.specs.declared.Set.{Set}
 use Rattle.measure_table.specs.Measure.{most_elements}
 use Rattle.half_content.specs.Content.{no_set}
-use borrow.Author.Rules.{rules}
-use Rattle.half_content.proofs.no_set.Statement.{statement}
-use Rattle.half_content.proofs.no_set.Tie as tie
+use Rattle.half_content.proofs.no_set.Goals as goal
 
-no-correction-requires : tie.Need-no-correction-requires
-no-correction-requires c κs = search rules
-
-returns : tie.Need-returns
+pub returns : goal.returns
 unfolding no_set
-returns c = ap none-at c.no-correction.ensures
+returns c =
+    ap none-at c.no_correction-none.ensures
   where
     zeros : List ℕ
     zeros = replicate most_elements 0
@@ -35,6 +31,3 @@ returns c = ap none-at c.no-correction.ensures
           width = 0;
           mark = 0;
         }
-
-pub no-set-spec : {M : Type 1} → statement M
-no-set-spec = tie.close (tie.spec no-correction-requires returns)

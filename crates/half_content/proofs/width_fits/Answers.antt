@@ -5,8 +5,7 @@ use lib.Dec.{eqb, leb}
 use borrow.Author.Tests.{eq-eqb, ne_eqb}
 use Rattle.measure_table.specs.Measure.{ordinary_mark, between_mark, ordinary_width}
 use Rattle.half_content.specs.Content.{width_fits}
-use Rattle.half_content.proofs.width_fits.Statement.{statement}
-use Rattle.half_content.proofs.width_fits.Tie as tie
+use Rattle.half_content.proofs.width_fits.Goals as goal
 
 -- the test by how the mark's own test goes
 by-mark : (w mark : ℕ) (b : Bool) → eqb mark ordinary_mark ≡ b
@@ -16,11 +15,8 @@ by-mark w mark b e =
     and_assoc (leb mark between_mark) (leb w ordinary_width) (cond b (eqb w ordinary_width) true)
     ∙ ap (λ (t : Bool). leb mark between_mark && (leb w ordinary_width && cond t (eqb w ordinary_width) true)) (sym e)
 
-returns : tie.Need-returns
-returns c = by-mark _ _ true (eq-eqb _ ordinary_mark c.if1.true)
+pub returns-then-mark-eq-ORDINARY_MARK : goal.returns-then-mark-eq-ORDINARY_MARK
+returns-then-mark-eq-ORDINARY_MARK c = by-mark _ _ true (eq-eqb _ ordinary_mark c.if-mark-eq-ORDINARY_MARK.true)
 
-returns-2 : tie.Need-returns-2
-returns-2 c = sym (and-true _) ∙ by-mark _ _ _ (ne_eqb _ ordinary_mark c.if1.false)
-
-pub width-fits-spec : {M : Type 1} → statement M
-width-fits-spec = tie.close (tie.spec returns returns-2)
+pub returns : goal.returns
+returns c = sym (and-true _) ∙ by-mark _ _ _ (ne_eqb _ ordinary_mark c.if-mark-eq-ORDINARY_MARK.false)
