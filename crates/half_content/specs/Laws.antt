@@ -7,8 +7,8 @@ use mathlib.Core.List.{List, [], ◌∷◌, ◌++◌, map, append-nil}
 use Prim.Native.Nat.{ℕ, zero, suc, ◌+◌, ◌*◌, ◌-◌, ◌^◌, ◌<◌, ◌≤◌}
 use native.Mathlib.Omega.{arith}
 use borrow.Author.Tests.{eq-eqb, eqb-true, leb-true, lt-ltb}
-use Rattle.std.proofs.Math.ListN.{length, get_or, take, replicate, length-append, length-replicate, length-map}
-use Rattle.std.proofs.Math.Seq.{drop_at, take_all, take-append-add}
+use Rattle.std.proofs.Math.ListN.{length, get_or, take, replicate, length-append, length-map}
+use Rattle.std.proofs.Math.Seq.{drop_at, take_all}
 use Rattle.base_algebra.specs.Bit.{both}
 use Rattle.base_words.specs.Numbers.{bytes, number}
 use Rattle.base_words.specs.List.{over, same, same_refl, drop_replicate, over_zeros, flat}
@@ -16,17 +16,17 @@ use Rattle.base_words.specs.Bytes.{le32, bytes_of, word_at, words_at, length_byt
 use Rattle.dcf_node.specs.declared.Correction.{Correction}
 use Rattle.dcf_node.specs.declared.Key.{Key}
 use Rattle.measure_table.specs.declared.Terms.{Terms}
-use Rattle.measure_table.specs.Measure.{most_elements, ordinary_mark, between_mark, ordinary_width, is_code, length_fits}
+use Rattle.measure_table.specs.Measure.{most_elements, between_mark, ordinary_width, is_code, length_fits}
 use Rattle.measure_table.specs.Laws.{code_lt, length_fits_lem}
 use Rattle.half_content.specs.declared.Set.{Set}
-use Rattle.half_content.specs.Content.{text_bytes, most_blocks, room_bytes, part, fill, correction_bytes}
+use Rattle.half_content.specs.Content.{text_bytes, part, fill, correction_bytes}
 use Rattle.half_content.specs.Content.{name_field, party_field, code_field, length_field, mask_field, x_field, y_field}
 use Rattle.half_content.specs.Content.{c_field, r_field, seed_field, corrections_field, last_field, width_field}
 use Rattle.half_content.specs.Content.{mark_field, fields, widths, sum_first, offset, width, size, block_count}
 use Rattle.half_content.specs.Content.{plain, length_in, field, terms_in, correction_in, corrections_in, key_in, set_in}
 use Rattle.half_content.specs.Content.{width_in, mark_in, no_correction, flags_fit, width_fits, zeros, content_fits}
 use Rattle.half_content.specs.Content.{Filled, Corrections, FlagBytes, Proper}
-use Rattle.half_content.specs.Pieces.{sum_first_suc, length_flat, piece_at, part_flat, take_replicate, word_at_past}
+use Rattle.half_content.specs.Pieces.{sum_first_suc, length_flat, piece_at, part_flat, word_at_past}
 use Rattle.half_content.specs.Pieces.{get_d_past, length_even, words_at_bytes_of, word_at_le32}
 
 -- ---- sizes
@@ -54,14 +54,6 @@ mark_is n = omega arith
 pub offset_next : (n f : ℕ) → offset n (suc f) ≡ offset n f + width n f
 unfolding offset width
 offset_next n f = sum_first_suc (widths n) f
-
-pub blocks_bounds : (n : ℕ) → 1 ≤ n → n ≤ most_elements → (3 ≤ block_count n) × (block_count n ≤ most_blocks)
-unfolding block_count
-blocks_bounds n h k = (omega (arith, size_is n), omega (arith, size_is n))
-
-pub size_le : (n : ℕ) → size n ≤ text_bytes * block_count n
-unfolding block_count
-size_le n = omega (arith, size_is n)
 
 -- ---- an array of n words
 
@@ -183,11 +175,6 @@ width_tells w mark h =
     let parts = both (leb mark between_mark) _ h in
     (leb-true mark between_mark parts.0, leb-true w ordinary_width (both (leb w ordinary_width) _ parts.1).0)
 
--- an ordinary set has 2^31 - 1, "another w under mark 0" being turned down
-pub ordinary_width_lem : (w : ℕ) → width_fits w ordinary_mark ≡ true → w ≡ ordinary_width
-unfolding width_fits
-ordinary_width_lem w h = eqb-true w ordinary_width (both (leb w ordinary_width) _ h).1
-
 -- ---- plain content
 
 module _ (name : List ℕ) (party : ℕ) (s : Set) (named : length name ≡ 16) (p : Proper s) where
@@ -223,23 +210,6 @@ module _ (name : List ℕ) (party : ℕ) (s : Set) (named : length name ≡ 16) 
   pub length_fields : length laid ≡ size n
   unfolding size fields
   length_fields = length_flat (fields name party s) ∙ ap (λ (ws : List ℕ). sum_first ws (length ws)) lengths
-
-  pub length_plain : length (plain name party s) ≡ text_bytes * block_count n
-  unfolding plain
-  length_plain =
-      length-append laid rest
-      ∙ omega (arith, length_fields, length-replicate {A = ℕ} (text_bytes * block_count n - size n) 0, size_le n)
-
-  -- laid out in an array for the most blocks, the plain content is what its own blocks hold
-  pub take_laid : take (text_bytes * block_count n) (laid ++ replicate (room_bytes - size n) 0) ≡ plain name party s
-  unfolding plain
-  take_laid =
-      let z : List ℕ = replicate (room_bytes - size n) 0 in
-      let k = text_bytes * block_count n - size n in
-      let e : text_bytes * block_count n ≡ length laid + k = omega (arith, length_fields, size_le n) in
-      let few = blocks_bounds n bounds.0 bounds.1 in
-      ap (λ (i : ℕ). take i (laid ++ z)) e ∙ take-append-add laid z k
-      ∙ ap (λ (l : List ℕ). laid ++ l) (take_replicate k (room_bytes - size n) (omega (arith, few)))
 
   drop_plain : drop (size n) (plain name party s) ≡ rest
   unfolding plain
@@ -341,11 +311,6 @@ module _ (name : List ℕ) (party : ℕ) (s : Set) (named : length name ≡ 16) 
 
 -- ---- what the code asks of its callers
 
-pub few_blocks : (s : Set) → Proper s → (3 ≤ block_count s.terms.n) × (block_count s.terms.n ≤ most_blocks)
-few_blocks s p =
-    let bounds = length_fits_lem s.terms p.length_fits_lem in
-    blocks_bounds s.terms.n bounds.0 bounds.1
-
 -- lay_out asks of a set what Proper says of it
 pub code_byte : (s : Set) → Proper s → s.terms.code < 256
 code_byte s p = omega (arith, code_lt s.terms.code p.code_fits)
@@ -381,11 +346,3 @@ fits_tells name party count b h =
       flags_fit_lem = flagged.0;
       width_fits_lem = (both (width_fits (width_in b) (mark_in b)) _ flagged.1).0;
     }
-
--- read_set asks of content what content_fits says of it
-pub fits_reads : (name : List ℕ) (party count : ℕ) (b : List ℕ) → content_fits name party count b ≡ true
-    → length b ≡ text_bytes * count → (length_in b ≤ most_elements) × (size (length_in b) ≤ length b)
-unfolding terms_in
-fits_reads name party count b h l =
-    let tells = fits_tells name party count b h in
-    ((length_fits_lem (terms_in b) tells.length_fits_lem).1, omega (arith, tells.counted, size_le (length_in b)))

@@ -1,22 +1,19 @@
 -- A half from before 02, §4: its content ended with the final word, and zeros filled its blocks. Of every such content,
 -- whatever its number of blocks, 11 now says that it does not fit. Assumes nothing. [SPEC 9.7, 23.11]
-use Rattle.std.specs.Prelude.{◌≡◌, ◌&&◌, ℕ, zero, suc, ◌+◌, ◌*◌, ◌<◌, eqb, length, take, drop, replicate}
+use Rattle.std.specs.Prelude.{◌≡◌, ℕ, zero, suc, ◌+◌, ◌*◌, ◌<◌, length, take, replicate}
 use Rattle.std.proofs.Math.Path.{refl, ap}
 use Rattle.std.proofs.Common.{sym, ◌∙◌}
-use Rattle.std.proofs.Math.Bool.{Bool, true, false}
 use mathlib.Core.List.{List, ◌++◌, map}
 use native.Mathlib.Omega.{arith}
 use Rattle.std.proofs.Math.ListN.{get_or}
 use Rattle.base_words.specs.Numbers.{bytes, number}
-use Rattle.base_words.specs.List.{same, flat}
+use Rattle.base_words.specs.List.{flat}
 use Rattle.base_words.specs.Bytes.{word_at}
-use Rattle.measure_table.specs.declared.Terms.{Terms}
-use Rattle.measure_table.specs.Measure.{is_code, length_fits}
 use Rattle.measure_table.specs.Laws.{length_fits_lem}
 use Rattle.half_content.specs.declared.Set.{Set}
-use Rattle.half_content.specs.Content.{part, name_field, party_field, length_field, width_field, mark_field, fields}
-use Rattle.half_content.specs.Content.{widths, sum_first, offset, width, size, block_count, length_in, field}
-use Rattle.half_content.specs.Content.{terms_in, key_in, width_in, mark_in, flags_fit, width_fits, zeros, content_fits}
+use Rattle.half_content.specs.Content.{part, length_field, width_field, mark_field, fields}
+use Rattle.half_content.specs.Content.{widths, sum_first, offset, width, length_in, field}
+use Rattle.half_content.specs.Content.{width_in, mark_in}
 use Rattle.half_content.specs.Content.{Proper}
 use Rattle.half_content.specs.Pieces.{length_flat, piece_at, get_d_past, get_d_part}
 use Rattle.half_content.specs.Laws.{width_is, lengths}
@@ -64,7 +61,7 @@ module _ (name : List ℕ) (party : ℕ) (s : Set) (named : length name ≡ 16) 
   no_byte_there : (i : ℕ) → get_or older_plain (offset n width_field + i) 0 ≡ 0
   no_byte_there i = get_d_past (flat older_fields) (replicate fill 0) (offset n width_field) i older_end ∙ no_byte fill i
 
-  no_width : width_in older_plain ≡ 0
+  pub no_width : width_in older_plain ≡ 0
   unfolding width_in field width widths word_at
   no_width = rw (byte 0 (omega arith), byte 1 (omega arith), byte 2 (omega arith), byte 3 (omega arith)) refl
     where
@@ -73,32 +70,10 @@ module _ (name : List ℕ) (party : ℕ) (s : Set) (named : length name ≡ 16) 
           ap (λ (m : ℕ). get_or (part (offset m width_field) 4 older_plain) i 0) older_length
           ∙ get_d_part (offset n width_field) 4 older_plain i h ∙ no_byte_there i
 
-  no_mark : mark_in older_plain ≡ 0
+  pub no_mark : mark_in older_plain ≡ 0
   unfolding mark_in field width widths offset sum_first
   no_mark =
       let past : offset n mark_field + 0 ≡ offset n width_field + 4 = omega arith in
       ap (λ (m : ℕ). get_or (part (offset m mark_field) 1 older_plain) 0 0) older_length
       ∙ get_d_part (offset n mark_field) 1 older_plain 0 (omega arith)
       ∙ ap (λ (i : ℕ). get_or older_plain i 0) past ∙ no_byte_there 4
-
-  no_fit : width_fits (width_in older_plain) (mark_in older_plain) ≡ false
-  unfolding width_fits
-  no_fit = rw (no_width, no_mark) refl
-
-  pub older_refused : (count : ℕ) → content_fits name party count older_plain ≡ false
-  unfolding content_fits
-  older_refused count =
-      let terms : Terms = terms_in older_plain in
-      let filled : Bool = zeros (drop (size terms.n) older_plain) in
-      six (same (field older_plain name_field) name) (eqb (get_or (field older_plain party_field) 0 0) party)
-      (is_code terms.code) (length_fits terms) (eqb (block_count terms.n) count)
-      (flags_fit (key_in older_plain).corrections) (ap (λ (b : Bool). b && filled) no_fit)
-    where
-      six : (a b c d e f : Bool) {g : Bool} → g ≡ false → a && (b && (c && (d && (e && (f && g))))) ≡ false
-      six true true true true true true h = h
-      six false b c d e f h = refl
-      six true false c d e f h = refl
-      six true true false d e f h = refl
-      six true true true false e f h = refl
-      six true true true true false f h = refl
-      six true true true true true false h = refl

@@ -10,6 +10,6 @@ slice_bounds-store_all-end c = sym (length-take-le c.args.n c.args.w (search rul
 pub store_all-requires : goal.store_all-requires
 store_all-requires c =
     omega (
-  arith,
-  length-take-le c.args.n c.args.w (search rules),
-)
+      arith,
+      length-take-le c.args.n c.args.w (search rules),
+    )
