@@ -18,7 +18,7 @@ use Rattle.base_messages.specs.Messages.{bad_marks, unless, name_fits, padded, i
 use Rattle.base_messages.specs.Laws.{unless_false, unless_true, turned_down, goes_on, taken, refused}
 use Rattle.half_content.specs.declared.Set.{Set}
 use Rattle.half_content.specs.Content.{block_bytes, block_count, Proper}
-use Rattle.half_content.specs.Laws.{blocks_bounds}
+use Rattle.half_content.proofs.Laws.{blocks_bounds}
 use Rattle.half_deal.specs.Dealing.{Deal, deal_from, set_from, dealt_set}
 use Rattle.half_seal.specs.Half.{half}
 use Rattle.call_dealer.specs.Dealer.{no_dealer, why_not_dealer, start_dealer, half_size, why_not_deal, key_of, half_for}

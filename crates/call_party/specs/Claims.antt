@@ -21,7 +21,7 @@ use Rattle.base_messages.specs.Messages.{expected}
 use Rattle.base_messages.specs.Laws.{passed, taken, refused}
 use Rattle.half_content.specs.declared.Set.{Set}
 use Rattle.half_content.specs.Content.{no_terms, no_set, width_fits}
-use Rattle.half_content.specs.Laws.{ordinary_width_lem}
+use Rattle.half_content.proofs.Laws.{ordinary_width_lem}
 use Rattle.half_seal.specs.Half.{whole_blocks, why_not, why_not_opened, set_number, opened_set, opened_name}
 use Rattle.call_party.specs.declared.Check.{Check}
 use Rattle.call_party.specs.declared.Party.{Party}

@@ -17,7 +17,7 @@ use Rattle.measure_table.specs.Measure.{most_elements}
 use Rattle.half_content.specs.declared.Set.{Set}
 use Rattle.half_content.specs.Content.{block_bytes, text_bytes, most_blocks, size, length_in, terms_in, set_in, content_fits}
 use Rattle.half_content.specs.Content.{no_set, no_terms, mask_field, widths, sum_first, offset}
-use Rattle.half_content.specs.Laws.{fits_reads}
+use Rattle.half_content.proofs.Laws.{fits_reads}
 use Rattle.half_open.specs.declared.Examined.{Examined}
 use Rattle.half_open.specs.declared.Told.{Told}
 use Rattle.half_seal.specs.Half.{set_number, first_fit, opened_content, whole_blocks, why_not_opened, why_not, opened_set}

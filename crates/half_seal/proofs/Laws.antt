@@ -15,7 +15,7 @@ use Rattle.aead_seal.specs.Aead.{cipher, tag_for, within, sealed, sealed_text}
 use Rattle.aead_seal.specs.Claims.{length_cipher}
 use Rattle.half_content.specs.declared.Set.{Set}
 use Rattle.half_content.specs.Content.{block_bytes, text_bytes, room_bytes, part, fields, size, block_count, Proper}
-use Rattle.half_content.specs.Laws.{few_blocks, take_laid}
+use Rattle.half_content.proofs.Laws.{few_blocks, take_laid}
 use Rattle.half_content.specs.Pieces.{length_part}
 use Rattle.aead_one_time.specs.OneTime.{nonce_of}
 use Rattle.half_seal.specs.Half.{header, block, text_at, first_blocks, half}

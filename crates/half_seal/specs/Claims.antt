@@ -19,9 +19,10 @@ use Rattle.half_content.specs.declared.Set.{Set}
 use Rattle.half_content.specs.Content.{block_bytes, text_bytes, most_blocks, part}
 use Rattle.half_content.specs.Content.{block_count, plain, length_in, content_fits, Proper}
 use Rattle.half_content.specs.Pieces.{part_is, length_part}
-use Rattle.half_content.specs.Laws.{head_is, fits_tells, few_blocks, length_plain, length_in_plain, length_in_take}
-use Rattle.half_content.specs.Laws.{set_in_plain, fits_plain}
-use Rattle.half_content.specs.Older.{older_plain, older_refused}
+use Rattle.half_content.specs.Laws.{head_is, fits_tells, length_in_plain, length_in_take, set_in_plain, fits_plain}
+use Rattle.half_content.specs.Older.{older_plain}
+use Rattle.half_content.proofs.Laws.{few_blocks, length_plain}
+use Rattle.half_content.proofs.Older.{older_refused}
 use Rattle.half_seal.specs.Half.{block, text_at, first_blocks, half, block_at, set_number, block_fits, first_fit}
 use Rattle.half_seal.specs.Half.{opened_blocks, whole_blocks, why_not_opened, why_not, opened_set}
 use Rattle.half_seal.specs.Laws.{length_blocks, block_at_lem, set_of_block, index_of_block, are_fit, are_opened}

@@ -1,6 +1,7 @@
 use native.Mathlib.Omega.{arith}
 use Rattle.measure_table.specs.Laws.{length_fits_lem}
-use Rattle.half_content.specs.Laws.{few_blocks, code_byte, flag_bytes, mark_byte}
+use Rattle.half_content.specs.Laws.{code_byte, flag_bytes, mark_byte}
+use Rattle.half_content.proofs.Laws.{few_blocks}
 use Rattle.half_seal.proofs.Laws.{half_law}
 use borrow.Author.Rules.{rules}
 use Rattle.half_seal.proofs.write_half.Statement.{statement}

@@ -1,5 +1,6 @@
 use Rattle.measure_table.specs.Laws.{length_fits_lem}
-use Rattle.half_content.specs.Laws.{few_blocks, code_byte, flag_bytes, mark_byte}
+use Rattle.half_content.specs.Laws.{code_byte, flag_bytes, mark_byte}
+use Rattle.half_content.proofs.Laws.{few_blocks}
 use native.Mathlib.Omega.{arith}
 use borrow.Author.Rules.{rules}
 use Rattle.test_halves.proofs.dealt.deal_to.Statement.{statement}
