@@ -15,8 +15,9 @@ use Rattle.base_messages.specs.Messages.{unless, name_fits, is_key}
 use Rattle.base_messages.specs.Laws.{passed}
 use Rattle.half_content.specs.Content.{Proper}
 use Rattle.half_deal.specs.Dealing.{Deal, deal_from, dealt_set}
-use Rattle.half_deal.specs.Laws.{proper}
-use Rattle.half_deal.specs.Close.{set_by01, camera_by_01, plain_by_01, camera_any}
+use Rattle.half_deal.specs.Close.{set_by01}
+use Rattle.half_deal.proofs.DealtSet.{proper}
+use Rattle.half_deal.proofs.Close.{camera_by_01, plain_by_01, camera_any}
 use Rattle.half_seal.specs.Half.{half}
 use Rattle.call_dealer.specs.Dealer.{why_not_dealer, half_size, why_not_deal, key_of, half_for}
 use Rattle.call_dealer.specs.declared.Dealer.{Dealer}

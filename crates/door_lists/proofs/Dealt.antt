@@ -16,7 +16,8 @@ use Rattle.share_vectors.specs.Share as Share
 use Rattle.half_content.specs.declared.Set.{Set}
 use Rattle.half_content.specs.Content.{fill, Proper}
 use Rattle.half_deal.specs.Dealing.{Deal, dealt_set, set_from}
-use Rattle.half_deal.specs.Laws.{proper, dealt_join, share_fill_x, share_fill_y}
+use Rattle.half_deal.specs.Laws.{share_fill_x, share_fill_y}
+use Rattle.half_deal.proofs.DealtSet.{proper, dealt_join}
 use Rattle.call_party.specs.Party.{masked_vector, box_share, word_of, answer_of}
 use Rattle.door_lists.specs.Lists.{Box, camera, office, party_of, other}
 use Rattle.door_lists.specs.Demand.{verdict}

@@ -1,5 +1,4 @@
 pub mod Dealing
 pub mod Laws
 pub mod Close
-pub mod Between
 pub mod Opening

@@ -16,7 +16,7 @@ use Rattle.half_content.specs.Content.{terms_in, key_in, width_in, mark_in, set_
 use Rattle.half_content.specs.Content.{no_set, flags_fit, content_fits, FlagBytes, Proper}
 use Rattle.half_content.specs.Laws.{fits_tells, width_tells}
 use Rattle.half_deal.specs.Dealing.{Deal, dealt_set}
-use Rattle.half_deal.specs.Laws.{proper}
+use Rattle.half_deal.proofs.DealtSet.{proper}
 use Rattle.half_open.specs.declared.Examined.{Examined}
 use Rattle.half_seal.specs.Half.{why_not, why_not_opened, opened_set}
 use Rattle.half_open.specs.Examined.{examined}

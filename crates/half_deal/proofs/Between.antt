@@ -11,7 +11,8 @@ use Rattle.measure_table.specs.Measure.{between_mark, offset_of, width_of, mark_
 use Rattle.measure_table.specs.Laws.{marked_sign}
 use Rattle.half_content.specs.Content.{width_field, mark_field, fields}
 use Rattle.half_deal.specs.Dealing.{Deal, deal_from, dealt_set}
-use Rattle.half_deal.specs.Close.{set_by01, plain_by_01}
+use Rattle.half_deal.specs.Close.{set_by01}
+use Rattle.half_deal.proofs.Close.{plain_by_01}
 
 module _ (number : ℕ) (seed : List ℕ) (terms : Terms) (p q : ℕ) where
   -- the deal, and the ordinary one at T = P
