@@ -12,7 +12,8 @@ use Rattle.base_messages.specs.Messages.{bad_rows, no_row, more_rows}
 use Rattle.call_day.specs.Table.{Table, day, no_threshold, rows_with, first_bad_row, first_bad_minute, row_at, shaped}
 use Rattle.call_day.specs.Table.{fault, why_not_table, choose}
 use Rattle.call_day.specs.Laws as laws
-use Rattle.call_day.specs.Claims.{Shaped, shaped_of, Good, taken_good, row_below}
+use Rattle.call_day.specs.Claims.{Shaped, shaped_of, Good, row_below}
+use Rattle.call_day.proofs.Claims.{taken_good}
 use Rattle.call_day.specs.declared.Choice.{Choice}
 use Rattle.call_day.specs.declared.Fault.{Fault}
 

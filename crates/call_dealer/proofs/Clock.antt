@@ -8,7 +8,8 @@ use Rattle.base_messages.specs.Messages.{if_taken}
 use Rattle.base_messages.specs.Laws.{refused}
 use Rattle.call_day.specs.declared.Choice.{Choice}
 use Rattle.call_day.specs.Table.{why_not_table, choose}
-use Rattle.call_day.specs.Claims.{Good, taken_good, good_taken, choose_why, bad_chosen}
+use Rattle.call_day.specs.Claims.{Good, choose_why, bad_chosen}
+use Rattle.call_day.proofs.Claims.{taken_good, good_taken}
 use Rattle.half_deal.specs.Dealing.{Deal, deal_from}
 use Rattle.call_dealer.specs.Dealer.{deal, deal_out}
 use Rattle.call_dealer.specs.Clock.{ClockDeal, deal_at, why_not_by_clock, place_by_clock, deal_by_clock, clock_out}

@@ -9,7 +9,8 @@ use lib.Dec.{eqb}
 use lib.ListN.{length}
 use Rattle.base_messages.specs.Messages.{if_taken}
 use Rattle.call_day.specs.Table.{why_not_table}
-use Rattle.call_day.specs.Claims.{Good, taken_good}
+use Rattle.call_day.specs.Claims.{Good}
+use Rattle.call_day.proofs.Claims.{taken_good}
 use Rattle.half_content.specs.Content.{part}
 use Rattle.call_dealer.specs.declared.Dealer.{Dealer}
 use Rattle.call_dealer.specs.Dealer as DealerCalls

@@ -27,7 +27,8 @@ use Rattle.call_lock.specs.Lock.{start_lock, why_not_lock}
 use Rattle.half_deal.specs.Dealing.{Deal, deal_from}
 use Rattle.call_day.specs.declared.Fault.{Fault}
 use Rattle.call_day.specs.Table.{day}
-use Rattle.call_day.specs.Claims.{InRow, taken_good, whole_day, whole_day_lem}
+use Rattle.call_day.specs.Claims.{InRow, whole_day, whole_day_lem}
+use Rattle.call_day.proofs.Claims.{taken_good}
 use Rattle.call_dealer.specs.Dealer.{start_dealer, why_not_dealer, half_size}
 use Rattle.call_dealer.specs.Clock.{ClockDeal, clock_from}
 use Rattle.door_lists.specs.Lists.{Box, camera, office, party_of, Starts, Started, Call, deal_by_clock, history}

@@ -1,7 +1,8 @@
 use mathlib.Core.Path.{◌≡◌, sym, ap, subst, ◌∙◌}
 use Prim.Native.Nat.{◌+◌}
 use lib.ListN.{length, get_or}
-use Rattle.call_day.specs.Turns.{lower_of, Tried, tried_none, tried_more, found_lowest}
+use Rattle.call_day.specs.Turns.{lower_of, Tried, tried_none, tried_more}
+use Rattle.call_day.proofs.Turns.{found_lowest}
 use Rattle.call_day.specs.Claims.{all_rows}
 use native.Mathlib.Omega.{arith}
 use Rattle.std.proofs.Common.{rules}
