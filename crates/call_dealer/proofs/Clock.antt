@@ -13,7 +13,8 @@ use Rattle.call_day.proofs.Claims.{taken_good, good_taken}
 use Rattle.half_deal.specs.Dealing.{Deal, deal_from}
 use Rattle.call_dealer.specs.Dealer.{deal, deal_out}
 use Rattle.call_dealer.specs.Clock.{ClockDeal, deal_at, why_not_by_clock, place_by_clock, deal_by_clock, clock_out}
-use Rattle.call_dealer.specs.ClockLaws.{table_first, table_place, as_deal, clock_state, clock_bytes}
+use Rattle.call_dealer.specs.ClockLaws.{table_first, table_place}
+use Rattle.call_dealer.proofs.ClockLaws.{as_deal, clock_state, clock_bytes}
 use Rattle.call_dealer.specs.declared.Dealer.{Dealer}
 use Rattle.call_dealer.specs.declared.DealerAnswer.{DealerAnswer}
 use Rattle.call_dealer.specs.declared.ClockAnswer.{ClockAnswer}

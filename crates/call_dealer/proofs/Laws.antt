@@ -8,11 +8,12 @@ use native.Mathlib.Omega.{arith}
 use borrow.Author.Tests.{not-false}
 use lib.Dec.{eqb, leb, ltb}
 use lib.ListN.{length}
-use Rattle.base_algebra.specs.Bit.{both}
+use Rattle.base_algebra.specs.Bit.{both, neither}
 use Rattle.base_words.specs.List.{over, same}
 use Rattle.measure_table.specs.Measure.{most_elements, is_code, length_fits, rule_fits, in_order}
 use Rattle.measure_table.specs.Laws.{length_fits_lem}
 use Rattle.measure_table.specs.declared.Terms.{Terms}
+use Rattle.measure_table.specs.declared.Rule.TheVariants.{Threshold}
 use Rattle.base_messages.specs.Messages.{bad_party_or_code, wrong_length, short_buffer, wrong_number, out_of_range}
 use Rattle.base_messages.specs.Messages.{bad_marks, unless, name_fits, padded, is_key}
 use Rattle.base_messages.specs.Laws.{unless_false, unless_true, turned_down, goes_on, taken, refused}
@@ -23,7 +24,7 @@ use Rattle.half_deal.specs.Dealing.{Deal, deal_from, set_from, dealt_set}
 use Rattle.half_seal.specs.Half.{half}
 use Rattle.call_dealer.specs.Dealer.{no_dealer, why_not_dealer, start_dealer, half_size, why_not_deal, key_of, half_for}
 use Rattle.call_dealer.specs.Dealer.{deal, deal_out}
-use Rattle.call_dealer.specs.Laws.{DealTells, dealt_proper}
+use Rattle.call_dealer.specs.Laws.{DealTells, dealt_proper, BeforeMarks}
 use Rattle.call_dealer.specs.declared.Dealer.{Dealer}
 use Rattle.call_dealer.specs.declared.DealerAnswer.{DealerAnswer}
 
@@ -196,3 +197,33 @@ module _ (s : Dealer) (d : Deal) (out0 out1 : List ℕ) (why : ℕ)
       × ((new0 ≡ deal_out s d out0 out1 0) × (new1 ≡ deal_out s d out0 out1 1))
   unfolding deal deal_out
   dealt new0 new1 h e0 e1 = (alike e (taken _ _ e h), (e0 ∙ taken _ _ e h, e1 ∙ taken _ _ e h))
+
+-- ---- 13, "tested after 8" [SPEC 23.13]
+
+-- a deal is turned down by 13 only where the marks are out of order and all else is as it should be
+pub marks_last : (s : Dealer) (d : Deal) (room0 room1 : ℕ) → why_not_deal s d room0 room1 ≡ bad_marks
+    → BeforeMarks s d room0 room1 × (in_order d.rule ≡ false)
+unfolding why_not_deal unless
+marks_last s d room0 room1 =
+    told (is_code d.terms.code) (is_key d.seed && length_fits d.terms)
+    (leb (half_size d.terms.n) room0 && leb (half_size d.terms.n) room1) (ltb s.last d.number)
+    (rule_fits d.terms d.rule) (in_order d.rule)
+  where
+    told : (code lengths rooms numbers range order : Bool)
+        → unless code bad_party_or_code (unless lengths wrong_length (unless rooms short_buffer
+        (unless numbers wrong_number (unless range out_of_range (unless order bad_marks 0))))) ≡ bad_marks
+        → ((code ≡ true) × (lengths ≡ true) × (rooms ≡ true) × (numbers ≡ true) × (range ≡ true)) × (order ≡ false)
+    told false lengths rooms numbers range order e = absurd (omega (arith, e))
+    told true false rooms numbers range order e = absurd (omega (arith, e))
+    told true true false numbers range order e = absurd (omega (arith, e))
+    told true true true false range order e = absurd (omega (arith, e))
+    told true true true true false order e = absurd (omega (arith, e))
+    told true true true true true true e = absurd (omega (arith, e))
+    told true true true true true false e = ((refl, refl, refl, refl, refl), refl)
+
+-- so a deal by a threshold is never turned down by it
+pub never_marks : (s : Dealer) (number : ℕ) (seed : List ℕ) (terms : Terms) (t room0 room1 : ℕ)
+    → why_not_deal s (deal_from number seed terms (Threshold t)) room0 room1 ≡ bad_marks → ⊥
+unfolding in_order
+never_marks s number seed terms t room0 room1 e =
+    neither (sym (marks_last s (deal_from number seed terms (Threshold t)) room0 room1 e).1)

@@ -116,35 +116,8 @@ BeforeMarks s d room0 room1 =
     × (ltb s.last d.number ≡ true) × (rule_fits d.terms d.rule ≡ true)
 
 -- a deal is turned down by 13 where the marks are out of order and all else is as it should be, and only there
-pub marks_last : (s : Dealer) (d : Deal) (room0 room1 : ℕ) → why_not_deal s d room0 room1 ≡ bad_marks
-    → BeforeMarks s d room0 room1 × (in_order d.rule ≡ false)
-unfolding why_not_deal unless
-marks_last s d room0 room1 =
-    told (is_code d.terms.code) (is_key d.seed && length_fits d.terms)
-    (leb (half_size d.terms.n) room0 && leb (half_size d.terms.n) room1) (ltb s.last d.number)
-    (rule_fits d.terms d.rule) (in_order d.rule)
-  where
-    told : (code lengths rooms numbers range order : Bool)
-        → unless code bad_party_or_code (unless lengths wrong_length (unless rooms short_buffer
-        (unless numbers wrong_number (unless range out_of_range (unless order bad_marks 0))))) ≡ bad_marks
-        → ((code ≡ true) × (lengths ≡ true) × (rooms ≡ true) × (numbers ≡ true) × (range ≡ true)) × (order ≡ false)
-    told false lengths rooms numbers range order e = absurd (omega (arith, e))
-    told true false rooms numbers range order e = absurd (omega (arith, e))
-    told true true false numbers range order e = absurd (omega (arith, e))
-    told true true true false range order e = absurd (omega (arith, e))
-    told true true true true false order e = absurd (omega (arith, e))
-    told true true true true true true e = absurd (omega (arith, e))
-    told true true true true true false e = ((refl, refl, refl, refl, refl), refl)
-
+-- (`marks_last`, in proofs/Laws.antt)
 pub marks_said : (s : Dealer) (d : Deal) (room0 room1 : ℕ) → BeforeMarks s d room0 room1 → in_order d.rule ≡ false
     → why_not_deal s d room0 room1 ≡ bad_marks
 unfolding why_not_deal unless
 marks_said s d room0 room1 b e = rw (b.0, b.1, b.2, b.3, b.4, e) refl
-
--- so a deal by a threshold is never turned down by it
-
-pub never_marks : (s : Dealer) (number : ℕ) (seed : List ℕ) (terms : Terms) (t room0 room1 : ℕ)
-    → why_not_deal s (deal_from number seed terms (Threshold t)) room0 room1 ≡ bad_marks → ⊥
-unfolding in_order
-never_marks s number seed terms t room0 room1 e =
-    neither (sym (marks_last s (deal_from number seed terms (Threshold t)) room0 room1 e).1)

@@ -17,7 +17,8 @@ use Rattle.call_dealer.specs.Dealer as DealerCalls
 use Rattle.call_dealer.specs.Dealer.{half_size, next_dealer, out_buffer}
 use Rattle.call_dealer.specs.Clock as ClockCalls
 use Rattle.call_dealer.specs.Clock.{ClockDeal, deal_at}
-use Rattle.call_dealer.specs.ClockLaws.{as_deal, table_first}
+use Rattle.call_dealer.specs.ClockLaws.{table_first}
+use Rattle.call_dealer.proofs.ClockLaws.{as_deal}
 use Rattle.door_lists.specs.Lists.{party_of, World, deal, deal_by_clock, dealt, refused, Step, on_dealer, step}
 
 module _ (w : World) (k : ClockDeal) (out0 out1 : List ℕ) where

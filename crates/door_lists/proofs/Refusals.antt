@@ -13,7 +13,7 @@ use Rattle.base_messages.specs.Laws as Laws
 use Rattle.call_dealer.specs.declared.Dealer.{Dealer}
 use Rattle.call_dealer.specs.Dealer as DealerCalls
 use Rattle.call_dealer.specs.Clock as ClockCalls
-use Rattle.call_dealer.specs.ClockLaws.{place_low}
+use Rattle.call_dealer.proofs.ClockLaws.{place_low}
 use Rattle.half_content.specs.Content.{no_terms}
 use Rattle.half_seal.specs.Half.{opened_set, opened_name}
 use Rattle.call_party.specs.declared.Party.{Party}

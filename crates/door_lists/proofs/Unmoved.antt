@@ -17,7 +17,7 @@ use Rattle.call_dealer.specs.Dealer as DealerCalls
 use Rattle.call_dealer.specs.Laws.{deal_tells}
 use Rattle.call_dealer.specs.Clock as ClockCalls
 use Rattle.call_dealer.specs.Clock.{deal_at}
-use Rattle.call_dealer.specs.ClockLaws.{clock_tells}
+use Rattle.call_dealer.proofs.ClockLaws.{clock_tells}
 use Rattle.call_party.specs.declared.Party.{Party}
 use Rattle.call_party.specs.declared.PartyAnswer.{PartyAnswer}
 use Rattle.call_party.specs.declared.TrialAnswer.{TrialAnswer}
