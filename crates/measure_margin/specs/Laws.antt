@@ -18,7 +18,8 @@ use Rattle.base_messages.specs.Laws.{turned_down, goes_on, passed, taken, refuse
 use Rattle.measure_table.specs.Measure.{row, scalar_product, element, measure, within, in_range, all_in_range}
 use Rattle.measure_table.specs.Measure.{length_fits, threshold_fits, word, k_word, own_word, carried}
 use Rattle.measure_table.specs.Order.{above_zero}
-use Rattle.measure_table.specs.Laws.{signed_low, signed_high, measure≈, bound_plain, in_range_at}
+use Rattle.measure_table.specs.Laws.{signed_low, signed_high, in_range_at}
+use Rattle.measure_table.proofs.Laws.{measure≈, bound_plain}
 use Rattle.share_vectors.specs.Share.{inner}
 use Rattle.measure_margin.specs.declared.MarginAnswer.{MarginAnswer}
 use Rattle.measure_margin.specs.Margin.{scalar_terms, answer_now, absolute_sum, most_margin, Largest, lengths_fit}

@@ -22,8 +22,9 @@ use Rattle.measure_table.specs.declared.Rule.{Rule}
 use Rattle.measure_table.specs.Measure.{length_fits, all_in_range, measure, sign, difference, ordinary_width}
 use Rattle.measure_table.specs.Measure.{meets, rule_fits, in_order, offset_of, width_of, mark_of}
 use Rattle.measure_table.specs.Measure.{k_word, sign_word, own_word, carried}
-use Rattle.measure_table.specs.Laws.{measure≈, sign_word≈, sign_word_plain, sign_word_close, width_most, meets_width}
+use Rattle.measure_table.specs.Laws.{sign_word_plain, sign_word_close, width_most}
 use Rattle.measure_table.specs.Laws.{difference_plain, difference_close}
+use Rattle.measure_table.proofs.Laws.{measure≈, sign_word≈, meets_width}
 use Rattle.share_vectors.specs.Share.{plus, inner, other_c, other_r, share, box_word, answer, ideal_gate}
 
 -- ---- the papers' own formulas. With sign 1 they are 01's ..
