@@ -1,7 +1,6 @@
-// What a box computes in one check, and the making of a key, as C functions, for programs in other
-// languages to link: the benchmark does. They are no calls of 01 and stand in no door's archive. A
-// slice is handed over as a pointer and a length; an array of fixed size as a pointer; a key as a
-// struct by value. No function asks anything of its caller.
+// What a box computes in one check, and the making of a key, for programs in other languages:
+// bench_check_c has it as C functions, which the benchmark links. They are no calls of 01 and stand in no
+// door's archive. No function asks anything of its caller.
 #![tactic(auto)]
 
 ghost use Rattle.std.specs.Prelude.{◌≡◌};
@@ -14,24 +13,21 @@ use dcf_node::Key;
 use measure_table::{ORDINARY_MARK, ORDINARY_WIDTH, Terms};
 
 // The key for a point, from the key seeds of party 0 and 1.
-#[unsafe(no_mangle)]
-pub extern "C" fn check_key(k0: &[u32; 8], k1: &[u32; 8], point: u32) -> Key
+pub fn check_key(k0: &[u32; 8], k1: &[u32; 8], point: u32) -> Key
     ensures { result ≡ key_for k0.now k1.now point }
 {
     dcf_keys::make(*k0, *k1, point)
 }
 
 // The value at u of the party whose key seed is `seed`.
-#[unsafe(no_mangle)]
-pub extern "C" fn check_value(key: Key, seed: &[u32; 8], party: u32, u: u32) -> u32
+pub fn check_value(key: Key, seed: &[u32; 8], party: u32, u: u32) -> u32
     ensures { result ≡ value_at party key seed.now u }
 {
     dcf_walk::value(key, *seed, party, u)
 }
 
 // The party's answer in an ordinary set, from the sum of both words.
-#[unsafe(no_mangle)]
-pub extern "C" fn check_answer(key: Key, seed: &[u32; 8], party: u32, z: u32) -> u32
+pub fn check_answer(key: Key, seed: &[u32; 8], party: u32, z: u32) -> u32
     ensures { result ≡ answer_of ordinary_width party key seed.now z }
 {
     share_answers::answer(ORDINARY_WIDTH, party, key, *seed, z)
@@ -39,8 +35,7 @@ pub extern "C" fn check_answer(key: Key, seed: &[u32; 8], party: u32, z: u32) ->
 
 // The vector v under the mask m, from the start of out. Where m or out is shorter than v it answers
 // false, and nothing changes.
-#[unsafe(no_mangle)]
-pub extern "C" fn check_mask(v: &[u32], m: &[u32], out: &mut [u32]) -> bool
+pub fn check_mask(v: &[u32], m: &[u32], out: &mut [u32]) -> bool
     ensures value { result ≡ mask_fits v.now m.now out.old }
     ensures out_after { out.new ≡ masked_over v.now m.now out.old }
 {
@@ -57,8 +52,7 @@ pub extern "C" fn check_mask(v: &[u32], m: &[u32], out: &mut [u32]) -> bool
 
 // In an ordinary set, the word of the party whose vector is v, from the masked vectors mx and my and its shares sx and
 // sy of the two masks. Where one of the four is shorter than v it answers 0.
-#[unsafe(no_mangle)]
-pub extern "C" fn check_word(
+pub fn check_word(
     code: u32,
     party: u32,
     c: u32,

@@ -1,6 +1,6 @@
-// The cipher as C functions, for programs in other languages to link: the benchmark does. They are
-// no calls of 01 and stand in no door's archive; neither are bench_check's, and neither do those. A
-// slice is handed over as a pointer and a length; an array of fixed size as a pointer.
+// The cipher for programs in other languages: bench_cipher_c has it as C functions, which the benchmark
+// links. They are no calls of 01 and stand in no door's archive; neither are bench_check's, and neither do
+// those.
 #![tactic(auto)]
 
 ghost use Rattle.std.specs.Prelude.{◌≡◌, cond, length};
@@ -9,8 +9,7 @@ ghost use Rattle.chacha20_stream.specs.Keystream.{stream};
 ghost use Rattle.aead_seal.specs.Aead.{sealed, sealed_text, opens, opened_text};
 
 // The key stream's words from block 0 on.
-#[unsafe(no_mangle)]
-pub extern "C" fn cipher_stream(key: &[u8; 32], nonce: &[u8; 12], out: &mut [u32])
+pub fn cipher_stream(key: &[u8; 32], nonce: &[u8; 12], out: &mut [u32])
     ensures { out.new
         ≡ stream (words_at 8 key.now) (words_at 3 nonce.now) (length out.old) }
 {
@@ -23,8 +22,7 @@ pub extern "C" fn cipher_stream(key: &[u8; 32], nonce: &[u8; 12], out: &mut [u32
 
 // Seals text in place and writes its tag. Where text is too long it answers false, and text and tag
 // stay as they were.
-#[unsafe(no_mangle)]
-pub extern "C" fn cipher_seal(
+pub fn cipher_seal(
     key: &[u8; 32],
     nonce: &[u8; 12],
     aad: &[u8],
@@ -46,8 +44,7 @@ pub extern "C" fn cipher_seal(
 }
 
 // Opens text in place if its tag fits, and answers whether it does.
-#[unsafe(no_mangle)]
-pub extern "C" fn cipher_open(
+pub fn cipher_open(
     key: &[u8; 32],
     nonce: &[u8; 12],
     aad: &[u8],

@@ -1,6 +1,6 @@
-// Every call of dealer, box and lock, those on iris codes, and the margin, as C functions, for the hosts.
-// A state is handed over and comes back by value, but for a trial's, which does not come back; a slice is
-// a pointer and a length. No function asks anything of its caller.
+// Every call of dealer, box and lock, those on iris codes, and the margin, for the hosts: c_door_c has them
+// as C functions. A state is handed over and comes back by value, but for a trial's, which does not come
+// back. No function asks anything of its caller.
 #![tactic(auto)]
 
 ghost use Rattle.std.specs.Prelude.{◌≡◌, length};
@@ -23,21 +23,14 @@ use measure_margin::MarginAnswer;
 use measure_table::{Rule, Terms};
 
 // key0 is the camera box's, key1 the office box's.
-#[unsafe(no_mangle)]
-pub extern "C" fn door_start_dealer(
-    name: &[u8],
-    key0: &[u8],
-    key1: &[u8],
-    floor: u64,
-) -> DealerAnswer
+pub fn door_start_dealer(name: &[u8], key0: &[u8], key1: &[u8], floor: u64) -> DealerAnswer
     ensures { result ≡ start_dealer name.now key0.now key1.now floor }
 {
     Dealer::start(name, key0, key1, floor)
 }
 
 // Party 0's half is written to out0, party 1's to out1.
-#[unsafe(no_mangle)]
-pub extern "C" fn door_deal(
+pub fn door_deal(
     dealer: Dealer,
     number: u64,
     seed: &[u8],
@@ -57,8 +50,7 @@ pub extern "C" fn door_deal(
 }
 
 // The same for a set that answers yes from p to q.
-#[unsafe(no_mangle)]
-pub extern "C" fn door_deal_between(
+pub fn door_deal_between(
     dealer: Dealer,
     number: u64,
     seed: &[u8],
@@ -79,8 +71,7 @@ pub extern "C" fn door_deal_between(
 }
 
 // The same by the clock: the threshold is that of the table's row in which the minute lies.
-#[unsafe(no_mangle)]
-pub extern "C" fn door_deal_by_clock(
+pub fn door_deal_by_clock(
     dealer: Dealer,
     number: u64,
     seed: &[u8],
@@ -108,16 +99,14 @@ pub extern "C" fn door_deal_by_clock(
 }
 
 // Party 0 is the camera box, party 1 the office box.
-#[unsafe(no_mangle)]
-pub extern "C" fn door_start_party(name: &[u8], party: u32, key: &[u8], floor: u64) -> PartyAnswer
+pub fn door_start_party(name: &[u8], party: u32, key: &[u8], floor: u64) -> PartyAnswer
     ensures { result ≡ start_party name.now party key.now floor }
 {
     Party::start(name, party, key, floor)
 }
 
 // Call 1.
-#[unsafe(no_mangle)]
-pub extern "C" fn door_load(party: Party, half: &[u8]) -> PartyAnswer
+pub fn door_load(party: Party, half: &[u8]) -> PartyAnswer
     ensures { result ≡ load party half.now }
 {
     party.load(half)
@@ -125,16 +114,14 @@ pub extern "C" fn door_load(party: Party, half: &[u8]) -> PartyAnswer
 
 // What a load of this half would say, with the door's name, measure code and L if it would be taken. No
 // state comes back.
-#[unsafe(no_mangle)]
-pub extern "C" fn door_trial(party: Party, half: &[u8]) -> TrialAnswer
+pub fn door_trial(party: Party, half: &[u8]) -> TrialAnswer
     ensures { result ≡ trial party half.now }
 {
     party.trial(half)
 }
 
 // Call 2. The masked vector goes to the start of out.
-#[unsafe(no_mangle)]
-pub extern "C" fn door_mask(party: Party, v: &[u32], out: &mut [u32]) -> PartyAnswer
+pub fn door_mask(party: Party, v: &[u32], out: &mut [u32]) -> PartyAnswer
     ensures value { result ≡ mask party v.now (length out.old) }
     ensures out_after { out.new ≡ mask_out party v.now out.old }
 {
@@ -142,8 +129,7 @@ pub extern "C" fn door_mask(party: Party, v: &[u32], out: &mut [u32]) -> PartyAn
 }
 
 // Call 3: takes the other box's masked vector, and answers this box's word.
-#[unsafe(no_mangle)]
-pub extern "C" fn door_take(
+pub fn door_take(
     party: Party,
     kind: u32,
     name: &[u8],
@@ -166,8 +152,7 @@ pub extern "C" fn door_take(
 }
 
 // Call 4: takes the other box's word, and answers this box's share of the yes or no.
-#[unsafe(no_mangle)]
-pub extern "C" fn door_finish(
+pub fn door_finish(
     party: Party,
     kind: u32,
     name: &[u8],
@@ -190,23 +175,20 @@ pub extern "C" fn door_finish(
 }
 
 // Ends the open set.
-#[unsafe(no_mangle)]
-pub extern "C" fn door_drop(party: Party) -> PartyAnswer
+pub fn door_drop(party: Party) -> PartyAnswer
     ensures { result ≡ drop_set party }
 {
     party.drop()
 }
 
-#[unsafe(no_mangle)]
-pub extern "C" fn door_start_lock(name: &[u8], floor: u64) -> LockAnswer
+pub fn door_start_lock(name: &[u8], floor: u64) -> LockAnswer
     ensures { result ≡ start_lock name.now floor }
 {
     Lock::start(name, floor)
 }
 
 // The camera box's answer comes first.
-#[unsafe(no_mangle)]
-pub extern "C" fn door_join(
+pub fn door_join(
     lock: Lock,
     kind0: u32,
     name0: &[u8],
@@ -242,8 +224,7 @@ pub extern "C" fn door_join(
 
 // An iris code from the scanner's order, angle by angle, to ours, ring by ring: 64 bytes to the start of
 // out.
-#[unsafe(no_mangle)]
-pub extern "C" fn door_iris_to_rings(code: &[u8], out: &mut [u8]) -> u32
+pub fn door_iris_to_rings(code: &[u8], out: &mut [u8]) -> u32
     ensures value { result ≡ why_not_code code.now code_bytes (length out.old) }
     ensures out_after { out.new ≡ buffer_after
         (why_not_code code.now code_bytes (length out.old))
@@ -253,8 +234,7 @@ pub extern "C" fn door_iris_to_rings(code: &[u8], out: &mut [u8]) -> u32
 }
 
 // From our order to the scanner's.
-#[unsafe(no_mangle)]
-pub extern "C" fn door_iris_to_angles(code: &[u8], out: &mut [u8]) -> u32
+pub fn door_iris_to_angles(code: &[u8], out: &mut [u8]) -> u32
     ensures value { result ≡ why_not_code code.now code_bytes (length out.old) }
     ensures out_after { out.new ≡ buffer_after
         (why_not_code code.now code_bytes (length out.old))
@@ -264,8 +244,7 @@ pub extern "C" fn door_iris_to_angles(code: &[u8], out: &mut [u8]) -> u32
 }
 
 // The vector whose element i is bit i of the code: 512 words to the start of out.
-#[unsafe(no_mangle)]
-pub extern "C" fn door_iris_unpack(code: &[u8], out: &mut [u32]) -> u32
+pub fn door_iris_unpack(code: &[u8], out: &mut [u32]) -> u32
     ensures value { result ≡ why_not_code code.now code_bits (length out.old) }
     ensures out_after { out.new ≡ buffer_after
         (why_not_code code.now code_bits (length out.old))
@@ -275,8 +254,7 @@ pub extern "C" fn door_iris_unpack(code: &[u8], out: &mut [u32]) -> u32
 }
 
 // The code whose bit i is element i of the vector: 64 bytes to the start of out.
-#[unsafe(no_mangle)]
-pub extern "C" fn door_iris_pack(v: &[u32], out: &mut [u8]) -> u32
+pub fn door_iris_pack(v: &[u32], out: &mut [u8]) -> u32
     ensures value { result ≡ why_not_vector v.now (length out.old) }
     ensures out_after { out.new ≡ buffer_after
         (why_not_vector v.now (length out.old))
@@ -286,8 +264,7 @@ pub extern "C" fn door_iris_pack(v: &[u32], out: &mut [u8]) -> u32
 }
 
 // In how many bits two codes of one order differ.
-#[unsafe(no_mangle)]
-pub extern "C" fn door_iris_hamming(a: &[u8], b: &[u8]) -> HammingAnswer
+pub fn door_iris_hamming(a: &[u8], b: &[u8]) -> HammingAnswer
     ensures { result ≡ hamming_answer a.now b.now }
 {
     measure_iris::hamming(a, b)
@@ -295,8 +272,7 @@ pub extern "C" fn door_iris_hamming(a: &[u8], b: &[u8]) -> HammingAnswer
 
 // How much jitter a stored face stands: for X, Y and T under code 0, the answer for X, and the largest e
 // from 0 to 2047 such that no whole-number vector with each element within e of X changes it.
-#[unsafe(no_mangle)]
-pub extern "C" fn door_margin(x: &[u32], y: &[u32], t: u32) -> MarginAnswer
+pub fn door_margin(x: &[u32], y: &[u32], t: u32) -> MarginAnswer
     ensures { Answered x.now y.now t result }
 {
     measure_margin::margin(x, y, t)
