@@ -16,7 +16,8 @@ use Rattle.chacha20_block.specs.ChaCha20.{start, block}
 use Rattle.chacha20_lanes4.specs.Lanes.{each, rows}
 use Rattle.dcf_function.specs.Dcf as D
 use Rattle.dcf_function.specs.Dcf.{by_sign, bits}
-use Rattle.dcf_node.specs.Node.{child, node_nonce, opened_block, node, first, packed, unpacked, corrections, none, key_for}
+use Rattle.dcf_node.specs.Node.{child, node_nonce, opened_block, node, first}
+use Rattle.dcf_node.specs.Node.{packed, unpacked, corrections, none, key_for}
 use Rattle.dcf_node.specs.Claims.{unpack, length_corrections}
 use Rattle.dcf_node.specs.declared.Correction.{Correction}
 use Rattle.dcf_node.specs.declared.Key.{Key}
@@ -126,7 +127,8 @@ module _ (rs : List (List ℕ)) (g : Making) (b : ℕ) (hb : b < 2) where
       λ i. record { s0 = x0 i; s1 = x1 i; t0 = y0 i; t1 = y1 i; v = z i }
 
 -- the four blocks are the parties' nodes, opened
-is_node : (i : ℕ) (s0 s1 : List ℕ) (p : Bool) → opened_at (both_opened (i + 1) s0 s1) (cond p 1 0) ≡ node i (cond p s1 s0)
+is_node : (i : ℕ) (s0 s1 : List ℕ) (p : Bool)
+    → opened_at (both_opened (i + 1) s0 s1) (cond p 1 0) ≡ node i (cond p s1 s0)
 unfolding opened_at both_opened node only
 is_node i s0 s1 p = λ j d. at p d j
   where
