@@ -18,7 +18,7 @@ use Rattle.measure_table.specs.Measure.{ordinary_width, is_code, length_fits, me
 use Rattle.measure_table.specs.Measure.{meets, rule_fits, in_order, width_of, mark_of, own_word, carried}
 use Rattle.measure_table.specs.Laws.{width_most}
 use Rattle.share_vectors.specs.Share.{plus, other_c, other_r, share, box_word, answer}
-use Rattle.share_vectors.specs.Claims.{join_law}
+use Rattle.share_vectors.proofs.Claims.{join_law}
 use Rattle.half_content.specs.declared.Set.{Set}
 use Rattle.half_content.specs.Content.{fill, no_correction, width_fits, Filled, Corrections, Proper}
 use Rattle.half_deal.specs.Dealing.{set_words, x, y, c0, r, r0, key_seed, mask_x, mask_y, own_mask, c_of, Deal, r_of}

@@ -1,2 +1,1 @@
 pub mod Share
-pub mod Claims
