@@ -16,8 +16,8 @@ use Rattle.base_messages.specs.Messages.{bad_party_or_code, wrong_length, short_
 use Rattle.base_messages.specs.Messages.{bad_rows, more_rows, is_key, unless, if_taken}
 use Rattle.call_day.specs.declared.Choice.{Choice}
 use Rattle.call_day.specs.Table.{day, no_threshold, why_not_table, choose}
-use Rattle.call_day.specs.Claims.{Says, good, lists, row, none, more, told, Good, taken_good, good_taken, Chosen}
-use Rattle.call_day.specs.Claims.{chosen, InRow, past_day}
+use Rattle.call_day.specs.Claims.{Good, Chosen}
+use Rattle.call_day.proofs.Claims.{taken_good, good_taken, chosen, past_day}
 use Rattle.half_deal.specs.Dealing.{deal_from}
 use Rattle.call_dealer.specs.Dealer.{half_size, until_rule, why_not_deal, deal, deal_out}
 use Rattle.call_dealer.specs.Laws.{deal_tells}
