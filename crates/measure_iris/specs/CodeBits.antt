@@ -1,11 +1,11 @@
 -- Bits of bytes and bytes of bits: each is found again in the other. Assumes nothing. [SPEC 35.2]
 use Rattle.std.specs.Prelude.{◌≡◌, refl, Bool, true, false, List, ltb, length, get_or}
 use Rattle.std.proofs.Math.Path.{sym, ap}
-use Rattle.std.proofs.Common.{ap₂, ◌∙◌, add-zero, add-one, ltb-true, ltb-false, shr-shr, shr_lt, pow_mono}
+use Rattle.std.proofs.Common.{ap₂, ◌∙◌, add-zero, ltb-true, ltb-false, shr-shr, pow_mono}
 use Prim.Native.Nat.{ℕ, zero, suc, ◌+◌, ◌*◌, ◌-◌, ◌/◌, ◌%◌, ◌^◌, ◌<◌, ◌≤◌}
 use native.Mathlib.Omega.{arith}
 use Rattle.std.proofs.Math.ListN.{get_or-eq_default}
-use Rattle.base_words.specs.List.{tab, length_tab, get_or_tab, tab_ext, tab_get_or}
+use Rattle.base_words.specs.List.{tab, length_tab, get_or_tab, tab_ext}
 use Rattle.measure_iris.specs.Iris.{code_bits, Code, bit, from_bits, code_of_bits}
 
 pub bit_lt : (code : List ℕ) (i : ℕ) → bit code i < 2
@@ -21,7 +21,7 @@ bit_at code j k h =
     rw (q, r) refl
 
 -- a number's bit above the lowest is one of its half's
-half_bit : (x k : ℕ) → x / 2 / 2 ^ k % 2 ≡ x / 2 ^ suc k % 2
+pub half_bit : (x k : ℕ) → x / 2 / 2 ^ k % 2 ≡ x / 2 ^ suc k % 2
 half_bit x k =
     let e : 1 + k ≡ suc k = omega arith in
     ap (λ (y : ℕ). y % 2) (shr-shr x 1 k ∙ ap (λ (j : ℕ). x / 2 ^ j) e)
@@ -92,29 +92,6 @@ unfolding code_of_bits
 code_ext f g h =
     tab_ext (λ j. from_bits f (8 * j) 8) (λ j. from_bits g (8 * j) 8) 64
     (λ j l. from_ext f g 8 (8 * j) (λ k m. h (8 * j + k) (omega arith)))
-
--- ---- a number is made of its own bits, and so is a code
-
-from_own : (f : ℕ → ℕ) (n i x : ℕ) → x < 2 ^ n → ((k : ℕ) → k < n → f (i + k) ≡ x / 2 ^ k % 2) → from_bits f i n ≡ x
-unfolding from_bits
-from_own f zero i x l h = omega arith
-from_own f (suc n) i x l h =
-    let none : i + 0 ≡ i = omega arith in
-    let first : f i ≡ x / 2 ^ 0 % 2 = ap f (sym none) ∙ h 0 (omega arith) in
-    let rest : from_bits f (i + 1) n ≡ x / 2 = from_own f n (i + 1) (x / 2) (shr_lt n 1 (rw (add-one n) l)) next in
-    omega arith
-  where
-    next : (k : ℕ) → k < n → f (i + 1 + k) ≡ x / 2 / 2 ^ k % 2
-    next k m =
-        let at : i + 1 + k ≡ i + suc k = omega arith in
-        ap f at ∙ h (suc k) (omega arith) ∙ sym (half_bit x k)
-
-pub code_bits_lem : (code : List ℕ) → Code code → code_of_bits (bit code) ≡ code
-unfolding code_of_bits
-code_bits_lem code c =
-    tab_ext (λ j. from_bits (bit code) (8 * j) 8) (λ j. get_or code j 0) 64 (λ j l.
-    from_own (bit code) 8 (8 * j) (get_or code j 0) (c.small j) (bit_at code j))
-    ∙ ap (tab (λ j. get_or code j 0)) (sym c.long) ∙ tab_get_or code
 
 -- ---- a byte as code makes it, from the highest bit down
 

@@ -7,7 +7,10 @@ use Rattle.measure_iris.specs.Iris.{from_bits}
 use Rattle.measure_iris.proofs.gather.Given as goal
 
 abbrev pub invariant-loop-j : goal.invariant-loop-j
-invariant-loop-j l = (l.j ≤ 64) × (l.out ≡ over 0 (tab (λ m. from_bits (λ i. get_or l.v i 0) (8 * m) 8) l.j) l.initial.out) × (length l.out ≡ length l.initial.out)
+invariant-loop-j l =
+    (l.j ≤ 64)
+    × (l.out ≡ over 0 (tab (λ m. from_bits (λ i. get_or l.v i 0) (8 * m) 8) l.j) l.initial.out)
+    × (length l.out ≡ length l.initial.out)
 
 abbrev pub decreases-loop-j : goal.decreases-loop-j
 decreases-loop-j l = 64 - l.j

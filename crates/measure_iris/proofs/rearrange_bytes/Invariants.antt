@@ -7,7 +7,10 @@ use Rattle.measure_iris.specs.Laws.{place_for}
 use Rattle.measure_iris.proofs.rearrange_bytes.Given as goal
 
 abbrev pub invariant-loop-j : goal.invariant-loop-j
-invariant-loop-j l = (l.j ≤ 64) × (l.out ≡ over 0 (tab (λ m. from_bits (λ i. bit l.code (place_for l.stored i)) (8 * m) 8) l.j) l.initial.out)
+invariant-loop-j l =
+    (l.j ≤ 64)
+    × (l.out
+    ≡ over 0 (tab (λ m. from_bits (λ i. bit l.code (place_for l.stored i)) (8 * m) 8) l.j) l.initial.out)
     × (length l.out ≡ length l.initial.out)
 
 abbrev pub decreases-loop-j : goal.decreases-loop-j

@@ -6,7 +6,10 @@ use Rattle.measure_iris.specs.Iris.{bit}
 use Rattle.measure_iris.proofs.spread.Given as goal
 
 abbrev pub invariant-loop-i : goal.invariant-loop-i
-invariant-loop-i l = (l.i ≤ 512) × (l.out ≡ over 0 (tab (bit l.code) l.i) l.initial.out) × (length l.out ≡ length l.initial.out)
+invariant-loop-i l =
+    (l.i ≤ 512)
+    × (l.out ≡ over 0 (tab (bit l.code) l.i) l.initial.out)
+    × (length l.out ≡ length l.initial.out)
 
 abbrev pub decreases-loop-i : goal.decreases-loop-i
 decreases-loop-i l = 512 - l.i
