@@ -488,10 +488,10 @@ struct door_lock_answer door_join(
     uint32_t answer1);
 
 /*
- * The same join without a struct, for a small lock: its archive (`rt staticlib c_lock`) is proved in
- * seconds. The host keeps the door's padded name and the last joined number, first the floor, and
- * hands them in. 0 or 1 is what is reported; a refused join answers LOCK_REFUSED plus the refusal's
- * number: 4, 6, 7, 12.
+ * The same join without a struct, for a small lock: its archive (`rt lib` in crates/c_lock_c, or
+ * tools/levels c_lock) is proved in seconds. The host keeps the door's padded name and the last joined
+ * number, first the floor, and hands them in. 0 or 1 is what is reported; a refused join answers
+ * LOCK_REFUSED plus the refusal's number: 4, 6, 7, 12.
  */
 #define LOCK_REFUSED 100
 uint32_t lock_join(
