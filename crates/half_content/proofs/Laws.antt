@@ -46,7 +46,12 @@ module _ (name : List ℕ) (party : ℕ) (s : Set) (named : length name ≡ 16) 
   unfolding plain
   length_plain =
       length-append laid rest
-      ∙ omega (arith, length_fields name party s named p, length-replicate {A = ℕ} (text_bytes * block_count n - size n) 0, size_le n)
+      ∙ omega (
+        arith,
+        length_fields name party s named p,
+        length-replicate {A = ℕ} (text_bytes * block_count n - size n) 0,
+        size_le n,
+      )
 
   -- laid out in an array for the most blocks, the plain content is what its own blocks hold
   pub take_laid : take (text_bytes * block_count n) (laid ++ replicate (room_bytes - size n) 0) ≡ plain name party s
@@ -54,7 +59,8 @@ module _ (name : List ℕ) (party : ℕ) (s : Set) (named : length name ≡ 16) 
   take_laid =
       let z : List ℕ = replicate (room_bytes - size n) 0 in
       let k = text_bytes * block_count n - size n in
-      let e : text_bytes * block_count n ≡ length laid + k = omega (arith, length_fields name party s named p, size_le n) in
+      let e : text_bytes * block_count n ≡ length laid + k =
+      omega (arith, length_fields name party s named p, size_le n) in
       let bounds = length_fits_lem s.terms p.length_fits_lem in
       let few = blocks_bounds n bounds.0 bounds.1 in
       ap (λ (i : ℕ). take i (laid ++ z)) e ∙ take-append-add laid z k

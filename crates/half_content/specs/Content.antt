@@ -1,14 +1,16 @@
 -- What a half holds (01, "The sealed half"; 02, §4): the plain content of a set for a party, as a list of fields in
 -- order, and the set read back from it. A field more is a name for its place, its width, its bytes, and where it is
 -- read back. Bytes are numbers below 256. Assumes nothing. [SPEC 9.1 to 9.6]
-use Rattle.std.specs.Prelude.{◌≡◌, Bool, true, cond, ◌&&◌, List, [], ◌∷◌, ◌++◌, map, ℕ, zero, suc, ◌+◌, ◌*◌, ◌-◌, ◌/◌, ◌^◌, ◌<◌, eqb, leb, ltb, length, get_or, take, drop, replicate}
+use Rattle.std.specs.Prelude.{◌≡◌, Bool, true, cond, ◌&&◌, List, [], ◌∷◌, ◌++◌, map, ℕ, zero, suc, ◌+◌, ◌*◌, ◌-◌, ◌/◌}
+use Rattle.std.specs.Prelude.{◌^◌, ◌<◌, eqb, leb, ltb, length, get_or, take, drop, replicate}
 use Rattle.base_words.specs.Numbers.{bytes, number}
 use Rattle.base_words.specs.List.{same, flat}
 use Rattle.base_words.specs.Bytes.{le32, bytes_of, word_at, words_at, Words}
 use Rattle.dcf_node.specs.declared.Correction.{Correction}
 use Rattle.dcf_node.specs.declared.Key.{Key}
 use Rattle.measure_table.specs.declared.Terms.{Terms}
-use Rattle.measure_table.specs.Measure.{most_elements, ordinary_mark, between_mark, ordinary_width, is_code, length_fits}
+use Rattle.measure_table.specs.Measure.{most_elements, ordinary_mark, between_mark, ordinary_width, is_code}
+use Rattle.measure_table.specs.Measure.{length_fits}
 use Rattle.half_content.specs.declared.Set.{Set}
 
 -- n elements of a list, from `at` on

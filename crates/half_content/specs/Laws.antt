@@ -115,10 +115,12 @@ module _ (cs : List Correction) (fit : Corrections cs) where
   each : (i : ℕ) → i < length cs → length (get_or (map correction_bytes cs) i []) ≡ 37
   unfolding Corrections
   each i h =
-      ap length (get_d_map correction_bytes cs i h) ∙ length_correction_bytes (get_or cs i no_correction) (fit i h).0.long
+      ap length (get_d_map correction_bytes cs i h)
+      ∙ length_correction_bytes (get_or cs i no_correction) (fit i h).0.long
 
   length_corrections : length (flat (map correction_bytes cs)) ≡ 37 * length cs
-  length_corrections = length_even 37 (map correction_bytes cs) (λ i h. each i (rw length-map at h)) ∙ rw length-map refl
+  length_corrections =
+      length_even 37 (map correction_bytes cs) (λ i h. each i (rw length-map at h)) ∙ rw length-map refl
 
   corrections_back : (k : ℕ) → k ≤ length cs → corrections_in (flat (map correction_bytes cs)) k ≡ take k cs
   unfolding corrections_in Corrections
@@ -236,7 +238,8 @@ module _ (name : List ℕ) (party : ℕ) (s : Set) (named : length name ≡ 16) 
   array f a e h =
       ap₂ (λ (m : ℕ) (b : List ℕ). fill (words_at m b)) length_in_plain (field_plain f ∙ e) ∙ fill_filled n a h
 
-  word : (f x : ℕ) → get_or (fields name party s) f [] ≡ le32 x → x < 2 ^ 32 → word_at (field (plain name party s) f) 0 ≡ x
+  word : (f x : ℕ) → get_or (fields name party s) f [] ≡ le32 x → x < 2 ^ 32
+      → word_at (field (plain name party s) f) 0 ≡ x
   word f x e h =
       ap (λ (b : List ℕ). word_at b 0) (field_plain f ∙ e ∙ sym (append-nil (le32 x))) ∙ word_at_le32 x [] h
 

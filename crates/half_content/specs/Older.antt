@@ -59,7 +59,8 @@ module _ (name : List ℕ) (party : ℕ) (s : Set) (named : length name ≡ 16) 
   older_size = older_end ∙ width_is n
 
   no_byte_there : (i : ℕ) → get_or older_plain (offset n width_field + i) 0 ≡ 0
-  no_byte_there i = get_d_past (flat older_fields) (replicate fill 0) (offset n width_field) i older_end ∙ no_byte fill i
+  no_byte_there i =
+      get_d_past (flat older_fields) (replicate fill 0) (offset n width_field) i older_end ∙ no_byte fill i
 
   pub no_width : width_in older_plain ≡ 0
   unfolding width_in field width widths word_at

@@ -1,6 +1,8 @@
 -- Lists cut in pieces of given widths, and words read back from their bytes. Assumes nothing.
-use Rattle.std.specs.Prelude.{◌≡◌, refl, List, [], ◌∷◌, ◌++◌, map, ℕ, zero, suc, ◌+◌, ◌*◌, ◌-◌, ◌^◌, ◌<◌, ◌≤◌, length, get_or, take, drop, replicate}
-use Rattle.std.proofs.Common.{sym, ap, ◌∙◌, subst, append_assoc, arith, length-append, length-drop, drop-drop, get_or-append-add, get_or-take, get_or-drop, take_at, drop_at, length-take-le}
+use Rattle.std.specs.Prelude.{◌≡◌, refl, List, [], ◌∷◌, ◌++◌, map, ℕ, zero, suc, ◌+◌, ◌*◌, ◌-◌, ◌^◌, ◌<◌, ◌≤◌, length}
+use Rattle.std.specs.Prelude.{get_or, take, drop, replicate}
+use Rattle.std.proofs.Common.{sym, ap, ◌∙◌, subst, append_assoc, arith, length-append, length-drop, drop-drop}
+use Rattle.std.proofs.Common.{get_or-append-add, get_or-take, get_or-drop, take_at, drop_at, length-take-le}
 use Rattle.std.proofs.lemmas.List.{length-replicate, replicate-append-replicate}
 use Rattle.std.proofs.Math.ListN.{get_or-append}
 use Rattle.std.proofs.Math.Seq.{take-append_seam, drop-append-add}
@@ -132,4 +134,5 @@ words_at_bytes_of n w rest h =
 
 pub word_at_le32 : (x : ℕ) (rest : List ℕ) → x < 2 ^ 32 → word_at (le32 x ++ rest) 0 ≡ x
 unfolding bytes_of le32
-word_at_le32 x rest h = word_at_append (bytes_of (x ∷ [])) rest 0 (omega arith) ∙ word_at_bytes_of (x ∷ []) 0 (omega arith) h
+word_at_le32 x rest h =
+    word_at_append (bytes_of (x ∷ [])) rest 0 (omega arith) ∙ word_at_bytes_of (x ∷ []) 0 (omega arith) h

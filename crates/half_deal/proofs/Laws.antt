@@ -34,7 +34,8 @@ copy_more w out at i hi hw e =
     let inside : i < length (drop at w) = omega (arith, length-drop at w) in
     rw (add-one i)
     (take-suc-set out i (get_or w (at + i) 0) hi
-    ∙ ap₂ (λ (l : List ℕ) (a : ℕ). l ++ (a ∷ [])) e (sym (get_or-drop at w i 0)) ∙ sym (take-suc (drop at w) i 0 inside))
+    ∙ ap₂ (λ (l : List ℕ) (a : ℕ). l ++ (a ∷ [])) e (sym (get_or-drop at w i 0))
+    ∙ sym (take-suc (drop at w) i 0 inside))
 
 pub copy_done : (w out before : List ℕ) (at i : ℕ)
     → length out ≡ length before → i ≡ length out → take i out ≡ part at i w
@@ -146,7 +147,8 @@ module _ (terms : Terms) where
         let first : ℕ = get_or w (4 * n) 0 in
         let is_c1 : c1 ≡ other_c n (mask_x n w) (mask_y n w) first =
         ec ∙ ap₂ (λ (a b : List ℕ). other_c n a b first) is_x is_y ∙ other_c_fill n (mask_x n w) (mask_y n w) first in
-        let is_r1 : r1 ≡ other_r terms (mark_of rule) (get_or w (4 * n + 1) 0) (offset_of rule) (get_or w (4 * n + 2) 0) =
+        let is_r1 : r1
+        ≡ other_r terms (mark_of rule) (get_or w (4 * n + 1) 0) (offset_of rule) (get_or w (4 * n + 2) 0) =
         er ∙ ap₂ (λ (g s : ℕ). other_r terms g (get_or w (4 * n + 1) 0) s (get_or w (4 * n + 2) 0)) em et in (
           e ∙ (λ i. set_with 0 number terms rule w (is_x i) first (get_or w (4 * n + 2) 0) (is_key i)),
           f ∙ (λ i. set_with 1 number terms rule w (is_y i) (is_c1 i) (is_r1 i) (is_key i)),

@@ -1,6 +1,7 @@
 -- What holds of the words that a deal draws, and of vectors in arrays, whose fill is not seen. What they come to, for a
 -- dealt set, is in `proofs/DealtSet.antt`. For every set seed. Assumes nothing. [SPEC 9.1, 18.7]
-use Rattle.std.specs.Prelude.{◌≡◌, refl, List, [], ◌∷◌, ◌++◌, ℕ, zero, suc, ◌+◌, ◌-◌, ◌*◌, ◌^◌, ◌<◌, ◌≤◌, length, get_or, drop, replicate}
+use Rattle.std.specs.Prelude.{◌≡◌, refl, List, [], ◌∷◌, ◌++◌, ℕ, zero, suc, ◌+◌, ◌-◌, ◌*◌, ◌^◌, ◌<◌, ◌≤◌, length}
+use Rattle.std.specs.Prelude.{get_or, drop, replicate}
 use Rattle.std.proofs.Common.{ap, ap₂, arith, get_or-drop}
 use Rattle.base_algebra.specs.Word.{add, sub, mul, add_lt}
 use Rattle.base_algebra.specs.Bit.{only, odd}

@@ -86,7 +86,8 @@ unfolding flat
 stand_one p z t e = e ∙ ap (λ (l : List ℕ). over 0 l z) (sym (append-nil p))
 
 -- one more, past their end
-stand_next : (ps : List (List ℕ)) (q z t u : List ℕ) (at : ℕ) → sum_first (map length ps) (length ps) ≡ at → Stand ps z t
+stand_next : (ps : List (List ℕ)) (q z t u : List ℕ) (at : ℕ) → sum_first (map length ps) (length ps) ≡ at
+    → Stand ps z t
     → u ≡ over at q t → Stand (ps ++ (q ∷ [])) z u
 unfolding flat
 stand_next ps q z t u at l e f =
@@ -171,7 +172,8 @@ module _ (name : List ℕ) (party : ℕ) (s : Set) where
       ∷ le32 s.key.last ∷ le32 s.width ∷ (s.mark ∷ []) ∷ []
 
   pub fields_law : (h t u rest : List ℕ) → h ≡ flat before → t ≡ flat past
-      → u ≡ flat (h ∷ own_mask_lem ∷ share_x_lem ∷ share_y_lem ∷ t ∷ []) ++ rest → u ≡ flat (fields name party s) ++ rest
+      → u ≡ flat (h ∷ own_mask_lem ∷ share_x_lem ∷ share_y_lem ∷ t ∷ []) ++ rest
+      → u ≡ flat (fields name party s) ++ rest
   unfolding fields flat
   fields_law h t u rest eh et eu =
       let vectors : List ℕ → List ℕ = λ l. own_mask_lem ++ (share_x_lem ++ (share_y_lem ++ l)) in

@@ -107,12 +107,14 @@ module _ (key b : List ℕ) (set i : ℕ) (lb : length b ≡ block_bytes) where
     pub block_fits_lem : (r : Bool) → not headed ≡ false → r ≡ opened → r ≡ block_fits key set i b
     block_fits_lem r e er = er ∙ ap (λ (h : Bool). h && opened) (sym (not-false headed e) ∙ eh) ∙ tests
 
-pub length_opened : (key h : List ℕ) (i : ℕ) → block_bytes * i ≤ length h → length (opened_blocks key h i) ≡ text_bytes * i
+pub length_opened : (key h : List ℕ) (i : ℕ) → block_bytes * i ≤ length h
+    → length (opened_blocks key h i) ≡ text_bytes * i
 unfolding opened_blocks block_at
 length_opened key h zero l = refl
 length_opened key h (suc i) l =
     let b : List ℕ = part (block_bytes * i) block_bytes h in
-    let inside = length_part b 12 text_bytes (omega (arith, length_part h (block_bytes * i) block_bytes (omega arith))) in
+    let inside =
+    length_part b 12 text_bytes (omega (arith, length_part h (block_bytes * i) block_bytes (omega arith))) in
     let long : length (text_in key b) ≡ text_bytes = length_cipher key (part 0 12 b) (part 12 text_bytes b) ∙ inside in
     omega (arith, length-append (opened_blocks key h i) (text_in key b), length_opened key h i (omega arith), long)
 
@@ -142,7 +144,8 @@ module _ (key h out0 out b : List ℕ) (set i k m : ℕ) (fit this : Bool) (es :
       (over_next (opened_blocks key h i) text out0 out (put_mid (text_bytes * i) m out b) 0 (text_bytes * i)
       (length_opened key h i (omega arith)) (f fits.0) put)
 
-pub opened_all : (key h out0 out : List ℕ) (count : ℕ) → block_bytes * count ≤ length h → length out0 ≡ text_bytes * count
+pub opened_all : (key h out0 out : List ℕ) (count : ℕ) → block_bytes * count ≤ length h
+    → length out0 ≡ text_bytes * count
     → out ≡ over 0 (opened_blocks key h count) out0 → out ≡ opened_blocks key h count
 opened_all key h out0 out count l lo e =
     e ∙ over_all (opened_blocks key h count) out0 (length_opened key h count l ∙ sym lo)

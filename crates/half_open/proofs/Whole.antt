@@ -15,12 +15,14 @@ use Rattle.base_messages.specs.Laws.{turned_down, goes_on, passed}
 use Rattle.measure_table.specs.declared.Terms.{Terms}
 use Rattle.measure_table.specs.Measure.{most_elements}
 use Rattle.half_content.specs.declared.Set.{Set}
-use Rattle.half_content.specs.Content.{block_bytes, text_bytes, most_blocks, size, length_in, terms_in, set_in, content_fits}
+use Rattle.half_content.specs.Content.{block_bytes, text_bytes, most_blocks, size, length_in, terms_in, set_in}
+use Rattle.half_content.specs.Content.{content_fits}
 use Rattle.half_content.specs.Content.{no_set, no_terms, mask_field, widths, sum_first, offset}
 use Rattle.half_content.proofs.Laws.{fits_reads}
 use Rattle.half_open.specs.declared.Examined.{Examined}
 use Rattle.half_open.specs.declared.Told.{Told}
-use Rattle.half_seal.specs.Half.{set_number, first_fit, opened_content, whole_blocks, why_not_opened, why_not, opened_set}
+use Rattle.half_seal.specs.Half.{set_number, first_fit, opened_content, whole_blocks, why_not_opened, why_not}
+use Rattle.half_seal.specs.Half.{opened_set}
 use Rattle.half_open.specs.Examined.{refused, examined, told}
 use Rattle.half_open.proofs.Laws.{length_opened}
 
@@ -60,7 +62,8 @@ numbered last h = unless (whole_blocks h) wrong_length (unless (ltb last (set_nu
 
 module _ (h : List ℕ) (last : ℕ) (whole : Bool)
     (ew : whole
-    ≡ eqb (length h % block_bytes) 0 && (leb 3 (length h / block_bytes) && leb (length h / block_bytes) most_blocks)) where
+    ≡ eqb (length h % block_bytes) 0
+    && (leb 3 (length h / block_bytes) && leb (length h / block_bytes) most_blocks)) where
   pub not_whole : not whole ≡ true → wrong_length ≡ numbered last h
   unfolding whole_blocks
   not_whole e = turned_down _ wrong_length _ (rw ew at e)

@@ -7,7 +7,8 @@ ghost use Rattle.base_words.specs.Bytes.{word_at, words_at};
 ghost use Rattle.aead_seal.specs.Aead.{poly_key, opens};
 ghost use Rattle.base_messages.specs.Messages.{wrong_length, wrong_number, unless};
 ghost use Rattle.half_content.specs.Content.{block_bytes, text_bytes, most_blocks, room_bytes, part, no_terms};
-ghost use Rattle.half_seal.specs.Half.{header, text_in, block_fits, first_fit, opened_blocks, opened_content, set_number};
+ghost use Rattle.half_seal.specs.Half.{header, text_in, block_fits, first_fit, opened_blocks, opened_content};
+ghost use Rattle.half_seal.specs.Half.{set_number};
 ghost use Rattle.half_seal.specs.Half.{whole_blocks, why_not_opened};
 ghost use Rattle.half_open.specs.Examined.{refused as refused_for, examined, told};
 

@@ -86,7 +86,8 @@ module _ (name : List ℕ) (party count : ℕ) (b : List ℕ) (terms : Terms) (e
   fits_at = ap (λ (t : Terms). named? && (owned? && asked t)) (sym et)
 
   -- L out of its measure's range
-  pub out_of_range_lem : (fits : Bool) → fits ≡ length_fits terms → not fits ≡ true → false ≡ content_fits name party count b
+  pub out_of_range_lem : (fits : Bool) → fits ≡ length_fits terms → not fits ≡ true
+      → false ≡ content_fits name party count b
   out_of_range_lem fits e h =
       let others : Bool = eqb (block_count n) count && (flags? && (width? && zeros (drop (size n) b))) in
       refused named? owned? (is_code terms.code) (ap (λ (l : Bool). l && others) (sym e ∙ not-true fits h))
@@ -102,7 +103,8 @@ module _ (name : List ℕ) (party count : ℕ) (b : List ℕ) (terms : Terms) (e
       ∙ sym fits_at
 
   -- all that is tested where L and the count fit, each where its field stands
-  pub fits_law : (fits : Bool) (k owner cs_at last_at width_at mark_at end w m : ℕ) (named coded flags wide filled : Bool)
+  pub fits_law : (fits : Bool) (k owner cs_at last_at width_at mark_at end w m : ℕ)
+      (named coded flags wide filled : Bool)
       → fits ≡ length_fits terms → not fits ≡ false → k ≡ block_count n → k ≡ count
       → cs_at ≡ offset n corrections_field → last_at ≡ offset n last_field → width_at ≡ offset n width_field
       → mark_at ≡ offset n mark_field → end ≡ size n

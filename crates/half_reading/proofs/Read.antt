@@ -14,9 +14,11 @@ use Rattle.dcf_node.specs.Node.{none}
 use Rattle.measure_table.specs.declared.Terms.{Terms}
 use Rattle.half_content.specs.declared.Set.{Set}
 use Rattle.measure_table.specs.Measure.{most_elements}
-use Rattle.half_content.specs.Content.{part, fill, length_in, field, terms_in, correction_in, corrections_in, key_in, set_in}
+use Rattle.half_content.specs.Content.{part, fill, length_in, field, terms_in, correction_in, corrections_in, key_in}
+use Rattle.half_content.specs.Content.{set_in}
 use Rattle.half_content.specs.Content.{code_field, mask_field, x_field, y_field, c_field, r_field, seed_field}
-use Rattle.half_content.specs.Content.{corrections_field, last_field, width_field, mark_field, widths, sum_first, offset}
+use Rattle.half_content.specs.Content.{corrections_field, last_field, width_field, mark_field, widths, sum_first}
+use Rattle.half_content.specs.Content.{offset}
 use Rattle.half_content.specs.Content.{width as field_width, width_in, mark_in}
 use Rattle.half_content.specs.Laws.{head_is, offset_next, fill_rest}
 use Rattle.half_content.specs.Pieces.{get_d_part, word_at_part, words_at_part}
@@ -101,7 +103,8 @@ module _ (b : List ℕ) (n : ℕ) (en : n ≡ length_in b) where
   byte_at f at e w =
       let here = field_at f at e ∙ ap (λ (i : ℕ). part at i b) w in
       let start : at + 0 ≡ at = omega arith in
-      sym (ap (λ (l : List ℕ). get_or l 0 0) here ∙ get_d_part at 1 b 0 (omega arith) ∙ ap (λ (i : ℕ). get_or b i 0) start)
+      sym (ap (λ (l : List ℕ). get_or l 0 0) here ∙ get_d_part at 1 b 0 (omega arith)
+      ∙ ap (λ (i : ℕ). get_or b i 0) start)
 
   -- the key
   pub key_law : (cs_at last_at last : ℕ) (cs : List Correction) → cs_at ≡ offset n corrections_field
@@ -136,7 +139,8 @@ module _ (set : ℕ) (b : List ℕ) (terms : Terms) (et : terms ≡ terms_in b)
   long = ap (λ (t : Terms). t.n) et
 
   pub set_law : (c r width mark : ℕ) (mask x y seed : List ℕ) (key : Key)
-      → mask ≡ fill (words_at n (take (x_at - 20) (drop 20 b))) → x ≡ fill (words_at n (take (y_at - x_at) (drop x_at b)))
+      → mask ≡ fill (words_at n (take (x_at - 20) (drop 20 b)))
+      → x ≡ fill (words_at n (take (y_at - x_at) (drop x_at b)))
       → y ≡ fill (words_at n (take (c_at - y_at) (drop y_at b))) → c ≡ word_at b c_at → r ≡ word_at b r_at
       → seed ≡ words_at 8 (take (cs_at - seed_at) (drop seed_at b)) → key ≡ key_in b → width ≡ word_at b width_at
       → mark ≡ get_or b mark_at 0

@@ -5,8 +5,10 @@
 ghost use Rattle.std.specs.Prelude.{◌≡◌, ◌*◌, ◌<◌, ◌≤◌, length, get_or};
 ghost use Rattle.base_words.specs.Bytes.{words_at};
 ghost use Rattle.measure_table.specs.Measure.{most_elements};
-ghost use Rattle.half_content.specs.Content.{text_bytes, most_blocks, mask_field, offset, size, fill, length_in, terms_in};
-ghost use Rattle.half_content.specs.Content.{correction_in, corrections_in, key_in, set_in, flags_fit, zeros, content_fits};
+ghost use Rattle.half_content.specs.Content.{text_bytes, most_blocks, mask_field, offset, size, fill, length_in};
+ghost use Rattle.half_content.specs.Content.{terms_in};
+ghost use Rattle.half_content.specs.Content.{correction_in, corrections_in, key_in, set_in, flags_fit, zeros};
+ghost use Rattle.half_content.specs.Content.{content_fits};
 
 use dcf_node::{Correction, Key};
 use half_content::{CODE_AT, HEAD, LENGTH_AT, PARTY_AT, Set};

@@ -207,7 +207,8 @@ module _ (key name : List ℕ) (party : ℕ) (named : length name ≡ 16) where
 
     module _ (h : List ℕ) (wrote : (i : ℕ) → i < length h / block_bytes → Wrote (block_at h i)) (t : Taken h) where
       -- a block that fits stands at its place, under the number of block 0
-      placed : (i : ℕ) (l : i < length h / block_bytes) → ((wrote i l).place ≡ i) × ((wrote i l).set.number ≡ set_number h)
+      placed : (i : ℕ) (l : i < length h / block_bytes)
+          → ((wrote i l).place ≡ i) × ((wrote i l).set.number ≡ set_number h)
       unfolding block_fits
       placed i l =
           let w = wrote i l in

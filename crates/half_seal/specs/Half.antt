@@ -5,7 +5,8 @@ use Rattle.base_words.specs.Numbers.{bytes, number}
 use Rattle.aead_seal.specs.Aead.{cipher, tag_for, opens}
 use Rattle.base_messages.specs.Messages.{wrong_length, wrong_number, bad_block, bad_content, unless}
 use Rattle.half_content.specs.declared.Set.{Set}
-use Rattle.half_content.specs.Content.{block_bytes, text_bytes, most_blocks, part, block_count, plain, name_field, field}
+use Rattle.half_content.specs.Content.{block_bytes, text_bytes, most_blocks, part, block_count, plain, name_field}
+use Rattle.half_content.specs.Content.{field}
 use Rattle.half_content.specs.Content.{set_in, content_fits}
 
 -- "A block is 512 bytes: set number (8, little-endian), block index from 0 (4, little-endian), 484 sealed bytes, tag
@@ -80,7 +81,8 @@ why_not_opened key name party h =
 -- why a half is turned down where its number has to be above `last`
 unfoldable pub why_not : List ℕ → List ℕ → ℕ → ℕ → List ℕ → ℕ
 why_not key name party last h =
-    unless (whole_blocks h) wrong_length (unless (ltb last (set_number h)) wrong_number (why_not_opened key name party h))
+    unless (whole_blocks h) wrong_length
+    (unless (ltb last (set_number h)) wrong_number (why_not_opened key name party h))
 
 -- where it is not: the set that it opens to, and the door's name that stands in it
 unfoldable pub opened_set : List ℕ → List ℕ → Set

@@ -17,5 +17,6 @@ returns c =
     record {
       value = text_opens _ _ _ _ _ _ _ c.requires.b_len.0 c.requires.b_len.1 en et eo er;
       out_after =
-          opened_text_lem _ _ _ _ _ _ _ c.requires.b_len.0 c.requires.b_len.1 en et eo er _ c.open_by.ensures.text_after;
+          opened_text_lem _ _ _ _ _ _ _ c.requires.b_len.0 c.requires.b_len.1 en et eo er _
+          c.open_by.ensures.text_after;
     }
