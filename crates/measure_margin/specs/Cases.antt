@@ -1,6 +1,6 @@
 -- Margins worked out, as one table with one theorem: X, Y, T and e. Assumes nothing. [SPEC 36.3, 36.5, 36.6]
 use Rattle.std.specs.Prelude.{◌≡◌, refl, Bool, true, ◌&&◌, List, [], ◌∷◌, map, ℕ, ◌^◌, eqb, ℤ, pos, neg_ℤ, length}
-use Rattle.std.proofs.Common.{sym, subst, eqb-true}
+use Rattle.std.proofs.Common.{subst, eqb-true}
 use Rattle.base_algebra.specs.Bit.{both}
 use Rattle.base_algebra.specs.Sum.{sumℕ, sumℤ}
 use Rattle.base_algebra.specs.Word as W

@@ -1,13 +1,13 @@
 -- What 02, §12, promises of the margin: the product moves by no more than e times the sum of Y's absolute elements, and
 -- by just that for some vectors; so the margin has a closed form. What the margin says of faces that a camera can give,
 -- who is refused, and that there is one answer and no other. Assumes nothing. [SPEC 23.4, 23.8, 36.2 to 36.8]
-use Rattle.std.specs.Prelude.{◌≡◌, Bool, cond, List, [], ◌∷◌, map, eqb, negsuc, ◌+ℤ◌, ◌*ℤ◌}
+use Rattle.std.specs.Prelude.{◌≡◌, Bool, cond, List, [], ◌∷◌, map, eqb, ◌+ℤ◌, ◌*ℤ◌}
 use Rattle.std.proofs.Math.Path.{refl, sym, ap, ap₂}
 use Rattle.std.proofs.Common.{◌∙◌, le-div_iff_mul-le, arith}
 use Rattle.std.proofs.Math.Bool.{true, false, not, ◌&&◌}
-use Prim.Native.Nat.{ℕ, zero, suc, ◌+◌, ◌*◌, ◌-◌, ◌/◌, ◌^◌, ◌<◌, ◌≤◌, min}
+use Prim.Native.Nat.{ℕ, zero, suc, ◌+◌, ◌*◌, ◌/◌, ◌^◌, ◌<◌, ◌≤◌, min}
 use Rattle.std.proofs.Math.Nat.{min-le_left, min-le_right, le-min}
-use borrow.Author.Tests.{leb-true, leb-false, eqb-true, eqb-false, eq-eqb, le-leb}
+use borrow.Author.Tests.{leb-true, leb-false, eqb-true, eqb-false, eq-eqb}
 use Rattle.std.proofs.Math.Dec.{leb}
 use Rattle.std.proofs.Math.IntN.{ℤ, pos, neg_ℤ, nat_abs, ◌-ℤ◌}
 use Rattle.std.proofs.Math.ListN.{length, get_or, length-map, get_or-map}
@@ -17,7 +17,7 @@ use Rattle.base_algebra.specs.Integer.{ringℤ, reifyℤ}
 use Rattle.base_algebra.specs.Sum.{sumℕ, sumℤ, sumℤ_ext}
 use Rattle.base_algebra.specs.Word.{signed}
 use Rattle.base_words.specs.List.{tab, length_tab, get_or_tab}
-use Rattle.base_messages.specs.Messages.{wrong_length, out_of_range, unless, if_taken}
+use Rattle.base_messages.specs.Messages.{wrong_length, out_of_range, if_taken}
 use Rattle.base_messages.specs.Laws.{unless_false, unless_true, passed, taken, refused}
 use Rattle.measure_table.specs.Measure.{row, scalar_product, element, own, cross, measure, meets, within, in_range}
 use Rattle.measure_table.specs.Measure.{length_fits, all_in_range, threshold_fits}

@@ -1,9 +1,9 @@
 -- What the code that tells a margin is tied to: a word's magnitude, the quotient, the tests, and the answer read off
 -- the word of the product less T. Assumes nothing. [SPEC 36.2, 36.5, 36.7, 36.8]
-use Rattle.std.specs.Prelude.{◌≡◌, Bool, List, [], ◌∷◌, ℕ, suc, ◌+◌, ◌-◌, ◌/◌, ◌^◌, ◌<◌, ◌≤◌, min, ℤ, pos, negsuc}
-use Rattle.std.specs.Prelude.{neg_ℤ, nat_abs, ◌-ℤ◌, length, get_or}
+use Rattle.std.specs.Prelude.{◌≡◌, Bool, List, [], ◌∷◌, ℕ, suc, ◌-◌, ◌/◌, ◌^◌, ◌<◌, ◌≤◌, ℤ, pos, negsuc}
+use Rattle.std.specs.Prelude.{neg_ℤ, nat_abs, ◌-ℤ◌, length}
 use Rattle.std.proofs.Math.Path.{refl, sym, ap, ap₂}
-use Rattle.std.proofs.Common.{◌∙◌, arith, leb-true, eq-eqb, ne_eqb}
+use Rattle.std.proofs.Common.{◌∙◌, arith, leb-true, ne_eqb}
 use Rattle.std.proofs.Math.Bool.{true, false, not, ◌&&◌}
 use Rattle.std.proofs.Math.Nat.{min-eq_left, min-eq_right}
 use Rattle.std.proofs.Math.Dec.{eqb, leb-zero}
@@ -13,7 +13,7 @@ use Rattle.base_algebra.specs.Mod.{m_trans, m_sym}
 use Rattle.base_algebra.specs.Integer.{residue}
 use Rattle.base_algebra.specs.Ring.{ring}
 use Rattle.base_algebra.specs.Word.{words, add, sub, neg, mul, signed, ◌≈◌, neg≈, neg_lt, signed≈, same_word}
-use Rattle.base_messages.specs.Messages.{wrong_length, out_of_range, unless, if_taken}
+use Rattle.base_messages.specs.Messages.{wrong_length, out_of_range}
 use Rattle.base_messages.specs.Laws.{turned_down, goes_on, passed, taken, refused}
 use Rattle.measure_table.specs.Measure.{row, scalar_product, element, measure, within, in_range, all_in_range}
 use Rattle.measure_table.specs.Measure.{length_fits, threshold_fits, word, k_word, own_word, carried}
@@ -22,7 +22,7 @@ use Rattle.measure_table.specs.Laws.{signed_low, signed_high, in_range_at}
 use Rattle.measure_table.proofs.Laws.{measure≈, bound_plain}
 use Rattle.share_vectors.specs.Share.{inner}
 use Rattle.measure_margin.specs.declared.MarginAnswer.{MarginAnswer}
-use Rattle.measure_margin.specs.Margin.{scalar_terms, answer_now, absolute_sum, most_margin, Largest, lengths_fit}
+use Rattle.measure_margin.specs.Margin.{scalar_terms, answer_now, absolute_sum, most_margin, lengths_fit}
 use Rattle.measure_margin.specs.Margin.{ranges_fit, why_not_margin, Answered}
 use Rattle.measure_margin.specs.Claims.{answer_is, quotient, spare, closed_form, largest, Lengths, Ranges}
 use Rattle.measure_margin.specs.Claims.{accepted_only}
