@@ -1,6 +1,6 @@
 -- Where T and the set's sign do not go (02, §2): party 0's set is 01's, and with the plain sign so is party 1's. The
 -- rest is in `specs/Close.antt`. Assumes nothing. [SPEC 5.8, 5.13]
-use Rattle.std.specs.Prelude.{◌≡◌, cond, List, ℕ, eqb, pos, set}
+use Rattle.std.specs.Prelude.{◌≡◌, cond, List, ℕ, eqb, pos}
 use Rattle.std.proofs.Math.Path.{refl, ap}
 use Rattle.std.proofs.Common.{ap₂}
 use Rattle.measure_table.specs.declared.Terms.{Terms}

@@ -1,7 +1,7 @@
 -- What holds of a dealt set: its fields lie in their ranges (01, "The sealed half"), and two boxes that compute with
 -- the two sets of a deal get the join law's sum (01, "One check at a box"). For every set seed. Assumes nothing.
 -- [SPEC 9.1, 18.7]
-use Rattle.std.specs.Prelude.{◌≡◌, refl, Bool, cond, ◌&&◌, List, ℕ, ◌+◌, ◌-◌, ◌*◌, ◌^◌, ◌<◌, ◌≤◌, eqb, length}
+use Rattle.std.specs.Prelude.{◌≡◌, refl, Bool, cond, ◌&&◌, List, ℕ, ◌+◌, ◌*◌, ◌^◌, ◌<◌, ◌≤◌, eqb, length}
 use Rattle.std.proofs.Common.{ap, arith, le-leb}
 use Rattle.std.proofs.Math.Bool.{true, false}
 use Rattle.std.proofs.Math.Nat.{mul-le-mul_right}

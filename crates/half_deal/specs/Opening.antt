@@ -1,11 +1,11 @@
 -- A dealt set with another key in it, as another opening of a node would make it (02, §3). What holds of it is in
 -- `proofs/Opening.antt`. Assumes nothing. [SPEC 5.15]
-use Rattle.std.specs.Prelude.{List, ℕ, set}
+use Rattle.std.specs.Prelude.{List, ℕ}
 use Rattle.dcf_node.specs.declared.Key.{Key}
 use Rattle.measure_table.specs.Measure.{width_of, mark_of}
 use Rattle.half_content.specs.declared.Set.{Set}
 use Rattle.half_content.specs.Content.{fill}
-use Rattle.half_deal.specs.Dealing.{set_words, x, y, r, key_seed, own_mask, c_of, Deal, r_of}
+use Rattle.half_deal.specs.Dealing.{set_words, x, y, key_seed, own_mask, c_of, Deal, r_of}
 
 module _ (d : Deal) (party : ℕ) where
   abbrev n : ℕ
