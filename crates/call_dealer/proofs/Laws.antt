@@ -5,7 +5,6 @@ use mathlib.Core.Bool.{Bool, true, false, not, ◌&&◌}
 use mathlib.Core.List.{List}
 use Prim.Native.Nat.{ℕ, ◌*◌, ◌^◌, ◌<◌, ◌≤◌}
 use native.Mathlib.Omega.{arith}
-use borrow.Author.Tests.{not-false}
 use lib.Dec.{eqb, leb, ltb}
 use lib.ListN.{length}
 use Rattle.base_algebra.specs.Bit.{both, neither}
@@ -16,7 +15,7 @@ use Rattle.measure_table.specs.declared.Terms.{Terms}
 use Rattle.measure_table.specs.declared.Rule.TheVariants.{Threshold}
 use Rattle.base_messages.specs.Messages.{bad_party_or_code, wrong_length, short_buffer, wrong_number, out_of_range}
 use Rattle.base_messages.specs.Messages.{bad_marks, unless, name_fits, padded, is_key}
-use Rattle.base_messages.specs.Laws.{unless_false, unless_true, turned_down, goes_on, taken, refused}
+use Rattle.base_messages.specs.Laws.{unless_false, unless_true, taken, refused}
 use Rattle.half_content.specs.declared.Set.{Set}
 use Rattle.half_content.specs.Content.{block_bytes, block_count, Proper}
 use Rattle.half_content.proofs.Laws.{blocks_bounds}
@@ -40,25 +39,25 @@ none e h = sym e ∙ h
 
 module _ (name key0 key1 : List ℕ) where
   module _ (fits : Bool) (ef : fits ≡ name_fits name) where
-    pub bad_name_lem : not fits ≡ true → 1 ≡ why_not_dealer name key0 key1
+    pub bad_name_lem : fits ≡ false → 1 ≡ why_not_dealer name key0 key1
     unfolding why_not_dealer
-    bad_name_lem h = turned_down _ _ _ (ap not (sym ef) ∙ h)
+    bad_name_lem h = unless_false _ _ _ (sym ef ∙ h)
 
-    module _ (named : not fits ≡ false) where
+    module _ (named : fits ≡ true) where
       past_name : {r : ℕ} → r ≡ unless (is_key key0 && is_key key1) 4 (unless (not (same key0 key1)) 9 0)
           → r ≡ why_not_dealer name key0 key1
       unfolding why_not_dealer
-      past_name h = goes_on _ _ _ (ap not (sym ef) ∙ named) h
+      past_name h = unless_true _ _ _ (sym ef ∙ named) h
 
-      pub bad_key : not (eqb (length key0) 32 && eqb (length key1) 32) ≡ true → 4 ≡ why_not_dealer name key0 key1
+      pub bad_key : eqb (length key0) 32 && eqb (length key1) 32 ≡ false → 4 ≡ why_not_dealer name key0 key1
       unfolding is_key
-      bad_key h = past_name (turned_down _ _ _ h)
+      bad_key h = past_name (unless_false _ _ _ h)
 
-      module _ (long : not (eqb (length key0) 32 && eqb (length key1) 32) ≡ false)
+      module _ (long : eqb (length key0) 32 && eqb (length key1) 32 ≡ true)
           (one : Bool) (eo : one ≡ same key0 key1) where
         past_keys : {r : ℕ} → r ≡ unless (not (same key0 key1)) 9 0 → r ≡ why_not_dealer name key0 key1
         unfolding is_key
-        past_keys h = past_name (goes_on _ _ _ long h)
+        past_keys h = past_name (unless_true _ _ _ long h)
 
         pub one_key : one ≡ true → 9 ≡ why_not_dealer name key0 key1
         one_key h = past_keys (unless_false _ _ _ (ap not (sym eo ∙ h)))
@@ -81,11 +80,11 @@ module _ (name key0 key1 : List ℕ) where
 -- ---- why a deal is turned down
 
 -- a length that has been tested, and its blocks
-pub short : (long : ℕ) (terms : Terms) (fits : Bool) → fits ≡ length_fits terms → not (eqb long 32 && fits) ≡ false
+pub short : (long : ℕ) (terms : Terms) (fits : Bool) → fits ≡ length_fits terms → eqb long 32 && fits ≡ true
     → (1 ≤ terms.n) × (terms.n ≤ most_elements)
-short long terms fits ef h = length_fits_lem terms (sym ef ∙ (both (eqb long 32) fits (not-false _ h)).1)
+short long terms fits ef h = length_fits_lem terms (sym ef ∙ (both (eqb long 32) fits h).1)
 
-pub few : (long : ℕ) (terms : Terms) (fits : Bool) → fits ≡ length_fits terms → not (eqb long 32 && fits) ≡ false
+pub few : (long : ℕ) (terms : Terms) (fits : Bool) → fits ≡ length_fits terms → eqb long 32 && fits ≡ true
     → (k : ℕ) → k ≡ block_count terms.n → k ≤ 16
 few long terms fits ef h k e =
     let fits = short long terms fits ef h in
@@ -98,11 +97,11 @@ module _ {last long : ℕ} (s : Dealer) (d : Deal) (el : s.last ≡ last) (es : 
   abbrev by_rule : ℕ
   by_rule = unless (rule_fits d.terms d.rule) out_of_range (unless (in_order d.rule) bad_marks 0)
 
-  pub unknown_code : not known ≡ true → bad_party_or_code ≡ why_not_deal s d room0 room1
+  pub unknown_code : known ≡ false → bad_party_or_code ≡ why_not_deal s d room0 room1
   unfolding why_not_deal
-  unknown_code h = turned_down _ _ _ (ap not (sym ek) ∙ h)
+  unknown_code h = unless_false _ _ _ (sym ek ∙ h)
 
-  module _ (coded : not known ≡ false) (fitting : Bool) (ef : fitting ≡ length_fits d.terms) where
+  module _ (coded : known ≡ true) (fitting : Bool) (ef : fitting ≡ length_fits d.terms) where
     past_code : {r : ℕ}
         → r
         ≡ unless (is_key d.seed && length_fits d.terms) wrong_length
@@ -110,54 +109,54 @@ module _ {last long : ℕ} (s : Dealer) (d : Deal) (el : s.last ≡ last) (es : 
         (unless (ltb s.last d.number) wrong_number by_rule))
         → r ≡ why_not_deal s d room0 room1
     unfolding why_not_deal
-    past_code h = goes_on _ _ _ (ap not (sym ek) ∙ coded) h
+    past_code h = unless_true _ _ _ (sym ek ∙ coded) h
 
-    lengths : {b : Bool} → not (eqb long 32 && fitting) ≡ b → not (is_key d.seed && length_fits d.terms) ≡ b
+    lengths : {b : Bool} → eqb long 32 && fitting ≡ b → is_key d.seed && length_fits d.terms ≡ b
     unfolding is_key
-    lengths h = ap₂ (λ (k : ℕ) (l : Bool). not (eqb k 32 && l)) es (sym ef) ∙ h
+    lengths h = ap₂ (λ (k : ℕ) (l : Bool). eqb k 32 && l) es (sym ef) ∙ h
 
-    pub bad_length : not (eqb long 32 && fitting) ≡ true → wrong_length ≡ why_not_deal s d room0 room1
-    bad_length h = past_code (turned_down _ _ _ (lengths h))
+    pub bad_length : eqb long 32 && fitting ≡ false → wrong_length ≡ why_not_deal s d room0 room1
+    bad_length h = past_code (unless_false _ _ _ (lengths h))
 
-    module _ (fit : not (eqb long 32 && fitting) ≡ false) (k : ℕ) (eb : k ≡ block_count d.terms.n) where
-      rooms : {b : Bool} → not (leb (block_bytes * k) room0 && leb (block_bytes * k) room1) ≡ b
-          → not (leb (half_size d.terms.n) room0 && leb (half_size d.terms.n) room1) ≡ b
+    module _ (fit : eqb long 32 && fitting ≡ true) (k : ℕ) (eb : k ≡ block_count d.terms.n) where
+      rooms : {b : Bool} → leb (block_bytes * k) room0 && leb (block_bytes * k) room1 ≡ b
+          → leb (half_size d.terms.n) room0 && leb (half_size d.terms.n) room1 ≡ b
       unfolding half_size
-      rooms h = ap (λ (m : ℕ). not (leb (block_bytes * m) room0 && leb (block_bytes * m) room1)) (sym eb) ∙ h
+      rooms h = ap (λ (m : ℕ). leb (block_bytes * m) room0 && leb (block_bytes * m) room1) (sym eb) ∙ h
 
-      pub no_room : not (leb (block_bytes * k) room0 && leb (block_bytes * k) room1) ≡ true
+      pub no_room : leb (block_bytes * k) room0 && leb (block_bytes * k) room1 ≡ false
           → short_buffer ≡ why_not_deal s d room0 room1
-      no_room h = past_code (goes_on _ _ _ (lengths fit) (turned_down _ _ _ (rooms h)))
+      no_room h = past_code (unless_true _ _ _ (lengths fit) (unless_false _ _ _ (rooms h)))
 
-      module _ (roomy : not (leb (block_bytes * k) room0 && leb (block_bytes * k) room1) ≡ false) where
+      module _ (roomy : leb (block_bytes * k) room0 && leb (block_bytes * k) room1 ≡ true) where
         past_rooms : {r : ℕ}
             → r ≡ unless (ltb s.last d.number) wrong_number by_rule
             → r ≡ why_not_deal s d room0 room1
-        past_rooms h = past_code (goes_on _ _ _ (lengths fit) (goes_on _ _ _ (rooms roomy) h))
+        past_rooms h = past_code (unless_true _ _ _ (lengths fit) (unless_true _ _ _ (rooms roomy) h))
 
-        above : {b : Bool} → not (ltb last d.number) ≡ b → not (ltb s.last d.number) ≡ b
-        above h = ap (λ (l : ℕ). not (ltb l d.number)) el ∙ h
+        above : {b : Bool} → ltb last d.number ≡ b → ltb s.last d.number ≡ b
+        above h = ap (λ (l : ℕ). ltb l d.number) el ∙ h
 
-        pub stale : not (ltb last d.number) ≡ true → wrong_number ≡ why_not_deal s d room0 room1
-        stale h = past_rooms (turned_down _ _ _ (above h))
+        pub stale : ltb last d.number ≡ false → wrong_number ≡ why_not_deal s d room0 room1
+        stale h = past_rooms (unless_false _ _ _ (above h))
 
-        module _ (fresh : not (ltb last d.number) ≡ false) (fits : Bool)
+        module _ (fresh : ltb last d.number ≡ true) (fits : Bool)
             (et : fits ≡ rule_fits d.terms d.rule) where
           past_number : {r : ℕ} → r ≡ by_rule → r ≡ why_not_deal s d room0 room1
-          past_number h = past_rooms (goes_on _ _ _ (above fresh) h)
+          past_number h = past_rooms (unless_true _ _ _ (above fresh) h)
 
-          pub out_of_range_lem : not fits ≡ true → out_of_range ≡ why_not_deal s d room0 room1
-          out_of_range_lem h = past_number (turned_down _ _ _ (ap not (sym et) ∙ h))
+          pub out_of_range_lem : fits ≡ false → out_of_range ≡ why_not_deal s d room0 room1
+          out_of_range_lem h = past_number (unless_false _ _ _ (sym et ∙ h))
 
-          module _ (in_range_lem : not fits ≡ false) (ordered : Bool) (eo : ordered ≡ in_order d.rule) where
-            pub bad_marks_lem : not ordered ≡ true → bad_marks ≡ why_not_deal s d room0 room1
+          module _ (in_range_lem : fits ≡ true) (ordered : Bool) (eo : ordered ≡ in_order d.rule) where
+            pub bad_marks_lem : ordered ≡ false → bad_marks ≡ why_not_deal s d room0 room1
             bad_marks_lem h =
-                past_number (goes_on _ _ _ (ap not (sym et) ∙ in_range_lem) (turned_down _ _ _ (ap not (sym eo) ∙ h)))
+                past_number (unless_true _ _ _ (sym et ∙ in_range_lem) (unless_false _ _ _ (sym eo ∙ h)))
 
-            pub deal_taken : not ordered ≡ false → 0 ≡ why_not_deal s d room0 room1
+            pub deal_taken : ordered ≡ true → 0 ≡ why_not_deal s d room0 room1
             deal_taken h =
                 past_number
-                (goes_on _ _ _ (ap not (sym et) ∙ in_range_lem) (goes_on _ _ _ (ap not (sym eo) ∙ h) refl))
+                (unless_true _ _ _ (sym et ∙ in_range_lem) (unless_true _ _ _ (sym eo ∙ h) refl))
 
 -- ---- the two halves
 

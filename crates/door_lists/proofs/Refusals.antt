@@ -136,8 +136,8 @@ neither false = refl
 
 pub unsound_refused : UnsoundRefused
 unfolding UnsoundRefused BoxCalls.load BoxCalls.trial BoxCalls.mask BoxCalls.take_vector BoxCalls.finish
-    BoxCalls.drop_set BoxCalls.why_not_load BoxCalls.why_not_mask BoxCalls.why_not_take BoxCalls.why_not_finish BoxCalls.why_not_message
-    BoxCalls.why_not_drop BoxCalls.in_turn unless if_taken
+    BoxCalls.drop_set BoxCalls.why_not_load BoxCalls.why_not_mask BoxCalls.why_not_take BoxCalls.why_not_finish
+    BoxCalls.why_not_message BoxCalls.why_not_drop BoxCalls.in_turn unless if_taken
 unsound_refused w b e =
     let phase : ℕ = (w.box b).check.phase in
     record {
