@@ -17,7 +17,8 @@ module _ (v m out : List ℕ) where
   unfolding mask_fits masked_over
   mask_short h = rw (lt-leb (length v) (length m) h) (refl, refl)
 
-  pub out_short : length v ≤ length m → length out < length v → (false ≡ mask_fits v m out) × (out ≡ masked_over v m out)
+  pub out_short : length v ≤ length m → length out < length v
+      → (false ≡ mask_fits v m out) × (out ≡ masked_over v m out)
   unfolding mask_fits masked_over
   out_short h i = rw (le-leb (length v) (length m) h, lt-leb (length v) (length out) i) (refl, refl)
 
