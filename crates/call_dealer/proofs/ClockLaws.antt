@@ -1,27 +1,23 @@
 -- Of a good table the deal by the clock is the plain deal with the chosen row's threshold: what was tested, and the
 -- places (02, §5). Assumes nothing. [SPEC 14.5, 14.6, 23.8, 33.4, 33.5]
-use Rattle.std.specs.Prelude.{◌≡◌, Bool, ◌&&◌, List, ℕ, zero, suc, ◌≤◌, ◌<◌, eqb, ltb, length, get_or}
+use Rattle.std.specs.Prelude.{◌≡◌, Bool, ◌&&◌, List, ℕ, ◌≤◌, ◌<◌, eqb, ltb, length}
 use Rattle.std.proofs.Math.Path.{refl}
-use Rattle.std.proofs.Common.{sym, ap, subst, ◌∙◌, arith}
+use Rattle.std.proofs.Common.{sym, ap, ◌∙◌, arith}
 use Rattle.std.proofs.Math.Bool.{true, false, cond}
 use borrow.Author.Tests.{le-ltb, ltb-true, ltb-false, eqb-true, eqb-false, ne_eqb}
 use Rattle.std.proofs.Math.Dec.{leb}
 use Rattle.base_algebra.specs.Bit.{neither}
-use Rattle.base_algebra.specs.Word.{signed}
-use Rattle.measure_table.specs.declared.Terms.{Terms}
 use Rattle.measure_table.specs.declared.Rule.TheVariants.{Threshold}
-use Rattle.measure_table.specs.Measure.{row as row_of, scalar_product, squared_euclid, hamming, within, threshold_fits}
 use Rattle.measure_table.specs.Measure.{rule_fits, in_order, is_code, length_fits}
 use Rattle.base_messages.specs.Messages.{bad_party_or_code, wrong_length, short_buffer, wrong_number, out_of_range}
-use Rattle.base_messages.specs.Messages.{bad_rows, more_rows, is_key, unless, if_taken}
+use Rattle.base_messages.specs.Messages.{bad_rows, is_key, unless, if_taken}
 use Rattle.call_day.specs.declared.Choice.{Choice}
-use Rattle.call_day.specs.Table.{day, no_threshold, why_not_table, choose}
+use Rattle.call_day.specs.Table.{day, why_not_table, choose}
 use Rattle.call_day.specs.Claims.{Good, Chosen}
 use Rattle.call_day.proofs.Claims.{taken_good, good_taken, chosen, past_day}
-use Rattle.half_deal.specs.Dealing.{deal_from}
 use Rattle.call_dealer.specs.Dealer.{half_size, until_rule, why_not_deal, deal, deal_out}
 use Rattle.call_dealer.specs.Laws.{deal_tells}
-use Rattle.call_dealer.specs.Clock.{ClockDeal, row_deal, deal_at, why_not_by_clock, place_by_clock, deal_by_clock}
+use Rattle.call_dealer.specs.Clock.{ClockDeal, deal_at, why_not_by_clock, place_by_clock, deal_by_clock}
 use Rattle.call_dealer.specs.Clock.{clock_out}
 use Rattle.call_dealer.specs.declared.Dealer.{Dealer}
 use Rattle.call_dealer.specs.ClockLaws.{nobody_takes, table_first, ClockTells, table_numbers}

@@ -1,28 +1,22 @@
 -- Accepted by the clock is the plain deal with the chosen row's threshold (02, §5), and what each refusal comes with.
 -- Assumes nothing. [SPEC 14.5, 14.6, 23.8, 33.4, 33.5]
-use Rattle.std.specs.Prelude.{◌≡◌, Bool, ◌&&◌, List, ℕ, zero, suc, ◌≤◌, ◌<◌, eqb, ltb, length, get_or}
+use Rattle.std.specs.Prelude.{◌≡◌, ℕ, zero, suc, ◌≤◌, ◌<◌, get_or}
 use Rattle.std.proofs.Math.Path.{refl}
 use Rattle.std.proofs.Common.{sym, ap, subst, ◌∙◌, arith}
-use Rattle.std.proofs.Math.Bool.{true, false, cond}
-use borrow.Author.Tests.{le-ltb, ltb-true, ltb-false, eqb-true, eqb-false, ne_eqb}
-use Rattle.std.proofs.Math.Dec.{leb}
-use Rattle.base_algebra.specs.Bit.{neither}
+use Rattle.std.proofs.Math.Bool.{false}
+use borrow.Author.Tests.{ne_eqb}
 use Rattle.base_algebra.specs.Word.{signed}
 use Rattle.measure_table.specs.declared.Terms.{Terms}
 use Rattle.measure_table.specs.declared.Rule.TheVariants.{Threshold}
 use Rattle.measure_table.specs.Measure.{row as row_of, scalar_product, squared_euclid, hamming, within, threshold_fits}
-use Rattle.measure_table.specs.Measure.{rule_fits, in_order, is_code, length_fits}
-use Rattle.base_messages.specs.Messages.{bad_party_or_code, wrong_length, short_buffer, wrong_number, out_of_range}
-use Rattle.base_messages.specs.Messages.{bad_rows, more_rows, is_key, unless, if_taken}
-use Rattle.call_day.specs.declared.Choice.{Choice}
-use Rattle.call_day.specs.Table.{day, no_threshold, why_not_table, choose}
-use Rattle.call_day.specs.Claims.{Says, good, lists, row, none, more, Good, Chosen, InRow}
-use Rattle.call_day.proofs.Claims.{told, taken_good, good_taken, chosen, past_day}
+use Rattle.measure_table.specs.Measure.{rule_fits}
+use Rattle.base_messages.specs.Messages.{bad_rows, more_rows, if_taken}
+use Rattle.call_day.specs.Table.{day, no_threshold, why_not_table}
+use Rattle.call_day.specs.Claims.{Says, good, lists, row, none, more, Good, InRow}
+use Rattle.call_day.proofs.Claims.{told, chosen}
 use Rattle.half_deal.specs.Dealing.{deal_from}
-use Rattle.call_dealer.specs.Dealer.{half_size, until_rule, why_not_deal, deal, deal_out}
-use Rattle.call_dealer.specs.Laws.{deal_tells}
+use Rattle.call_dealer.specs.Dealer.{why_not_deal}
 use Rattle.call_dealer.specs.Clock.{ClockDeal, row_deal, deal_at, why_not_by_clock, place_by_clock, deal_by_clock}
-use Rattle.call_dealer.specs.Clock.{clock_out}
 use Rattle.call_dealer.specs.declared.Dealer.{Dealer}
 
 -- the threshold of no row, under every code

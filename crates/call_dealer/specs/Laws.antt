@@ -1,15 +1,13 @@
 -- What an accepted start and an accepted deal have been tested for, that the set which a deal gives each party is
 -- proper, what the set's sign moves of a half (02, §2), and when a deal is turned down by 13 (02, §4). Assumes nothing.
-use Rattle.std.specs.Prelude.{◌≡◌, refl, Bool, true, false, not, ◌&&◌, List, ℕ, ◌^◌, ◌<◌, ◌≤◌, leb, ltb, length}
-use Rattle.std.proofs.Common.{sym, ap, arith, eqb-true, leb-true, ltb-true}
-use Rattle.base_algebra.specs.Bit.{both, neither}
+use Rattle.std.specs.Prelude.{◌≡◌, refl, true, false, not, ◌&&◌, List, ℕ, ◌^◌, ◌<◌, ◌≤◌, leb, ltb, length}
+use Rattle.std.proofs.Common.{ap, eqb-true, leb-true, ltb-true}
+use Rattle.base_algebra.specs.Bit.{both}
 use Rattle.base_words.specs.List.{same}
 use Rattle.measure_table.specs.declared.Terms.{Terms}
 use Rattle.measure_table.specs.declared.Rule.{Rule}
-use Rattle.measure_table.specs.declared.Rule.TheVariants.{Threshold}
 use Rattle.measure_table.specs.Measure.{is_code, length_fits, rule_fits, in_order, width_of, mark_of}
 use Rattle.measure_table.specs.Laws.{scalar_sign}
-use Rattle.base_messages.specs.Messages.{bad_party_or_code, wrong_length, short_buffer, wrong_number, out_of_range}
 use Rattle.base_messages.specs.Messages.{bad_marks}
 use Rattle.base_messages.specs.Messages.{unless, name_fits, is_key}
 use Rattle.base_messages.specs.Laws.{passed}
