@@ -21,20 +21,9 @@ returns-then-text-gt-LIMIT-clause-text_after c =
     long_text c.args.text.now c.if-text-gt-LIMIT.true in
     rw long refl
 
-pub returns-then-equal-clause-value : goal.returns-then-equal-clause-value
+pub returns-then-equal : goal.returns-then-equal
 unfolding opens opened_text cipher tag_for
-returns-then-equal-clause-value c =
-    let a = c.args in
-    let short : within a.text.now ≡ true = short_text a.text.now c.if-text-gt-LIMIT.false in
-    let fits : same (tag_for a.key.now a.nonce.now a.aad.now a.text.now) a.tag.now ≡ true =
-    ap (λ t. same t a.tag.now)
-    (sym (c.tag_by-expected.ensures ∙ ap (λ k. mac k (mac_data a.aad.now a.text.now)) c.requires))
-    ∙ sym c.equal.ensures ∙ c.if-equal.true in
-    rw (short, fits) refl
-
-pub returns-then-equal-clause-text_after : goal.returns-then-equal-clause-text_after
-unfolding opens opened_text cipher tag_for
-returns-then-equal-clause-text_after c =
+returns-then-equal c =
     let a = c.args in
     let short : within a.text.now ≡ true = short_text a.text.now c.if-text-gt-LIMIT.false in
     let fits : same (tag_for a.key.now a.nonce.now a.aad.now a.text.now) a.tag.now ≡ true =
@@ -43,26 +32,15 @@ returns-then-equal-clause-text_after c =
     ∙ sym c.equal.ensures ∙ c.if-equal.true in
     let done = c.xor.ensures ∙ ap₂ (λ k n. xored k 1 n a.text.now)
     c.key_words.ensures c.nonce_words.ensures in
-    rw (short, fits) done
+    record { value = rw (short, fits) refl; text_after = rw (short, fits) done }
 
-pub returns-else-equal-clause-value : goal.returns-else-equal-clause-value
+pub returns-else-equal : goal.returns-else-equal
 unfolding opens opened_text tag_for
-returns-else-equal-clause-value c =
+returns-else-equal c =
     let a = c.args in
     let short : within a.text.now ≡ true = short_text a.text.now c.if-text-gt-LIMIT.false in
     let fails : same (tag_for a.key.now a.nonce.now a.aad.now a.text.now) a.tag.now ≡ false =
     ap (λ t. same t a.tag.now)
     (sym (c.tag_by-expected.ensures ∙ ap (λ k. mac k (mac_data a.aad.now a.text.now)) c.requires))
     ∙ sym c.equal.ensures ∙ c.if-equal.false in
-    rw (short, fails) refl
-
-pub returns-else-equal-clause-text_after : goal.returns-else-equal-clause-text_after
-unfolding opens opened_text tag_for
-returns-else-equal-clause-text_after c =
-    let a = c.args in
-    let short : within a.text.now ≡ true = short_text a.text.now c.if-text-gt-LIMIT.false in
-    let fails : same (tag_for a.key.now a.nonce.now a.aad.now a.text.now) a.tag.now ≡ false =
-    ap (λ t. same t a.tag.now)
-    (sym (c.tag_by-expected.ensures ∙ ap (λ k. mac k (mac_data a.aad.now a.text.now)) c.requires))
-    ∙ sym c.equal.ensures ∙ c.if-equal.false in
-    rw (short, fails) refl
+    record { value = rw (short, fails) refl; text_after = rw (short, fails) refl }

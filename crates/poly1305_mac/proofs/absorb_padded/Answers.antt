@@ -1,14 +1,8 @@
 use Rattle.poly1305_mac.proofs.Pieces.{padded_none, padded_left}
 use Rattle.poly1305_mac.proofs.absorb_padded.Goals as goal
 
-pub returns-then-m-eq0-clause-limbs_3 : goal.returns-then-m-eq0-clause-limbs_3
-returns-then-m-eq0-clause-limbs_3 c = c.absorb_blocks-a.ensures.limbs_3
-
 pub returns-then-m-eq0-clause-fact : goal.returns-then-m-eq0-clause-fact
 returns-then-m-eq0-clause-fact c = padded_none _ _ _ c.absorb_blocks-a.ensures.fact c.if-m-eq0.true
-
-pub returns-clause-limbs_3 : goal.returns-clause-limbs_3
-returns-clause-limbs_3 c = c.absorb_blocks.ensures.limbs_3
 
 pub returns-clause-fact : goal.returns-clause-fact
 returns-clause-fact c = padded_left _ _ _ c.absorb_blocks-a.ensures.fact _
