@@ -1,6 +1,6 @@
 use native.Mathlib.Omega.{arith}
-use Rattle.measure_margin.specs.Laws.{same_length, not_above, absolute_most, refused_answer, reached_answer}
-use Rattle.measure_margin.specs.Laws.{missed_answer}
+use Rattle.measure_margin.specs.Laws.{refused_answer}
+use Rattle.measure_margin.proofs.Laws.{same_length, not_above, absolute_most, reached_answer, missed_answer}
 use Rattle.std.proofs.Common.{rules}
 use Rattle.measure_margin.proofs.margin.Goals as goal
 

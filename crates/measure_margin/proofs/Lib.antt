@@ -1,0 +1,3 @@
+pub mod Cases
+pub mod Claims
+pub mod Laws
