@@ -14,7 +14,7 @@ use Rattle.dcf_node.specs.Node.{value_at}
 use Rattle.measure_table.specs.Measure.{ordinary_mark, between_mark, ordinary_width, sign, k_word}
 use Rattle.measure_table.specs.Laws.{scalar_sign, distance_sign, marked_sign}
 use Rattle.share_vectors.specs.Share as Share
-use Rattle.share_vectors.proofs.Claims.{word_plain, word_close, answer_ordinary}
+use Rattle.share_vectors.specs.Claims.{word_plain, word_close, answer_ordinary}
 use Rattle.base_messages.specs.declared.Label.{Label}
 use Rattle.base_messages.specs.Messages.{out_of_turn, wrong_length, wrong_message, wrong_number, office_party, unless}
 use Rattle.base_messages.specs.Messages.{expected}

@@ -6,7 +6,7 @@ use Rattle.std.proofs.Common.{ap₂}
 use Rattle.measure_table.specs.declared.Terms.{Terms}
 use Rattle.measure_table.specs.declared.Rule.{Rule}
 use Rattle.measure_table.specs.Measure.{sign, offset_of, width_of, mark_of}
-use Rattle.share_vectors.proofs.Claims.{other_r_plain}
+use Rattle.share_vectors.specs.Claims.{other_r_plain}
 use Rattle.half_content.specs.declared.Set.{Set}
 use Rattle.half_deal.specs.Dealing.{set_words, r, r0, Deal, deal_from, r_of, set_with, set_from, dealt_set}
 use Rattle.half_deal.specs.Close.{set_by01}

@@ -8,7 +8,7 @@ use Rattle.std.proofs.Math.Path.{ap}
 use Rattle.base_algebra.specs.Word.{add, sub}
 use Rattle.base_words.specs.Bytes.{le32}
 use Rattle.measure_table.specs.Measure.{sign, offset_of, mark_of}
-use Rattle.share_vectors.proofs.Claims.{other_r_close}
+use Rattle.share_vectors.specs.Claims.{other_r_close}
 use Rattle.half_content.specs.declared.Set.{Set}
 use Rattle.half_content.specs.Content.{r_field, fields}
 use Rattle.half_deal.specs.Dealing.{set_words, r, r0, Deal, r_of, set_with, set_from, dealt_set}

@@ -1,7 +1,8 @@
 -- Claim opened-sum: whatever the masks, the two boxes' words sum to measure - T + r, and with sign -1 to
 -- T - measure + r, where T is the threshold or the first mark. Claim join law: whatever the key seeds, their answers
 -- sum to 1 if the rule that was dealt is met, else to 0. Both over free words: where they come from is another layer's
--- matter; and over either sign. And that the formulas are equal to the papers'. Assumes nothing.
+-- matter; and over either sign. That the formulas are equal to the papers' stands in `specs/Claims.antt`. Assumes
+-- nothing.
 use Rattle.std.specs.Prelude.{◌≡◌, true, List, [], ◌∷◌, ℤ, pos, neg_ℤ, ◌-ℤ◌, ◌*ℤ◌, get_or}
 use Rattle.std.proofs.Math.Path.{refl, ap}
 use Rattle.std.proofs.Common.{sym, ap₂, ◌∙◌, arith}
@@ -9,82 +10,21 @@ use Prim.Native.Nat.{ℕ, zero, suc, ◌+◌, ◌^◌, ◌<◌}
 use Rattle.base_algebra.specs.Mod.{m_eq}
 use Rattle.base_algebra.specs.Integer.{residue}
 use Rattle.base_algebra.specs.Ring.{ring}
-use Rattle.base_algebra.specs.Word.{words, add, sub, neg, mul, signed, ◌≈◌, signed≈, add_lt, sub_lt, same_word}
-use Rattle.base_algebra.specs.Bit.{only, less, odd}
+use Rattle.base_algebra.specs.Word.{words, add, sub, mul, signed, ◌≈◌, signed≈, add_lt, sub_lt}
+use Rattle.base_algebra.specs.Bit.{only, odd}
 use Rattle.base_algebra.specs.Sum.{sum, sum_ext}
 use Rattle.base_words.specs.List.{get_or_tab}
-use Rattle.dcf_function.specs.Interval.{interval}
-use Rattle.dcf_node.specs.Node.{key_for, value_at}
-use Rattle.dcf_node.proofs.Claims.{shares}
-use Rattle.dcf_node.specs.declared.Key.{Key}
+use Rattle.dcf_node.specs.Node.{key_for}
 use Rattle.measure_table.specs.declared.Terms.{Terms}
 use Rattle.measure_table.specs.declared.Rule.{Rule}
-use Rattle.measure_table.specs.Measure.{length_fits, all_in_range, measure, sign, difference, ordinary_width}
+use Rattle.measure_table.specs.Measure.{length_fits, all_in_range, measure, sign, difference}
 use Rattle.measure_table.specs.Measure.{meets, rule_fits, in_order, offset_of, width_of, mark_of}
 use Rattle.measure_table.specs.Measure.{k_word, sign_word, own_word, carried}
-use Rattle.measure_table.specs.Laws.{sign_word_plain, sign_word_close, width_most}
+use Rattle.measure_table.specs.Laws.{width_most}
 use Rattle.measure_table.specs.Laws.{difference_plain, difference_close}
 use Rattle.measure_table.proofs.Laws.{measure≈, sign_word≈, meets_width}
-use Rattle.share_vectors.specs.Share.{plus, inner, other_c, other_r, share, box_word, answer, ideal_gate}
-
--- ---- the papers' own formulas. With sign 1 they are 01's ..
-
-module _ (terms : Terms) (mark : ℕ) (plain : sign terms mark ≡ pos 1) where
-  -- "its word: k × (share) + own + its r" [SPEC 17.4]
-  pub word_plain : (s own r : ℕ) → box_word terms mark s own r ≡ add (add (mul (k_word terms) s) own) r
-  unfolding box_word
-  word_plain s own r =
-      ap (λ (g : ℕ). add (mul g (add (mul (k_word terms) s) own)) r) (sign_word_plain terms mark plain)
-      ∙ same_word (once (k_word terms) s own r) (add_lt _ _) (add_lt _ _)
-    where
-      once : (k s o r : ℕ) → add (mul 1 (add (mul k s) o)) r ≈ add (add (mul k s) o) r
-      once k s o r = ring (k ∷ s ∷ o ∷ r ∷ []) (search words depth 40 fits 5000) refl
-
-  -- "r1 = r - T - r0" [SPEC 5.8]
-  pub other_r_plain : (r t r0 : ℕ) → other_r terms mark r t r0 ≡ sub (sub r t) r0
-  unfolding other_r
-  other_r_plain r t r0 =
-      ap (λ (g : ℕ). sub (sub r (mul g t)) r0) (sign_word_plain terms mark plain)
-      ∙ same_word (once r t r0) (sub_lt _ _) (sub_lt _ _)
-    where
-      once : (r t r0 : ℕ) → sub (sub r (mul 1 t)) r0 ≈ sub (sub r t) r0
-      once r t r0 = ring (r ∷ t ∷ r0 ∷ []) (search words depth 40 fits 5000) refl
-
--- .. and with sign -1 those of 02, §2
-
-module _ (terms : Terms) (mark : ℕ) (close : sign terms mark ≡ neg_ℤ (pos 1)) where
-  -- "a box's word is its r minus (k × (share) + own)" [SPEC 17.4]
-  pub word_close : (s own r : ℕ) → box_word terms mark s own r ≡ sub r (add (mul (k_word terms) s) own)
-  unfolding box_word
-  word_close s own r =
-      ap (λ (g : ℕ). add (mul g (add (mul (k_word terms) s) own)) r) (sign_word_close terms mark close)
-      ∙ same_word (turned (k_word terms) s own r) (add_lt _ _) (sub_lt _ _)
-    where
-      turned : (k s o r : ℕ) → add (mul (neg 1) (add (mul k s) o)) r ≈ sub r (add (mul k s) o)
-      turned k s o r = ring (k ∷ s ∷ o ∷ r ∷ []) (search words depth 40 fits 5000) refl
-
-  -- "r1 = r + T - r0" [SPEC 5.8]
-  pub other_r_close : (r t r0 : ℕ) → other_r terms mark r t r0 ≡ sub (add r t) r0
-  unfolding other_r
-  other_r_close r t r0 =
-      ap (λ (g : ℕ). sub (sub r (mul g t)) r0) (sign_word_close terms mark close)
-      ∙ same_word (turned r t r0) (sub_lt _ _) (sub_lt _ _)
-    where
-      turned : (r t r0 : ℕ) → sub (sub r (mul (neg 1) t)) r0 ≈ sub (add r t) r0
-      turned r t r0 = ring (r ∷ t ∷ r0 ∷ []) (search words depth 40 fits 5000) refl
-
-half : (z : ℕ) → sub z (2 ^ 31) ≡ add z (2 ^ 31)
-unfolding add sub
-half z = omega arith
-
--- "its answer is value at Z + 2^31 minus value at Z, and party 1 adds 1 if Z < 2^31" [SPEC 18.3, 18.4]
-pub answer_ordinary : (party : ℕ) (key : Key) (seed : List ℕ) (z : ℕ)
-    → answer ordinary_width party key seed z
-    ≡ add
-    (sub (value_at party key seed (add z (2 ^ 31))) (value_at party key seed z))
-    (only (odd party) (less z (2 ^ 31)))
-unfolding answer add
-answer_ordinary party key seed z = rw (half z) refl
+use Rattle.share_vectors.specs.Share.{plus, inner, other_c, other_r, share, box_word, answer}
+use Rattle.share_vectors.specs.Claims.{ideal, width_test}
 
 -- ---- the products: X · Y = MX · MY + mx · my - MX · my - MY · mx, where MX = X + mx and mx = x0 + x1
 
@@ -250,35 +190,6 @@ module _ (terms : Terms) (mark t : ℕ) (x y x0 x1 y0 y1 : List ℕ) (c0 r r0 : 
   opened_close close = rw (sym (difference_close terms mark close (measure terms x y) (signed t))) opened_sum
 
 -- ---- the join law
-
--- Over any width, any key seeds, any point r and any z, the two answers sum to what the ideal gate gives ..
-pub ideal : (w : ℕ) (k0 k1 : List ℕ) (r z : ℕ) → r < 2 ^ 32 → z < 2 ^ 32
-    → add (answer w 0 (key_for k0 k1 r) k0 z) (answer w 1 (key_for k0 k1 r) k1 z) ≡ ideal_gate w r z
-unfolding answer ideal_gate only odd
-ideal w k0 k1 r z hr hz =
-    let key = key_for k0 k1 r in
-    let end : ℕ = add w 1 in
-    let u : ℕ = sub z end in
-    same_word
-    (apart (value_at 0 key k0 u) (value_at 0 key k0 z) (value_at 1 key k1 u) (value_at 1 key k1 z) (less z end))
-    (add_lt _ _)
-    (add_lt _ _)
-    ∙ rw (shares k0 k1 r u hr (sub_lt z end), shares k0 k1 r z hr hz) refl
-  where
-    apart : (a0 b0 a1 b1 c : ℕ) → add (add (sub a0 b0) 0) (add (sub a1 b1) c) ≈ add (sub (add a0 a1) (add b0 b1)) c
-    apart a0 b0 a1 b1 c = ring (a0 ∷ b0 ∷ a1 ∷ b1 ∷ c ∷ []) (search words depth 40 fits 5000) refl
-
-next : (w : ℕ) → w + 1 < 2 ^ 32 → add w 1 ≡ w + 1
-unfolding add
-next w h = omega arith
-
--- .. which is whether z - r lies from 0 to the width; at the ordinary one, below 2^31: the sign test
-pub width_test : (w r z : ℕ) → w + 1 < 2 ^ 32 → r < 2 ^ 32 → z < 2 ^ 32 → ideal_gate w r z ≡ less (sub z r) (w + 1)
-unfolding ideal_gate
-width_test w r z hw hr hz = rw (next w hw) (interval r z w hr hz hw)
-
-pub sign_test : (r z : ℕ) → r < 2 ^ 32 → z < 2 ^ 32 → ideal_gate ordinary_width r z ≡ less (sub z r) (2 ^ 31)
-sign_test r z hr hz = width_test ordinary_width r z (omega arith) hr hz
 
 -- Claim join law: for every vector in range, every rule that a deal takes, every mask, every r and every two key seeds
 pub join_law : (terms : Terms) (rule : Rule) (x y x0 x1 y0 y1 : List ℕ) (c0 r r0 : ℕ) (k0 k1 : List ℕ)

@@ -1,1 +1,2 @@
 pub mod Share
+pub mod Claims
