@@ -1,6 +1,6 @@
 /*
- * The front of target/c/libdoor.a. The archive has every call three times, compiled from one proved
- * module for three levels of x86-64 processors; c/library joins them to this file. When the program
+ * The front of target/c/libdoor.a. The archive has every call three times, compiled from the same proved
+ * crates for three levels of x86-64 processors; c/library joins them to this file. When the program
  * is loaded, choose() takes the best level that processor and operating system have, or a lower one
  * that the environment variable DOOR_LEVEL names.
  *
