@@ -1,5 +1,5 @@
--- What the code that tells a margin is tied to, as far as it rests on the claims: an accepted Y, and the answer read off
--- the word of the product less T. Assumes nothing. [SPEC 36.2, 36.5, 36.7, 36.8]
+-- What the code that tells a margin is tied to, as far as it rests on the claims: an accepted Y, and the answer read
+-- off the word of the product less T. Assumes nothing. [SPEC 36.2, 36.5, 36.7, 36.8]
 use Rattle.std.specs.Prelude.{◌≡◌, Bool, List, [], ◌∷◌, ℕ, suc, ◌-◌, ◌^◌, ◌<◌, ◌≤◌, ℤ, pos, negsuc}
 use Rattle.std.specs.Prelude.{neg_ℤ, nat_abs, ◌-ℤ◌, length}
 use Rattle.std.proofs.Math.Path.{refl, sym, ap}
