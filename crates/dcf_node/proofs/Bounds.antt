@@ -16,7 +16,8 @@ use Rattle.dcf_node.specs.Claims.{length_corrections}
 use Rattle.dcf_node.proofs.Claims.{at_level}
 use Rattle.dcf_node.specs.Bounds.{Fits, level_fits, correction_eight}
 
-corrections_fit : (k0 k1 : List ℕ) (r n : ℕ) (d : Correction) (i : ℕ) → i < n → Fits (get_or (corrections k0 k1 r n) i d)
+corrections_fit : (k0 k1 : List ℕ) (r n : ℕ) (d : Correction) (i : ℕ) → i < n
+    → Fits (get_or (corrections k0 k1 r n) i d)
 unfolding corrections D.key_correction
 corrections_fit k0 k1 r zero d i h = absurd (omega arith)
 corrections_fit k0 k1 r (suc n) d i h = go (ltb i n) refl (corrections_fit k0 k1 r n d i)

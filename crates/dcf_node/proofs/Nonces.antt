@@ -31,8 +31,8 @@ module _ (level : ℕ) (fits : level < 2 ^ 32) where
 pub separate : (a b : ℕ) → a < 2 ^ 32 → b < 2 ^ 32 → bytes_of (node_nonce a) ≡ bytes_of (node_nonce b) → a ≡ b
 separate a b ha hb e = sym (level_in a ha) ∙ ap (λ (n : List ℕ). word_at n 4) e ∙ level_in b hb
 
--- a child is read off RFC 8439's block of a key of 32 bytes and this nonce of 12. That the seeds which are opened have eight
--- words, if the key seeds do, is Bounds.`making_eight`, `walk_eight`
+-- a child is read off RFC 8439's block of a key of 32 bytes and this nonce of 12. That the seeds which are opened have
+-- eight words, if the key seeds do, is Bounds.`making_eight`, `walk_eight`
 module _ (i : ℕ) (level : i < 32) (seed : List ℕ) (long : Words 8 seed) (side : Bool) where
   abbrev counter : ℕ
   counter = only side 1

@@ -1,6 +1,7 @@
 -- What claim comparison (`proofs/Claims.antt`) knows of a key's seeds and corrections. And a node in bytes. Assumes
 -- nothing.
-use Rattle.std.specs.Prelude.{◌≡◌, refl, Bool, true, false, List, [], ◌∷◌, ℕ, zero, suc, ◌+◌, ◌*◌, ◌/◌, ◌%◌, ◌^◌, ◌<◌, length, get_or, take, eqb}
+use Rattle.std.specs.Prelude.{◌≡◌, refl, Bool, true, false, List, [], ◌∷◌, ℕ, zero, suc, ◌+◌, ◌*◌, ◌/◌, ◌%◌, ◌^◌, ◌<◌}
+use Rattle.std.specs.Prelude.{length, get_or, take, eqb}
 use Rattle.std.proofs.Common.{◌∙◌, ap, arith, length-append, length-take-le}
 use Rattle.base_algebra.specs.Word.{add_lt}
 use Rattle.base_algebra.specs.Bit.{only, odd}

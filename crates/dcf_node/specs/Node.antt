@@ -16,7 +16,7 @@ child b = record { seed = take 8 b; word = get_or b 8 0; flag = odd (get_or b 9 
 
 -- the three words of the nonce under which a node is opened into children of this level: "nonce bytes 4 to 7 hold the
 -- level as a little-endian word, 1 for the root's children up to 32" (02, §3), and 01's zeros elsewhere. In bytes:
--- Nonce.`nonce-bytes` [SPEC 6.7, 6.8]
+-- Nonce.`nonce_bytes` [SPEC 6.7, 6.8]
 unfoldable pub node_nonce : ℕ → List ℕ
 node_nonce level = 0 ∷ level ∷ 0 ∷ []
 

@@ -1,6 +1,6 @@
--- Each level its own nonce (02, §3): the nonce in bytes, and that in every key and every walk the root's children are of
--- level 1, and so on to 32. That no two levels have the same, and that a child is read off RFC 8439's block under it,
--- stands in `proofs/Nonces.antt`. Assumes nothing. [SPEC 6.2 to 6.8, 7.2, 7.3, 8.1, 8.3]
+-- Each level its own nonce (02, §3): the nonce in bytes, and that in every key and every walk the root's children are
+-- of level 1, and so on to 32. That no two levels have the same, and that a child is read off RFC 8439's block under
+-- it, stands in `proofs/Nonces.antt`. Assumes nothing. [SPEC 6.2 to 6.8, 7.2, 7.3, 8.1, 8.3]
 use Rattle.std.specs.Prelude.{◌≡◌, Bool, true, false, ℕ, suc, ◌+◌, replicate}
 use Rattle.std.proofs.Math.Path.{refl}
 use mathlib.Core.List.{List, ◌++◌}

@@ -112,8 +112,10 @@ module _ (terms : Terms) (mark t : ℕ) (x y x0 x1 y0 y1 : List ℕ) (c0 r r0 : 
       (add (inner n masked_y x0) (inner n masked_y x1))
   inners =
       let it : (v : List ℕ) (i : ℕ) → i < n → get_or v i 0 ≡ get_or v i 0 = λ v i h. refl in
-      let mx : (i : ℕ) → i < n → get_or mask_x i 0 ≡ add (get_or x0 i 0) (get_or x1 i 0) = λ i h. at_place n i x0 x1 h in
-      let my : (i : ℕ) → i < n → get_or mask_y i 0 ≡ add (get_or y0 i 0) (get_or y1 i 0) = λ i h. at_place n i y0 y1 h in
+      let mx : (i : ℕ) → i < n → get_or mask_x i 0 ≡ add (get_or x0 i 0) (get_or x1 i 0) =
+      λ i h. at_place n i x0 x1 h in
+      let my : (i : ℕ) → i < n → get_or mask_y i 0 ≡ add (get_or y0 i 0) (get_or y1 i 0) =
+      λ i h. at_place n i y0 y1 h in
       let MX : (i : ℕ) → i < n → get_or masked_x i 0 ≡ add (get_or cx i 0) (add (get_or x0 i 0) (get_or x1 i 0)) =
       λ i h. at_place n i cx mask_x h ∙ ap (add (get_or cx i 0)) (mx i h) in
       let MY : (i : ℕ) → i < n → get_or masked_y i 0 ≡ add (get_or cy i 0) (add (get_or y0 i 0) (get_or y1 i 0)) =

@@ -1,7 +1,7 @@
 -- What a box computes in one check, and what the dealer computes for it, over free words (01, "Dealing a set" and "One
 -- check at a box"; 02, §2 and §4). A party is its number: 0 the camera box, 1 the office box. With a set's sign 1 the
--- formulas are equal to 01's, with -1 to 02's (Claims.`word-plain`, `other-r-plain`, `word-close`, `other-r-close`). An
--- ordinary set's mark is 0, and its width 2^31 - 1 (`answer-ordinary`). Assumes nothing.
+-- formulas are equal to 01's, with -1 to 02's (Claims.`word_plain`, `other_r_plain`, `word_close`, `other_r_close`). An
+-- ordinary set's mark is 0, and its width 2^31 - 1 (`answer_ordinary`). Assumes nothing.
 -- [SPEC 5.7, 5.8, 16.2, 17.3, 17.4, 18.3, 18.4]
 use Rattle.std.specs.Prelude.{List, ℕ, get_or}
 use Rattle.base_algebra.specs.Word.{add, sub, mul}
@@ -33,7 +33,8 @@ other_r terms mark r t r0 = sub (sub r (mul (sign_word terms mark) t)) r0
 -- call 3: "share = its c - sum(MX × its Y share) - sum(MY × its X share), plus sum(MX × MY) at party 1" [SPEC 17.3]
 unfoldable pub share : ℕ → ℕ → ℕ → List ℕ → List ℕ → List ℕ → List ℕ → ℕ
 share party n c masked_x masked_y share_x share_y =
-    add (sub (sub c (inner n masked_x share_y)) (inner n masked_y share_x)) (only (odd party) (inner n masked_x masked_y))
+    add (sub (sub c (inner n masked_x share_y)) (inner n masked_y share_x))
+    (only (odd party) (inner n masked_x masked_y))
 
 -- call 3: "its word: k × (share) + own + its r", and with sign -1 "its r minus (k × (share) + own)". Terms, mark,
 -- share, own, r [SPEC 17.4]
