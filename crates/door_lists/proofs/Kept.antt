@@ -17,7 +17,7 @@ use Rattle.call_party.specs.Party as BoxCalls
 use Rattle.call_party.specs.Party.{idle, why_not_load, why_not_mask, why_not_take, why_not_finish, why_not_drop}
 use Rattle.call_party.specs.Party.{masked_vector}
 use Rattle.call_party.specs.Laws.{water_of, load_tells}
-use Rattle.door_lists.specs.Lists.{Box, camera, office, party_of, other, World, Starts, Message, finish}
+use Rattle.door_lists.specs.Lists.{Box, camera, office, party_of, other, World, Starts, Message}
 use Rattle.door_lists.specs.Lists.{Event, dealt, loaded, sent, dropped, vector, word, answer, masked_by, In}
 use Rattle.door_lists.specs.Lists.{Written, Sent, SentVector, SentWord}
 use Rattle.door_lists.proofs.Accepted.{Heard, mask_tells, take_tells, finish_tells}
