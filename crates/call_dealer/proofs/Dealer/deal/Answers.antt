@@ -3,6 +3,8 @@ use Rattle.half_deal.specs.Dealing.{deal_from}
 use Rattle.call_dealer.proofs.Laws.{none, deal_refused, dealt}
 use Rattle.call_dealer.proofs.Dealer.deal.Goals as goal
 
+-- It is refused: the state is as it was,
+-- and so are both buffers.
 pub returns-then-why-ne0 : goal.returns-then-why-ne0
 returns-then-why-ne0 c =
     let a = c.args in
