@@ -1,7 +1,8 @@
 /*
  * The calls of the two-box door check, for a host in C on x86-64 Linux. `c/library` proves them and
  * writes target/c/libdoor.a. It has every call compiled for three levels of processors, x86-64,
- * x86-64-v3 and x86-64-v4, and takes the best that the machine has when the program is loaded; the
+ * x86-64-v3 and x86-64-v4 (the last has the code of x86-64-v3 for now), and takes the best that the
+ * machine has when the program is loaded; the
  * environment variable DOOR_LEVEL, set to one of these names, holds it to a lower one. It needs
  * memcpy, memset and getenv and nothing else; it allocates nothing and keeps nothing between calls,
  * so calls on different states, or on none, may run at the same time. A call was seen to take up to

@@ -1,6 +1,7 @@
 /*
  * The front of target/c/libdoor.a. The archive has every call three times, compiled from the same proved
- * crates for three levels of x86-64 processors; c/library joins them to this file. When the program
+ * crates for three levels of x86-64 processors (x86-64-v4 has the code of x86-64-v3 for now); c/library
+ * joins them to this file. When the program
  * is loaded, choose() takes the best level that processor and operating system have, or a lower one
  * that the environment variable DOOR_LEVEL names.
  *
