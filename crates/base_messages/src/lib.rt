@@ -1,9 +1,49 @@
 // What every call of a door has in common: the door's name and a message's label.
 #![tactic(auto)]
 
-ghost use Rattle.std.specs.Prelude.{◌≡◌, ◌≤◌, length};
-ghost use Rattle.base_messages.specs.Messages.{unless, printable as printable_of, name_fits, padded as padded_of};
+ghost use Rattle.std.specs.Prelude.{◌≡◌, ◌≤◌, Ok, length};
+ghost use Rattle.base_messages.specs.Refusals.{number_of, or_refuse, why_of};
+ghost use Rattle.base_messages.specs.Messages.{printable as printable_of, name_fits, padded as padded_of};
 ghost use Rattle.base_messages.specs.Messages.{expected as expected_of};
+
+// Why a call is turned down (01, "When a call is turned down"), with its number: c/door.h says each in words.
+#[derive(Clone, Copy, Debug, PartialEq, Eq)]
+pub enum Refusal {
+    BadName = 1,
+    BadPartyOrCode = 2,
+    OutOfTurn = 3,
+    WrongLength = 4,
+    ShortBuffer = 5,
+    WrongMessage = 6,
+    WrongNumber = 7,
+    OutOfRange = 8,
+    EqualKeys = 9,
+    BadBlock = 10,
+    BadContent = 11,
+    BadSum = 12,
+    BadMarks = 13,
+    BadRows = 14,
+    NoRow = 15,
+    MoreRows = 16,
+}
+
+impl Refusal {
+    pub fn number(self) -> u32
+        ensures { result ≡ number_of self }
+    {
+        self as u32
+    }
+}
+
+// The number that a call answers: a refusal's own, or 0 where nothing refuses.
+pub fn why(answer: Result<(), Refusal>) -> u32
+    ensures { result ≡ why_of answer }
+{
+    match answer {
+        Ok(()) => 0,
+        Err(refusal) => refusal.number(),
+    }
+}
 
 // Why a call is turned down (01, "When a call is turned down"): c/door.h says each in words. 0 where
 // nothing refuses.
@@ -74,23 +114,27 @@ pub struct Label {
     pub number: u64,
 }
 
-// The number of the first test that fails, or 0 where none does.
-pub fn first_refusal(a: bool, i: u32, b: bool, j: u32, c: bool, k: u32, d: bool, l: u32) -> u32
-    ensures { result ≡ unless a i (unless b j (unless c k (unless d l 0))) }
+// Goes on if a test holds; else the refusal beside it is why not. (`E` is `Refusal` in every call of a door.)
+pub fn require<E: Copy>(holds: bool, refusal: E) -> Result<(), E>
+    ensures { result ≡ or_refuse holds refusal (Ok tt) }
 {
-    if !a {
-        return i;
-    }
-    if !b {
-        return j;
-    }
-    if !c {
-        return k;
-    }
-    if !d {
-        return l;
-    }
-    0
+    if holds { Ok(()) } else { Err(refusal) }
+}
+
+// The refusal beside the first test that fails, if one does.
+pub fn first_refusal<E: Copy>(
+    first: (bool, E),
+    second: (bool, E),
+    third: (bool, E),
+    fourth: (bool, E),
+) -> Result<(), E>
+    ensures { result ≡ or_refuse first.0 first.1 (or_refuse second.0 second.1
+        (or_refuse third.0 third.1 (or_refuse fourth.0 fourth.1 (Ok tt)))) }
+{
+    require(first.0, first.1)?;
+    require(second.0, second.1)?;
+    require(third.0, third.1)?;
+    require(fourth.0, fourth.1)
 }
 
 // Whether every byte lies from 32 to 126.
@@ -98,10 +142,8 @@ fn printable(name: &[u8]) -> bool
     ensures { result ≡ printable_of name.now }
 {
     let mut all = true;
-    let mut i: usize = 0;
-    while i < name.len() {
-        all = all & ((32 <= name[i]) & (name[i] <= 126));
-        i += 1;
+    for byte in name {
+        all = all & ((32 <= *byte) & (*byte <= 126));
     }
     all
 }

@@ -5,24 +5,21 @@ use lib.Dec.{leb}
 use lib.ListN.{length, get_or}
 use Rattle.base_messages.specs.Messages.{printable}
 use Rattle.base_messages.proofs.Names.{printable_more, printable_whole}
-use Rattle.std.proofs.Common.{rules}
 use Rattle.base_messages.proofs.printable.Goals as goal
 
-pub loop-i-init : goal.loop-i-init
+pub loop-byte-init : goal.loop-byte-init
 unfolding printable
-loop-i-init c = (search rules, refl)
+loop-byte-init c = refl
 
-pub loop-i-preserved : goal.loop-i-preserved
-loop-i-preserved c =
-    let at = c.loop-i in
+pub loop-byte-preserved : goal.loop-byte-preserved
+loop-byte-preserved c =
+    let at = c.loop-byte in
     let name = c.args.name.now in
-    let byte = get_or name at.i 0 in (
-      search rules,
-      ap (λ (t : Bool). t && (leb 32 byte && leb byte 126)) at.invariant.1
-          ∙ sym (printable_more name at.i (omega arith)),
-    )
+    let byte = get_or name at.byte-index 0 in
+    ap (λ (t : Bool). t && (leb 32 byte && leb byte 126)) at.invariant
+    ∙ sym (printable_more name at.byte-index (omega arith))
 
 pub returns : goal.returns
 returns c =
-    let all : c.loop-i.i ≡ length c.args.name.now = omega arith in
-    c.loop-i.invariant.1 ∙ printable_whole _ _ all
+    let all : c.loop-byte.byte-index ≡ length c.args.name.now = omega arith in
+    c.loop-byte.invariant ∙ printable_whole _ _ all
