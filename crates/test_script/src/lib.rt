@@ -6,11 +6,19 @@
 // and none can say what a program writes: the programs' outputs are compared instead.
 #![tactic(auto)]
 
+mod line;
+mod output;
+mod parse;
 mod read;
 mod write;
 
 ghost use Rattle.test_script.specs.Script.{NextPart};
 
+pub use line::{Line, Lines};
+pub use output::Output;
+pub use parse::{
+    OneOrTwo, parse_array, parse_bytes, parse_number, parse_one_or_two, parse_vector, parse_word,
+};
 pub use read::{
     Bytes, Number, Word, Words, fill, load_words, read_bytes, read_number, read_one_or_two,
     read_word,
@@ -36,6 +44,12 @@ pub fn read_script(text: &mut [u8; SIZE]) -> usize {
     }
     io::write_all(1, b"script too long\n");
     0
+}
+
+// Reads the script, and answers its lines: none if it is too long.
+pub fn read_lines(text: &mut [u8; SIZE]) -> Lines<'_> {
+    let n = read_script(text);
+    Lines::new(first(text, n))
 }
 
 // The script's bytes. It takes the array, so that a caller has nothing to prove of its length.
@@ -79,26 +93,12 @@ pub fn next_line(text: &[u8], from: usize) -> Span
 
 // How many parts the marks divide a text into: one more than there are marks.
 pub fn part_count(text: &[u8], mark: u8) -> usize {
-    let mut count: usize = 0;
-    let mut at: usize = 0;
-    while at <= text.len() {
-        at = next_part(text, at, mark).next;
-        count += 1;
-    }
-    count
+    text.split(|b| *b == mark).count()
 }
 
 // The n-th part, counted from 0; no bytes if there are fewer parts.
 pub fn part(text: &[u8], mark: u8, n: usize) -> &[u8] {
-    let mut p = next_part(text, 0, mark);
-    let mut i: usize = 0;
-    while i < n {
-        p = next_part(text, p.next, mark);
-        i += 1;
-    }
-    let start = p.start;
-    let end = p.end;
-    &text[start..end]
+    text.split(|b| *b == mark).nth(n).unwrap_or(&[])
 }
 
 // The first bytes of a text, or all if there are fewer. A caller that takes `&text[..n]` has to prove

@@ -1,0 +1,86 @@
+// Standard output by way of a buffer, which is written out when it is full. A write that fails loses
+// its bytes: whoever compares the output sees that.
+ghost use Rattle.std.specs.Prelude.{◌≤◌, length};
+
+const OUTPUT: usize = 4096;
+
+// Zeros come from a function: a proof that knows what a long array holds carries all of it.
+fn no_output() -> [u8; OUTPUT] {
+    [0; OUTPUT]
+}
+
+// The answers that are not yet written out stand in the first bytes.
+#[derive(Drop)]
+pub struct Output {
+    text: [u8; OUTPUT],
+    len: usize,
+    ghost within: { len ≤ length text },
+}
+
+impl Output {
+    pub fn new() -> Self {
+        Output {
+            text: no_output(),
+            len: 0,
+        }
+    }
+
+    // Writes out what is left: the last call of a program.
+    pub fn flush(&mut self) {
+        io::write_all(1, &self.text[..self.len]);
+        self.len = 0;
+    }
+
+    pub fn put_byte(&mut self, b: u8) {
+        if self.len == OUTPUT {
+            io::write_all(1, &self.text);
+            self.len = 0;
+        }
+        self.text[self.len] = b;
+        self.len += 1;
+    }
+
+    pub fn put_text(&mut self, text: &[u8]) {
+        for b in text {
+            self.put_byte(*b);
+        }
+    }
+
+    // The bytes as hex, - if there are none.
+    pub fn put_hex(&mut self, bytes: &[u8]) {
+        if bytes.is_empty() {
+            self.put_byte(b'-');
+        }
+        for b in bytes {
+            let mut digits = [0u8; 16];
+            let n = io::hex(u64::from(*b), 2, &mut digits);
+            self.put_text(&digits[..n]);
+        }
+    }
+
+    pub fn put_number(&mut self, n: u64) {
+        let mut digits = [0u8; 20];
+        let k = io::decimal(n, &mut digits);
+        self.put_text(&digits[..k]);
+    }
+
+    // The numbers with a space between two.
+    pub fn put_numbers(&mut self, w: &[u32]) {
+        for (i, x) in w.iter().enumerate() {
+            if 0 < i {
+                self.put_byte(b' ');
+            }
+            self.put_number(u64::from(*x));
+        }
+    }
+
+    // The bytes of the words, little-endian, as put_hex: - if there are none.
+    pub fn put_words(&mut self, w: &[u32]) {
+        if w.is_empty() {
+            self.put_byte(b'-');
+        }
+        for x in w {
+            self.put_hex(&x.to_le_bytes());
+        }
+    }
+}

@@ -1,0 +1,135 @@
+// What a field stands for: a decimal number, or bytes. None if it can't be read.
+
+// kept: (d) to_digit and from_str_radix also take capital letters, and those are refused here.
+fn digit(b: u8) -> Option<u8> {
+    match b {
+        b'0'..=b'9' => Some(b - b'0'),
+        b'a'..=b'f' => Some(b - b'a' + 10),
+        _ => None,
+    }
+}
+
+// A decimal number below 2^64. `parse` alone would take a sign.
+pub fn parse_number(field: &[u8]) -> Option<u64> {
+    if !field.iter().all(|b| b.is_ascii_digit()) {
+        return None;
+    }
+    std::str::from_utf8(field).ok()?.parse().ok()
+}
+
+// A decimal number below 2^32.
+pub fn parse_word(field: &[u8]) -> Option<u32> {
+    u32::try_from(parse_number(field)?).ok()
+}
+
+// The words between the colons of a text, if there are just N.
+fn parse_words<const N: usize>(text: &[u8]) -> Option<[u32; N]> {
+    let mut parts = text.split(|b| *b == b':');
+    let mut words = [0; N];
+    for w in &mut words {
+        *w = parse_word(parts.next()?)?;
+    }
+    match parts.next() {
+        None => Some(words),
+        Some(_) => None,
+    }
+}
+
+// One word, or two with a colon between them.
+#[derive(Clone, Copy, PartialEq, Eq)]
+pub enum OneOrTwo {
+    One(u32),
+    Two(u32, u32),
+}
+
+pub fn parse_one_or_two(text: &[u8]) -> Option<OneOrTwo> {
+    if let Some(words) = parse_words::<2>(text) {
+        let [first, second] = words;
+        return Some(OneOrTwo::Two(first, second));
+    }
+    Some(OneOrTwo::One(parse_word(text)?))
+}
+
+fn parse_hex<'a>(digits: &[u8], out: &'a mut [u8]) -> Option<&'a mut [u8]> {
+    let (pairs, rest) = digits.as_chunks::<2>();
+    if pairs.is_empty() || !rest.is_empty() {
+        return None;
+    }
+    let bytes = out.get_mut(..pairs.len())?;
+    for (byte, [high, low]) in bytes.iter_mut().zip(pairs) {
+        *byte = (digit(*high)? << 4) | digit(*low)?;
+    }
+    Some(bytes)
+}
+
+fn next_state(s: u32) -> u32 {
+    s.wrapping_mul(1664525).wrapping_add(1013904223)
+}
+
+// N:S, for N bytes of a generator with the seed S, so that a script can ask for long inputs in few
+// characters.
+fn generate<'a>(text: &[u8], out: &'a mut [u8]) -> Option<&'a mut [u8]> {
+    let [count, seed] = parse_words::<2>(text)?;
+    let bytes = out.get_mut(..count as usize)?;
+    let mut s = seed;
+    for byte in bytes.iter_mut() {
+        s = next_state(s);
+        *byte = s.to_be_bytes()[0];
+    }
+    Some(bytes)
+}
+
+// N:S:LOW:MASK, for N words, little-endian, of the generator with the seed S: of each state, 16 bits
+// under the mask, added to LOW. The low bits of a state repeat too soon.
+fn generate_words<'a>(text: &[u8], out: &'a mut [u8]) -> Option<&'a mut [u8]> {
+    let [count, seed, low, mask] = parse_words::<4>(text)?;
+    let bytes = out.get_mut(..4 * count as usize)?;
+    let mut s = seed;
+    for word in bytes.as_chunks_mut::<4>().0 {
+        s = next_state(s);
+        *word = low.wrapping_add((s >> 16) & mask).to_le_bytes();
+    }
+    Some(bytes)
+}
+
+// The bytes of a field into the first of a buffer, if it has room for them: hex digits in lower case,
+// - for none, @N:S for N bytes generated from the seed S, or ~N:S:LOW:MASK for N generated words.
+pub fn parse_bytes<'a>(field: &[u8], out: &'a mut [u8]) -> Option<&'a mut [u8]> {
+    match field {
+        b"-" => out.get_mut(..0),
+        [b'@', text @ ..] => generate(text, out),
+        [b'~', text @ ..] => generate_words(text, out),
+        _ => parse_hex(field, out),
+    }
+}
+
+// The bytes of a field, if there are just N.
+pub fn parse_array<const N: usize>(field: &[u8]) -> Option<[u8; N]> {
+    let mut bytes = [0; N];
+    if parse_bytes(field, &mut bytes)?.len() == N {
+        Some(bytes)
+    } else {
+        None
+    }
+}
+
+// The longest vector that a field stands for, in words.
+const VECTOR: usize = 2048;
+
+fn no_bytes() -> [u8; 4 * VECTOR] {
+    [0; 4 * VECTOR]
+}
+
+// The bytes of a field as words, little-endian, into the first of a buffer, if it has room for them.
+pub fn parse_vector<'a>(field: &[u8], out: &'a mut [u32]) -> Option<&'a mut [u32]> {
+    let mut buffer = no_bytes();
+    let (words, rest) = parse_bytes(field, &mut buffer)?.as_chunks::<4>();
+    if !rest.is_empty() {
+        return None;
+    }
+    let out = out.get_mut(..words.len())?;
+    for (x, bytes) in out.iter_mut().zip(words) {
+        *x = u32::from_le_bytes(*bytes);
+    }
+    Some(out)
+}
