@@ -1,6 +1,7 @@
 -- Integers: their residues modulo m, and the ring tactic over ℤ with no modulus and no bound.
 -- `ringℤ (x ∷ y ∷ []) (search reifyℤ depth 20 fits 5000) refl` proves x ≡ y of ℤ. Assumes nothing.
-use Rattle.std.specs.Prelude.{◌≡◌, ℕ, zero, suc, ◌+◌, ◌-◌, ◌*◌, ◌<◌, ◌≤◌, Bool, true, false, cond, not, T, ltb, List, ◌∷◌, map, ℤ, pos, negsuc, ◌+ℤ◌, ◌*ℤ◌, neg_ℤ, ◌==◌, nat_lt, slice_index, refl}
+use Rattle.std.specs.Prelude.{◌≡◌, ℕ, zero, suc, ◌+◌, ◌-◌, ◌*◌, ◌<◌, ◌≤◌, Bool, true, false, cond, not, T, ltb, List}
+use Rattle.std.specs.Prelude.{◌∷◌, map, ℤ, pos, negsuc, ◌+ℤ◌, ◌*ℤ◌, neg_ℤ, ◌==◌, nat_lt, slice_index, refl}
 use Rattle.std.proofs.Common.{sym, ◌∙◌, mul-zero, ltb→lt, nltb→le}
 use Rattle.std.proofs.Math.Path.{ap}
 use native.Mathlib.Omega.{arith}
@@ -33,7 +34,8 @@ module _ (m : ℕ) (p : ltb 0 m ≡ true) where
 
   residue_sub : (a b : ℕ) → Mod m (residue m (sub_ℕ a b)) (a + (m - 1) * b)
   unfolding residue
-  residue_sub a b = cond_ind (nat_lt a b) (negsuc (b - suc a)) (pos (a - b)) (λ z. Mod m (residue m z) (a + (m - 1) * b))
+  residue_sub a b =
+      cond_ind (nat_lt a b) (negsuc (b - suc a)) (pos (a - b)) (λ z. Mod m (residue m z) (a + (m - 1) * b))
       (λ t. m_sym
       (m_trans (m_eq (below (m - 1) a b (ltb→lt a b t)))
       (m_trans (m_add (neg_self m a p) (m_refl {a = (m - 1) * suc (b - suc a)}))

@@ -2,7 +2,8 @@
 -- Assumes nothing.
 use Rattle.std.specs.Prelude.{◌≡◌, ℕ, zero, suc, ◌+◌, ◌-◌, ◌*◌, ◌/◌, ◌%◌, ◌<◌, true, T, ltb, nat_lt, refl}
 use Rattle.std.proofs.Common.{sym, ap, ap₂, ◌∙◌, subst, add-zero, add_assoc, mul_comm, mod-eq_of_lt, arith}
-use Rattle.std.proofs.Math.Nat.{mod-mod, mod-zero, zero-mod, mul-mod_left, mul-mod_right, add-mod, mod-add-div', add-mul-mod_self_right}
+use Rattle.std.proofs.Math.Nat.{mod-mod, mod-zero, zero-mod, mul-mod_left, mul-mod_right, add-mod, mod-add-div'}
+use Rattle.std.proofs.Math.Nat.{add-mul-mod_self_right}
 
 pub record Mod (m a b : ℕ) : Type 0 where
   pub same : a % m ≡ b % m

@@ -1,8 +1,10 @@
 -- Expressions of +, *, unary minus and numerals, and their normal form: a sum of terms, each a coefficient and the
 -- sorted list of its variables. A coefficient is a difference p - n of two naturals. At k = 0 it is cut to its shortest
 -- form, so that the normal form holds modulo every number; at any other k to its remainder modulo k. Assumes nothing.
-use Rattle.std.specs.Prelude.{◌≡◌, ℕ, zero, suc, ◌+◌, ◌-◌, ◌*◌, ◌%◌, min, Bool, true, false, T, List, [], ◌∷◌, ◌==◌, nat_le, slice_index, refl}
-use Rattle.std.proofs.Common.{sym, ap, ap₂, ◌∙◌, subst, zero-add, add_assoc, add_comm, mul-zero, zero-mul, one-mul, mul_assoc, mul_left_comm, eqb→eq}
+use Rattle.std.specs.Prelude.{◌≡◌, ℕ, zero, suc, ◌+◌, ◌-◌, ◌*◌, ◌%◌, min, Bool, true, false, T, List, [], ◌∷◌, ◌==◌}
+use Rattle.std.specs.Prelude.{nat_le, slice_index, refl}
+use Rattle.std.proofs.Common.{sym, ap, ap₂, ◌∙◌, subst, zero-add, add_assoc, add_comm, mul-zero, zero-mul, one-mul}
+use Rattle.std.proofs.Common.{mul_assoc, mul_left_comm, eqb→eq}
 use Prim.Native.Nat.{compare, Ordering}
 use Rattle.std.proofs.Math.Nat.{add_left_comm, add-mul}
 use native.Mathlib.Omega.{arith}

@@ -1,7 +1,8 @@
 -- THE RING TACTIC. `ring (x ∷ y ∷ []) (search reify depth 20 fits 5000) refl` proves `Mod k a b`, for a numeral k,
 -- where a and b are sums, products and differences of x, y and numerals; k = 0 means as they stand. A hypothesis
 -- `Mod k v w` in scope defines v. Assumes nothing.
-use Rattle.std.specs.Prelude.{◌≡◌, ℕ, zero, suc, ◌+◌, ◌-◌, ◌*◌, ◌%◌, ◌≤◌, true, List, ◌∷◌, ◌==◌, nat_lt, slice_index_or, refl}
+use Rattle.std.specs.Prelude.{◌≡◌, ℕ, zero, suc, ◌+◌, ◌-◌, ◌*◌, ◌%◌, ◌≤◌, true, List, ◌∷◌, ◌==◌, nat_lt}
+use Rattle.std.specs.Prelude.{slice_index_or, refl}
 use Rattle.std.proofs.Common.{◌∙◌, sub-add_cancel, arith}
 use Rattle.std.proofs.Math.Dec.{leb-suc-suc, leb-zero}
 use Rattle.base_algebra.specs.Mod.{Mod, m_refl, m_eq, m_sym, m_trans, m_add, m_mul, m_sub, m_words, m_exact}

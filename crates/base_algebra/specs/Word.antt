@@ -1,7 +1,8 @@
 -- Words: numbers below 2^32, whose sums, differences and products are taken modulo 2^32 (01, "Measures"); and how the
 -- ring tactic reads them. `ring (x ∷ y ∷ []) (search words depth 40 fits 5000) refl` proves `a ≈ b`. Assumes nothing.
 -- [SPEC 2.1, 2.2]
-use Rattle.std.specs.Prelude.{◌≡◌, ℕ, ◌+◌, ◌-◌, ◌*◌, ◌%◌, ◌^◌, ◌<◌, Bool, true, false, cond, List, ℤ, pos, ◌-ℤ◌, neg_ℤ, nat_lt, refl}
+use Rattle.std.specs.Prelude.{◌≡◌, ℕ, ◌+◌, ◌-◌, ◌*◌, ◌%◌, ◌^◌, ◌<◌, Bool, true, false, cond, List, ℤ, pos, ◌-ℤ◌}
+use Rattle.std.specs.Prelude.{neg_ℤ, nat_lt, refl}
 use Rattle.std.proofs.Common.{sym, arith}
 use Rattle.base_algebra.specs.Mod.{Mod, m_refl, m_eq, m_of, m_sym, m_trans, m_add, m_mul, m_mod, m_sub, m_words}
 use Rattle.base_algebra.specs.Mod.{m_cancel, neg_self, under_mod}

@@ -1,6 +1,7 @@
 -- How a caller tells a chain of refusals from its tests, each of which returns its number at once; what is new and what
 -- stays; and what a name that fits is (Messages). Assumes nothing.
-use Rattle.std.specs.Prelude.{◌≡◌, refl, Bool, true, false, not, cond, ◌&&◌, List, ◌++◌, ℕ, suc, ◌-◌, ◌≤◌, T, leb, length, replicate}
+use Rattle.std.specs.Prelude.{◌≡◌, refl, Bool, true, false, not, cond, ◌&&◌, List, ◌++◌, ℕ, suc, ◌-◌, ◌≤◌, T, leb}
+use Rattle.std.specs.Prelude.{length, replicate}
 use Rattle.std.proofs.Common.{sym, ap, subst, ◌∙◌, append-nil, arith, leb-true, eq-eqb, ne_eqb}
 use Rattle.std.proofs.lemmas.Bool.{not-true, not-false}
 use Rattle.base_messages.specs.Messages.{unless, if_taken, printable, name_fits, padded}

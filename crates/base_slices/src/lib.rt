@@ -6,19 +6,12 @@ ghost use Rattle.std.specs.Prelude.{◌≡◌, ◌+◌, ◌*◌, ◌<◌, ◌≤
 ghost use Rattle.base_words.specs.List.{over, same};
 ghost use Rattle.base_words.specs.Bytes.{le32, bytes_of, word_at};
 
-fn wide(x: u8) -> u32
-    ensures value { result ≡ x }
-    ensures upper_bound { result < 256 }
-{
-    x as u32
-}
-
 // The word whose four bytes stand at `at`, lowest first.
 pub fn load(b: &[u8], at: usize) -> u32
     requires { at + 4 ≤ length b.now }
     ensures { result ≡ word_at b.now at }
 {
-    wide(b[at]) + wide(b[at + 1]) * 256 + wide(b[at + 2]) * 65536 + wide(b[at + 3]) * 16777216
+    u32::from_le_bytes([b[at], b[at + 1], b[at + 2], b[at + 3]])
 }
 
 // The four bytes of x over those at `at`, lowest first.
@@ -26,10 +19,7 @@ pub fn store(out: &mut [u8], at: usize, x: u32)
     requires { at + 4 ≤ length out.old }
     ensures { out.new ≡ over at (le32 x) out.old }
 {
-    out[at] = (x % 256) as u8;
-    out[at + 1] = (x / 256 % 256) as u8;
-    out[at + 2] = (x / 65536 % 256) as u8;
-    out[at + 3] = (x / 16777216 % 256) as u8;
+    copy(out, at, &x.to_le_bytes());
 }
 
 // The bytes of all of w over those from `at` on.
@@ -37,23 +27,18 @@ pub fn store_all(out: &mut [u8], at: usize, w: &[u32])
     requires { at + 4 * length w.now ≤ length out.old }
     ensures { out.new ≡ over at (bytes_of w.now) out.old }
 {
-    let mut i: usize = 0;
-    while i < w.len() {
+    for i in 0..w.len() {
         store(out, at + 4 * i, w[i]);
-        i += 1;
     }
 }
 
 // All of src over the bytes of dst from `at` on.
+#[tactic(auto, using(crate::proofs::Put::put_over))]
 pub fn copy(dst: &mut [u8], at: usize, src: &[u8])
     requires { at + length src.now ≤ length dst.old }
     ensures { dst.new ≡ over at src.now dst.old }
 {
-    let mut i: usize = 0;
-    while i < src.len() {
-        dst[at + i] = src[i];
-        i += 1;
-    }
+    dst[at..at + src.len()].copy_from_slice(src);
 }
 
 // Whether two slices hold the same bytes. Every byte is looked at, so that how long it takes
@@ -65,12 +50,8 @@ pub fn equal(a: &[u8], b: &[u8]) -> bool
         return false;
     }
     let mut all = true;
-    let mut i: usize = 0;
-    while i < a.len() {
-        let x = a[i];
-        let y = b[i];
-        all = all & (x == y);
-        i += 1;
+    for i in 0..a.len() {
+        all &= a[i] == b[i];
     }
     all
 }
@@ -78,7 +59,7 @@ pub fn equal(a: &[u8], b: &[u8]) -> bool
 pub fn least(a: usize, b: usize) -> usize
     ensures { result ≡ min a b }
 {
-    if a < b { a } else { b }
+    a.min(b)
 }
 
 // A key or a seed, from a slice of its length.
@@ -86,7 +67,5 @@ pub fn bytes_32(b: &[u8]) -> [u8; 32]
     requires { length b.now ≡ 32 }
     ensures { result ≡ b.now }
 {
-    let mut out = [0u8; 32];
-    copy(&mut out, 0, b);
-    out
+    <[u8; 32]>::try_from(b).unwrap()
 }

@@ -1,6 +1,7 @@
 -- Words as bytes, little-endian (01, "Measures"; RFC 8439, 2.3), and the rotation of a word (RFC 8439, 2.1).
 -- Assumes nothing. [SPEC 2.5, 4.1]
-use Rattle.std.specs.Prelude.{◌≡◌, ℕ, zero, suc, ◌+◌, ◌-◌, ◌*◌, ◌/◌, ◌%◌, ◌^◌, ◌<◌, List, [], ◌∷◌, ◌++◌, length, take, slice_index, refl}
+use Rattle.std.specs.Prelude.{◌≡◌, ℕ, zero, suc, ◌+◌, ◌-◌, ◌*◌, ◌/◌, ◌%◌, ◌^◌, ◌<◌, List, [], ◌∷◌, ◌++◌, length, take}
+use Rattle.std.specs.Prelude.{slice_index, refl}
 use Rattle.std.proofs.Common.{sym, ap, ◌∙◌, append_assoc, append-nil, arith, add-one, shr-shr}
 use Rattle.std.proofs.Math.Seq.{take-nil}
 use Rattle.base_words.specs.List.{tab, length_tab, tab_ext, tab_get_or, over, over_next}
@@ -20,7 +21,8 @@ bytes_of (x ∷ s) = le32 x ++ bytes_of s
 
 -- the word whose four bytes stand at i
 unfoldable pub word_at : List ℕ → ℕ → ℕ
-word_at b i = slice_index b i + slice_index b (i + 1) * 2 ^ 8 + slice_index b (i + 2) * 2 ^ 16 + slice_index b (i + 3) * 2 ^ 24
+word_at b i =
+    slice_index b i + slice_index b (i + 1) * 2 ^ 8 + slice_index b (i + 2) * 2 ^ 16 + slice_index b (i + 3) * 2 ^ 24
 
 -- the first n words of a list of bytes
 unfoldable pub words_at : ℕ → List ℕ → List ℕ
@@ -73,7 +75,8 @@ take_bytes_of (suc k) (x ∷ w) =
     rw e (ap (λ (l : List ℕ). le32 x ++ l) (take_bytes_of k w))
 
 -- a word's bytes make the word
-pub word_at_bytes_of : (w : List ℕ) (i : ℕ) → i < length w → slice_index w i < 2 ^ 32 → word_at (bytes_of w) (4 * i) ≡ slice_index w i
+pub word_at_bytes_of : (w : List ℕ) (i : ℕ) → i < length w → slice_index w i < 2 ^ 32
+    → word_at (bytes_of w) (4 * i) ≡ slice_index w i
 unfolding word_at le32
 word_at_bytes_of w i l h =
     let b0 = byte (4 * i) 0 (omega arith) (omega arith) in
@@ -106,4 +109,5 @@ pub words_back : (n : ℕ) (w : List ℕ) → Words n w → words_at n (bytes_of
 unfolding words_at
 words_back n w h =
     tab_ext (λ i. word_at (bytes_of w) (4 * i)) (λ i. slice_index w i) n (λ i l.
-    word_at_bytes_of w i (omega (arith, h.long)) (h.below i)) ∙ ap (tab (λ i. slice_index w i)) (sym h.long) ∙ tab_get_or w
+    word_at_bytes_of w i (omega (arith, h.long)) (h.below i))
+    ∙ ap (tab (λ i. slice_index w i)) (sym h.long) ∙ tab_get_or w

@@ -1,7 +1,11 @@
 -- Lists as code makes them: written over from a place on, and made from the front by a rule for each index.
 -- Assumes nothing.
-use Rattle.std.specs.Prelude.{◌≡◌, ℕ, zero, suc, ◌+◌, ◌-◌, ◌<◌, ◌≤◌, Bool, true, false, ◌&&◌, T, List, [], ◌∷◌, ◌++◌, length, take, drop, replicate, ◌==◌, ◌≢◌, nat_lt, slice_index, slice_set, refl}
-use Rattle.std.proofs.Common.{sym, ap, ap₂, ◌∙◌, subst, append_assoc, append-nil, add-zero, add-suc, add-one, arith, ltb-true, ltb-false, eqb→eq, length-append, length-drop, length-set, drop_of_length-le, ext_get_or, get_or-drop, take_at, drop_at, drop-drop, get_or-set_other, take_all, take-suc, length-take-le, drop-cons, get_or-append-add}
+use Rattle.std.specs.Prelude.{◌≡◌, ℕ, zero, suc, ◌+◌, ◌-◌, ◌<◌, ◌≤◌, Bool, true, false, ◌&&◌, T, List, [], ◌∷◌, ◌++◌}
+use Rattle.std.specs.Prelude.{length, take, drop, replicate, ◌==◌, ◌≢◌, nat_lt, slice_index, slice_set, refl}
+use Rattle.std.proofs.Common.{sym, ap, ap₂, ◌∙◌, subst, append_assoc, append-nil, add-zero, add-suc, add-one, arith}
+use Rattle.std.proofs.Common.{ltb-true, ltb-false, eqb→eq, length-append, length-drop, length-set, drop_of_length-le}
+use Rattle.std.proofs.Common.{ext_get_or, get_or-drop, take_at, drop_at, drop-drop, get_or-set_other, take_all}
+use Rattle.std.proofs.Common.{take-suc, length-take-le, drop-cons, get_or-append-add}
 use Rattle.std.proofs.Math.Bool.{and-true, and-false, and_assoc}
 use Rattle.std.proofs.Math.Dec.{eqb_refl}
 use Rattle.std.proofs.Math.ListN.{get_or-append}
@@ -112,7 +116,8 @@ unfolding tab
 get_or_tab f zero i h = absurd (omega arith)
 get_or_tab f (suc n) i h = go (nat_lt i n) refl (get_or_tab f n i)
   where
-    go : (b : Bool) → nat_lt i n ≡ b → (i < n → slice_index (tab f n) i ≡ f i) → slice_index (tab f n ++ (f n ∷ [])) i ≡ f i
+    go : (b : Bool) → nat_lt i n ≡ b → (i < n → slice_index (tab f n) i ≡ f i)
+        → slice_index (tab f n ++ (f n ∷ [])) i ≡ f i
     go true e ih =
         let l : i < n = ltb-true i n e in
         get_or-append (tab f n) (f n ∷ []) 0 i (rw (length_tab f n) l) ∙ ih l
@@ -168,7 +173,8 @@ get_or_rest f d i j h =
     let whole : i + (j - i) ≡ j = omega arith in
     ap (λ (k : ℕ). slice_index (tab f i ++ drop i d) k) (sym whole)
     ∙ ap (λ (k : ℕ). slice_index (tab f i ++ drop i d) (k + (j - i))) (sym (length_tab f i))
-    ∙ get_or-append-add (tab f i) (drop i d) (j - i) 0 ∙ get_or-drop i d (j - i) 0 ∙ ap (λ (k : ℕ). slice_index d k) whole
+    ∙ get_or-append-add (tab f i) (drop i d) (j - i) 0 ∙ get_or-drop i d (j - i) 0
+    ∙ ap (λ (k : ℕ). slice_index d k) whole
 
 -- what is written over all of a list
 pub over_all : (p s : List ℕ) → length p ≡ length s → over 0 p s ≡ p

@@ -1,6 +1,7 @@
 -- Numbers as little-endian bytes (01, "Measures"; RFC 8439, 2.5.1): words make them up, and they are read back.
 -- Assumes nothing.
-use Rattle.std.specs.Prelude.{◌≡◌, ℕ, zero, suc, ◌+◌, ◌*◌, ◌/◌, ◌%◌, ◌^◌, ◌<◌, ◌≤◌, List, [], ◌∷◌, ◌++◌, length, take, drop, slice_index, refl}
+use Rattle.std.specs.Prelude.{◌≡◌, ℕ, zero, suc, ◌+◌, ◌*◌, ◌/◌, ◌%◌, ◌^◌, ◌<◌, ◌≤◌, List, [], ◌∷◌, ◌++◌, length, take}
+use Rattle.std.specs.Prelude.{drop, slice_index, refl}
 use Rattle.std.proofs.Common.{sym, ap, ◌∙◌, add-one, arith, drop-cons, shr-shr}
 use Rattle.std.proofs.Math.Pow.{field, mod-mod-pow}
 use Rattle.base_algebra.specs.Ring.{ring=, reify}
@@ -89,9 +90,11 @@ pub number_of_word : (m : List ℕ) (i n : ℕ) → i + 4 ≤ length m
 unfolding word_at
 number_of_word m i n h =
     ap (λ (l : List ℕ). number (take (suc (suc (suc (suc n)))) l)) four
-    ∙ number4 (slice_index m i) (slice_index m (i + 1)) (slice_index m (i + 2)) (slice_index m (i + 3)) (take n (drop (i + 4) m))
+    ∙ number4 (slice_index m i) (slice_index m (i + 1)) (slice_index m (i + 2)) (slice_index m (i + 3))
+    (take n (drop (i + 4) m))
   where
-    four : drop i m ≡ slice_index m i ∷ slice_index m (i + 1) ∷ slice_index m (i + 2) ∷ slice_index m (i + 3) ∷ drop (i + 4) m
+    four : drop i m
+        ≡ slice_index m i ∷ slice_index m (i + 1) ∷ slice_index m (i + 2) ∷ slice_index m (i + 3) ∷ drop (i + 4) m
     four =
         drop_one m i (omega arith)
         ∙ ap (λ (l : List ℕ). slice_index m i ∷ l) (drop_more m i 1 2 (omega arith) (omega arith)

@@ -9,19 +9,19 @@ ghost use Rattle.base_words.specs.Bytes.{rotl};
 pub fn add(a: u32, b: u32) -> u32
     ensures { result ≡ add_of a b }
 {
-    std::num::wrapping_add_u32(a, b)
+    a.wrapping_add(b)
 }
 
 pub fn sub(a: u32, b: u32) -> u32
     ensures { result ≡ sub_of a b }
 {
-    std::num::wrapping_sub_u32(a, b)
+    a.wrapping_sub(b)
 }
 
 pub fn mul(a: u32, b: u32) -> u32
     ensures { result ≡ mul_of a b }
 {
-    ((a as u64) * (b as u64) % 4294967296) as u32
+    a.wrapping_mul(b)
 }
 
 // A word rotated left by n bits.
@@ -29,7 +29,7 @@ pub fn rotate_left(x: u32, n: u32) -> u32
     requires { (0 < n) × (n < 32) }
     ensures { result ≡ rotl n x }
 {
-    (x << n) | (x >> (32 - n))
+    x.rotate_left(n)
 }
 
 // x if the flag is set, else 0: only the lowest bit of a flag counts, and nothing branches on it.

@@ -8,17 +8,16 @@ use Rattle.base_slices.proofs.store_all.Goals as goal
 
 pub loop-i-init : goal.loop-i-init
 unfolding over tab bytes_of
-loop-i-init c = (search rules, refl, refl)
+loop-i-init c = (refl, refl)
 
 pub loop-i-preserved : goal.loop-i-preserved
 loop-i-preserved c = (
-  search rules,
-  over_word (λ i. get_or c.args.w.now i 0) _ _ _ _ _ c.loop-i.invariant.1 c.store.ensures,
+  over_word (λ i. get_or c.args.w.now i 0) _ _ _ _ _ c.loop-i.invariant.0 c.store.ensures,
   search rules,
 )
 
 pub returns : goal.returns
 returns c =
     let all : c.loop-i.i ≡ length c.args.w.now = omega arith in
-    rw all at c.loop-i.invariant.1 ∙ ap (λ l. over c.args.at (bytes_of l)
+    rw all at c.loop-i.invariant.0 ∙ ap (λ l. over c.args.at (bytes_of l)
     c.args.out.now) (tab_get_or c.args.w.now)

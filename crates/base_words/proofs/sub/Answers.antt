@@ -1,6 +1,9 @@
-use Rattle.base_algebra.specs.Word.{sub_by}
-use Rattle.std.proofs.Common.{rules}
+use Rattle.std.proofs.Common.{◌≡◌, ◌%◌, ◌^◌, arith}
+use Rattle.base_algebra.specs.Word.{sub}
 use Rattle.base_words.proofs.sub.Goals as goal
 
 pub returns : goal.returns
-returns c = sub_by _ c.wrapping_sub_u32.ensures.value (search rules)
+unfolding sub
+returns c =
+    let below : c.args.b % 2 ^ 32 ≡ c.args.b = omega arith in
+    rw below
