@@ -52,6 +52,22 @@ pub fn read_lines(text: &mut [u8; SIZE]) -> Lines<'_> {
     Lines::new(first(text, n))
 }
 
+// Answers each line of the script by one line: a line that has no answer is answered as bad, so that a
+// mistake shows as a difference in the output.
+pub fn answer_lines<F: Fn(Line<'_>, &mut Output) -> Option<()>>(answer: F)
+    requires { F.IsAlwaysCallable answer }
+{
+    let mut text = no_text();
+    let mut out = Output::new();
+    for line in read_lines(&mut text) {
+        if answer(line, &mut out).is_none() {
+            out.put_text(b"bad line");
+        }
+        out.put_byte(b'\n');
+    }
+    out.flush();
+}
+
 // The script's bytes. It takes the array, so that a caller has nothing to prove of its length.
 pub fn script_of(text: &[u8; SIZE], n: usize) -> &[u8] {
     first(text, n)
