@@ -1,133 +1,67 @@
 // The commands on Poly1305, and on sealing and opening.
-use crate::{bad_line, no_message, read_keys};
-use test_script::ROOM;
+use crate::no_message;
+use test_script::{Line, Output};
 
 // poly KEY MESSAGE
-fn poly(line: &[u8], out: &mut [u8; ROOM], at: usize) -> usize {
-    let mut key = [0u8; 32];
-    let mut text = no_message();
-    let ok = test_script::fill(test_script::field(line, 1), &mut key);
-    let t = test_script::read_bytes(test_script::field(line, 2), &mut text);
-    if !(ok & t.ok) {
-        return bad_line(out, at);
-    }
-    let tag = poly1305_mac::mac(&key, test_script::first(&text, t.count));
-    test_script::put_hex(out, at, &tag)
+pub fn poly(line: Line<'_>, out: &mut Output) -> Option<()> {
+    let mut buffer = no_message();
+    let tag = poly1305_mac::mac(&line.array(1)?, line.bytes(2, &mut buffer)?);
+    out.put_hex(&tag);
+    Some(())
 }
 
 // polykey KEY NONCE
-fn poly_key(line: &[u8], out: &mut [u8; ROOM], at: usize) -> usize {
-    let mut key = [0u8; 32];
-    let mut nonce = [0u8; 12];
-    let ok = read_keys(line, 1, 2, &mut key, &mut nonce);
-    if !ok {
-        return bad_line(out, at);
-    }
-    test_script::put_hex(out, at, &aead_seal::poly_key(&key, &nonce))
+pub fn poly_key(line: Line<'_>, out: &mut Output) -> Option<()> {
+    out.put_hex(&aead_seal::poly_key(&line.array(1)?, &line.array(2)?));
+    Some(())
 }
 
-fn put_sealed(
-    out: &mut [u8; ROOM],
-    at: usize,
-    key: &[u8; 32],
-    nonce: &[u8; 12],
-    aad: &[u8],
-    text: &mut [u8],
-    whole: bool,
-) -> usize {
-    let s = aead_seal::seal(key, nonce, aad, text);
-    if !s.ok {
-        return bad_line(out, at);
-    }
-    let tag = s.tag;
-    let mut next = at;
-    if whole {
-        next = test_script::put_hex(out, next, text);
-        next = test_script::put_byte(out, next, b' ');
-    }
-    test_script::put_hex(out, next, &tag)
-}
-
-// seal KEY NONCE AAD DATA, answered by the ciphertext and the tag, or tag with the same fields,
-// answered by the tag alone.
-fn seal(line: &[u8], whole: bool, out: &mut [u8; ROOM], at: usize) -> usize {
-    let mut key = [0u8; 32];
-    let mut nonce = [0u8; 12];
+// Seals the text of a line that goes on KEY NONCE AAD DATA, and answers the tag.
+fn seal_text(line: Line<'_>, text: &mut [u8]) -> Option<[u8; 16]> {
     let mut aad = no_message();
-    let mut text = no_message();
-    let ok = read_keys(line, 1, 2, &mut key, &mut nonce);
-    let a = test_script::read_bytes(test_script::field(line, 3), &mut aad);
-    let t = test_script::read_bytes(test_script::field(line, 4), &mut text);
-    if !(ok & a.ok & t.ok) {
-        return bad_line(out, at);
-    }
-    put_sealed(
-        out,
-        at,
-        &key,
-        &nonce,
-        test_script::first(&aad, a.count),
-        test_script::first_mut(&mut text, t.count),
-        whole,
-    )
+    let sealed = aead_seal::seal(
+        &line.array(1)?,
+        &line.array(2)?,
+        line.bytes(3, &mut aad)?,
+        text,
+    );
+    if sealed.ok { Some(sealed.tag) } else { None }
 }
 
-fn put_opened(
-    out: &mut [u8; ROOM],
-    at: usize,
-    key: &[u8; 32],
-    nonce: &[u8; 12],
-    aad: &[u8],
-    text: &mut [u8],
-    tag: &[u8; 16],
-) -> usize {
-    if aead_seal::open(key, nonce, aad, text, tag) {
-        test_script::put_hex(out, at, text)
-    } else {
-        test_script::put_text(out, at, b"refused")
-    }
+// seal KEY NONCE AAD DATA, answered by the ciphertext and the tag.
+pub fn seal(line: Line<'_>, out: &mut Output) -> Option<()> {
+    let mut buffer = no_message();
+    let text = line.bytes(4, &mut buffer)?;
+    let tag = seal_text(line, text)?;
+    out.put_hex(text);
+    out.put_byte(b' ');
+    out.put_hex(&tag);
+    Some(())
+}
+
+// tag KEY NONCE AAD DATA, answered by the tag alone.
+pub fn tag(line: Line<'_>, out: &mut Output) -> Option<()> {
+    let mut buffer = no_message();
+    out.put_hex(&seal_text(line, line.bytes(4, &mut buffer)?)?);
+    Some(())
 }
 
 // open KEY NONCE AAD CIPHERTEXT TAG
-fn unseal(line: &[u8], out: &mut [u8; ROOM], at: usize) -> usize {
-    let mut key = [0u8; 32];
-    let mut nonce = [0u8; 12];
-    let mut tag = [0u8; 16];
+pub fn open(line: Line<'_>, out: &mut Output) -> Option<()> {
     let mut aad = no_message();
-    let mut text = no_message();
-    let ok = read_keys(line, 1, 2, &mut key, &mut nonce)
-        & test_script::fill(test_script::field(line, 5), &mut tag);
-    let a = test_script::read_bytes(test_script::field(line, 3), &mut aad);
-    let t = test_script::read_bytes(test_script::field(line, 4), &mut text);
-    if !(ok & a.ok & t.ok) {
-        return bad_line(out, at);
+    let mut buffer = no_message();
+    let text = line.bytes(4, &mut buffer)?;
+    let opened = aead_seal::open(
+        &line.array(1)?,
+        &line.array(2)?,
+        line.bytes(3, &mut aad)?,
+        text,
+        &line.array(5)?,
+    );
+    if opened {
+        out.put_hex(text);
+    } else {
+        out.put_text(b"refused");
     }
-    put_opened(
-        out,
-        at,
-        &key,
-        &nonce,
-        test_script::first(&aad, a.count),
-        test_script::first_mut(&mut text, t.count),
-        &tag,
-    )
-}
-
-pub fn answer(line: &[u8], out: &mut [u8; ROOM], at: usize) -> usize {
-    if test_script::is_command(line, b"poly", 3) {
-        return poly(line, out, at);
-    }
-    if test_script::is_command(line, b"polykey", 3) {
-        return poly_key(line, out, at);
-    }
-    if test_script::is_command(line, b"seal", 5) {
-        return seal(line, true, out, at);
-    }
-    if test_script::is_command(line, b"tag", 5) {
-        return seal(line, false, out, at);
-    }
-    if test_script::is_command(line, b"open", 6) {
-        return unseal(line, out, at);
-    }
-    bad_line(out, at)
+    Some(())
 }
