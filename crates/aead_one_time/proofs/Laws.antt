@@ -10,8 +10,8 @@ use Rattle.base_words.specs.List.{tab, over, over_next, over_all, take_tab, flat
 use Rattle.base_words.specs.Bytes.{bytes_of, length_bytes_of, take_bytes_of, words_at, word_at_bytes_of}
 use Rattle.chacha20_rounds.specs.Rounds.{block_from}
 use Rattle.chacha20_block.specs.ChaCha20.{start, block, block_bytes}
-use Rattle.chacha20_lanes4.specs.Lanes.{each, each_ext, map_each, get_or_each, length_each, flat_more, length_flat, col}
-use Rattle.chacha20_lanes4.specs.Lanes.{rows, row, length_rows, length_col, up_to, row_more, row_all}
+use Rattle.chacha20_lanes.specs.Lanes.{each, each_ext, map_each, get_or_each, length_each, flat_more, length_flat, col}
+use Rattle.chacha20_lanes.specs.Lanes.{rows, row, length_rows, length_col, up_to, row_more, row_all}
 use Rattle.aead_seal.specs.Aead.{poly_key}
 use Rattle.aead_one_time.specs.OneTime.{nonce_of, keys, starts, firsts}
 

@@ -12,7 +12,7 @@ use Rattle.base_algebra.specs.Word.{add}
 use Rattle.base_words.specs.List.{over, over_after, length_tab}
 use Rattle.base_words.specs.Bytes.{bytes_of, length_bytes_of, word_at, words_at}
 use Rattle.chacha20_block.specs.ChaCha20.{block, block_bytes, length_block}
-use Rattle.chacha20_lanes4.specs.Lanes.{flat_at, length_flat}
+use Rattle.chacha20_lanes.specs.Lanes.{flat_at, length_flat}
 use Rattle.aead_seal.specs.Aead.{poly_key}
 use Rattle.aead_one_time.specs.OneTime.{nonce_of, keys, KeysTo}
 

@@ -3,7 +3,7 @@ use Rattle.std.specs.Prelude.{◌≡◌, List, [], ◌∷◌, ℕ, ◌*◌, ◌<
 use Rattle.base_words.specs.List.{flat}
 use Rattle.base_algebra.specs.Word.{add}
 use Rattle.base_words.specs.Bytes.{bytes_of}
-use Rattle.chacha20_lanes4.specs.Lanes.{each, rows}
+use Rattle.chacha20_lanes.specs.Lanes.{each, rows}
 use Rattle.chacha20_block.specs.ChaCha20.{start}
 use Rattle.aead_seal.specs.Aead.{poly_key}
 

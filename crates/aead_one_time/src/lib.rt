@@ -5,7 +5,7 @@
 ghost use Rattle.std.specs.Prelude.{◌≡◌, [], length, get_or, take, drop, ◌+◌, ◌*◌, ◌<◌, ◌≤◌};
 ghost use Rattle.base_words.specs.List.{over};
 ghost use Rattle.base_words.specs.Bytes.{bytes_of};
-ghost use Rattle.chacha20_lanes4.specs.Lanes.{rows};
+ghost use Rattle.chacha20_lanes.specs.Lanes.{rows};
 ghost use Rattle.aead_one_time.specs.OneTime.{starts, firsts, keys, KeysTo};
 
 // The starting states of eight blocks 0.
@@ -15,7 +15,7 @@ fn eight_starts(x: &mut [u32; 128], key: [u32; 8], a: u32, b: u32, first: u32)
     let mut n = first;
     let mut l: usize = 0;
     while l < 8 {
-        chacha20_lanes8::set_lane(x, l, chacha20_block::start(key, 0, [a, b, n]));
+        chacha20_lanes::set_lane(x, l, chacha20_block::start(key, 0, [a, b, n]));
         n = base_words::add(n, 1);
         l += 1;
     }
@@ -52,7 +52,7 @@ fn eight_keys(key: &[u8; 32], a: u32, b: u32, first: u32) -> [u8; 256]
     let mut x = [0u32; 128];
     let mut out = [0u8; 256];
     eight_starts(&mut x, chacha20_block::key_words(key), a, b, first);
-    chacha20_x8::eight_blocks(&mut x);
+    chacha20_wide::blocks(&mut x);
     store_keys(&mut out, &x);
     out
 }

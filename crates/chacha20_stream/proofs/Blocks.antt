@@ -9,9 +9,9 @@ use Rattle.base_words.specs.List.{tab, over, over_next, over_all, tab_ext, tab_g
 use Rattle.base_words.specs.Bytes.{bytes_of, bytes_of_append, length_bytes_of}
 use Rattle.chacha20_rounds.specs.Rounds.{block_from}
 use Rattle.chacha20_block.specs.ChaCha20.{start, block, length_block}
-use Rattle.chacha20_lanes4.specs.Lanes.{each, each_ext, map_each, get_or_each, length_each, flat_tab, flat_more}
-use Rattle.chacha20_lanes4.specs.Lanes.{length_flat, col, rows, row, in_order, length_rows, length_col, length_in_order}
-use Rattle.chacha20_lanes4.specs.Lanes.{up_to, row_more, row_all}
+use Rattle.chacha20_lanes.specs.Lanes.{each, each_ext, map_each, get_or_each, length_each, flat_tab, flat_more}
+use Rattle.chacha20_lanes.specs.Lanes.{length_flat, col, rows, row, in_order, length_rows, length_col, length_in_order}
+use Rattle.chacha20_lanes.specs.Lanes.{up_to, row_more, row_all}
 use Rattle.chacha20_stream.specs.Keystream.{starts, blocks_from, key_word}
 
 length_starts : (m : ℕ) (key : List ℕ) (n : ℕ) (nonce : List ℕ) → length (starts m key n nonce) ≡ m

@@ -10,7 +10,7 @@ use Rattle.base_algebra.specs.Word.{add}
 use Rattle.base_words.specs.List.{tab, over, over_all, length_tab, get_or_tab, get_or_rest, tab_chunk}
 use Rattle.base_words.specs.Bytes.{le32, bytes_of, get_or_bytes_of, length_bytes_of}
 use Rattle.chacha20_block.specs.ChaCha20.{block}
-use Rattle.chacha20_lanes4.specs.Lanes.{rows, in_order, length_in_order}
+use Rattle.chacha20_lanes.specs.Lanes.{rows, in_order, length_in_order}
 use Rattle.chacha20_stream.specs.Keystream.{key_word, key_byte, stream, xored, blocks_from}
 use Rattle.chacha20_stream.proofs.Blocks.{in_order_lem}
 

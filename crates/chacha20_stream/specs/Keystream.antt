@@ -4,7 +4,7 @@ use Rattle.std.specs.Int.Bits.{bit_xor}
 use Rattle.base_algebra.specs.Word.{add}
 use Rattle.base_words.specs.List.{tab}
 use Rattle.base_words.specs.Bytes.{le32}
-use Rattle.chacha20_lanes4.specs.Lanes.{each}
+use Rattle.chacha20_lanes.specs.Lanes.{each}
 use Rattle.chacha20_block.specs.ChaCha20.{start, block}
 
 -- word i of the stream from a block on is a word of one of the blocks that follow, counted modulo 2^32

@@ -2,41 +2,39 @@
 // its words, and the xor of bytes with it.
 #![tactic(auto)]
 
-ghost use Rattle.std.specs.Prelude.{◌≡◌, [], length, get_or, ◌+◌, ◌-◌, ◌<◌, ◌≤◌, min};
+ghost use Rattle.std.specs.Prelude.{◌≡◌, [], length, get_or, ◌+◌, ◌-◌, ◌/◌, ◌<◌, ◌≤◌, min};
 ghost use Rattle.std.specs.Int.Bits.{bit_xor};
 ghost use Rattle.base_words.specs.List.{over, tab};
 ghost use Rattle.base_words.specs.Bytes.{bytes_of};
-ghost use Rattle.chacha20_lanes4.specs.Lanes.{rows, in_order};
+ghost use Rattle.chacha20_lanes.specs.Lanes.{rows, in_order};
 ghost use Rattle.chacha20_stream.specs.Keystream.{key_word, starts, blocks_from, stream as stream_of, xored};
 
-// The starting states of eight blocks in a row.
-fn eight_starts(x: &mut [u32; 128], key: [u32; 8], counter: u32, nonce: [u32; 3])
-    ensures { rows 8 x.new ≡ starts 8 key counter nonce }
+// kept: key, counter and nonce stay three parameters: `stream` and `xor` take them so, and a struct of them would be
+// made anew each turn, since the counter goes on.
+// The starting states of blocks in a row.
+fn starts<const W: usize>(x: &mut [u32; W], key: [u32; 8], counter: u32, nonce: [u32; 3])
+    ensures { rows (W / 16) x.new ≡ starts (W / 16) key counter nonce }
 {
     let mut n = counter;
-    let mut l: usize = 0;
-    while l < 8 {
-        chacha20_lanes8::set_lane(x, l, chacha20_block::start(key, n, nonce));
+    for l in 0..W / 16 {
+        chacha20_lanes::set_lane(x, l, chacha20_block::start(key, n, nonce));
         n = base_words::add(n, 1);
-        l += 1;
     }
 }
 
-fn next_blocks(x: &mut [u32; 128], key: [u32; 8], counter: u32, nonce: [u32; 3])
-    ensures { rows 8 x.new ≡ blocks_from 8 key counter nonce }
+fn next_blocks<const W: usize>(x: &mut [u32; W], key: [u32; 8], counter: u32, nonce: [u32; 3])
+    ensures { rows (W / 16) x.new ≡ blocks_from (W / 16) key counter nonce }
 {
-    eight_starts(x, key, counter, nonce);
-    chacha20_x8::eight_blocks(x);
+    starts(x, key, counter, nonce);
+    chacha20_wide::blocks(x);
 }
 
 fn put_lane(out: &mut [u32], at: usize, x: &[u32; 128], l: usize)
     requires { (at + 16 ≤ length out.old) × (l < 8) }
     ensures { out.new ≡ over at (get_or (rows 8 x.now) l []) out.old }
 {
-    let mut w: usize = 0;
-    while w < 16 {
+    for w in 0..16 {
         out[at + w] = x[8 * w + l];
-        w += 1;
     }
 }
 
@@ -44,23 +42,8 @@ fn put_lanes(out: &mut [u32], at: usize, x: &[u32; 128])
     requires { at + 128 ≤ length out.old }
     ensures { out.new ≡ over at (in_order 8 x.now) out.old }
 {
-    let mut l: usize = 0;
-    while l < 8 {
+    for l in 0..8 {
         put_lane(out, at + 16 * l, x, l);
-        l += 1;
-    }
-}
-
-// The starting states of four blocks in a row.
-fn four_starts(x: &mut [u32; 64], key: [u32; 8], counter: u32, nonce: [u32; 3])
-    ensures { rows 4 x.new ≡ starts 4 key counter nonce }
-{
-    let mut n = counter;
-    let mut l: usize = 0;
-    while l < 4 {
-        chacha20_lanes4::set_lane(x, l, chacha20_block::start(key, n, nonce));
-        n = base_words::add(n, 1);
-        l += 1;
     }
 }
 
@@ -69,10 +52,8 @@ fn in_order(x: &[u32; 64]) -> [u32; 64]
     ensures { result ≡ in_order 4 x.now }
 {
     let mut k = [0u32; 64];
-    let mut i: usize = 0;
-    while i < 64 {
+    for i in 0..64 {
         k[i] = x[4 * (i % 16) + i / 16];
-        i += 1;
     }
     k
 }
@@ -82,8 +63,7 @@ fn four_blocks(key: [u32; 8], counter: u32, nonce: [u32; 3]) -> [u32; 64]
     ensures { result ≡ tab (key_word key counter nonce) 64 }
 {
     let mut x = [0u32; 64];
-    four_starts(&mut x, key, counter, nonce);
-    chacha20_x4::four_blocks(&mut x);
+    next_blocks(&mut x, key, counter, nonce);
     in_order(&x)
 }
 
@@ -93,10 +73,8 @@ fn put_part(out: &mut [u32], at: usize, k: &[u32])
     ensures { out.new
         ≡ over at (tab (λ i. get_or k.now i 0) (length out.old - at)) out.old }
 {
-    let mut i: usize = 0;
-    while i < out.len() - at {
+    for i in 0..out.len() - at {
         out[at + i] = k[i];
-        i += 1;
     }
 }
 
@@ -105,14 +83,14 @@ pub fn stream(key: [u32; 8], nonce: [u32; 3], out: &mut [u32])
     ensures { out.new ≡ stream_of key nonce (length out.old) }
 {
     let mut x = [0u32; 128];
-    let mut at: usize = 0;
     let mut n: u32 = 0;
-    while 128 <= out.len() - at {
+    let turns = out.len() / 128;
+    for turn in 0..turns {
         next_blocks(&mut x, key, n, nonce);
-        put_lanes(out, at, &x);
+        put_lanes(out, 128 * turn, &x);
         n = base_words::add(n, 8);
-        at += 128;
     }
+    let at = 128 * turns;
     if at == out.len() {
         return;
     }
@@ -131,10 +109,8 @@ fn store_lane(b: &mut [u8], at: usize, x: &[u32; 128], l: usize)
     requires { (at + 64 ≤ length b.old) × (l < 8) }
     ensures { b.new ≡ over at (bytes_of (get_or (rows 8 x.now) l [])) b.old }
 {
-    let mut w: usize = 0;
-    while w < 16 {
+    for w in 0..16 {
         base_slices::store(b, at + 4 * w, x[8 * w + l]);
-        w += 1;
     }
 }
 
@@ -142,10 +118,8 @@ fn store_lanes(b: &mut [u8], x: &[u32; 128])
     requires { length b.old ≡ 512 }
     ensures { b.new ≡ bytes_of (in_order 8 x.now) }
 {
-    let mut l: usize = 0;
-    while l < 8 {
+    for l in 0..8 {
         store_lane(b, 64 * l, x, l);
-        l += 1;
     }
 }
 
@@ -156,11 +130,9 @@ fn xor_part(bytes: &mut [u8], at: usize, b: &[u8])
         ≡ over at (tab (λ i. bit_xor (get_or bytes.old (at + i) 0) (get_or b.now i 0))
         (min (length b.now) (length bytes.old - at))) bytes.old }
 {
-    let n = base_slices::least(b.len(), bytes.len() - at);
-    let mut i: usize = 0;
-    while i < n {
-        bytes[at + i] = bytes[at + i] ^ b[i];
-        i += 1;
+    let n = b.len().min(bytes.len() - at);
+    for i in 0..n {
+        bytes[at + i] ^= b[i];
     }
 }
 
@@ -173,6 +145,7 @@ pub fn xor(key: [u32; 8], counter: u32, nonce: [u32; 3], bytes: &mut [u8])
     let mut b = [0u8; 512];
     let mut n = counter;
     let mut at: usize = 0;
+    // kept: a `for` would go over 0..(bytes.len() + 255) / 512, and the test says plainer what is left for four blocks.
     while at + 256 < bytes.len() {
         next_blocks(&mut x, key, n, nonce);
         store_lanes(&mut b, &x);

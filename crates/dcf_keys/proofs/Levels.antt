@@ -13,7 +13,7 @@ use Rattle.base_algebra.specs.Bit.{only, odd, only_odd, odd_only, bit_le}
 use Rattle.base_words.specs.Xor.{xors, odd_xor}
 use Rattle.chacha20_rounds.specs.Rounds.{block_from}
 use Rattle.chacha20_block.specs.ChaCha20.{start, block}
-use Rattle.chacha20_lanes4.specs.Lanes.{each, rows}
+use Rattle.chacha20_lanes.specs.Lanes.{each, rows}
 use Rattle.dcf_function.specs.Dcf as D
 use Rattle.dcf_function.specs.Dcf.{by_sign, bits}
 use Rattle.dcf_node.specs.Node.{child, node_nonce, opened_block, node, first}

@@ -8,7 +8,7 @@ ghost use Rattle.std.specs.Bool.{xor};
 ghost use Rattle.base_algebra.specs.Word.{add, sub};
 ghost use Rattle.base_algebra.specs.Bit.{only, odd};
 ghost use Rattle.base_words.specs.Xor.{xors};
-ghost use Rattle.chacha20_lanes4.specs.Lanes.{rows};
+ghost use Rattle.chacha20_lanes.specs.Lanes.{rows};
 ghost use Rattle.dcf_function.specs.Dcf.{by_sign, correction as correction_by, kept as kept_by};
 ghost use Rattle.dcf_node.specs.Node.{child, packed, unpacked, key_for, first};
 ghost use Rattle.dcf_keys.specs.Keys.{as_child, as_making, both_opened, opened_at};
@@ -37,18 +37,18 @@ fn open_both(x: &mut [u32; 64], level: u32, s0: [u32; 8], s1: [u32; 8])
     ensures { rows 4 x.new ≡ both_opened level s0 s1 }
 {
     let nonce = dcf_node::nonce(level);
-    chacha20_lanes4::set_lane(x, 0, chacha20_block::start(s0, 0, nonce));
-    chacha20_lanes4::set_lane(x, 1, chacha20_block::start(s0, 1, nonce));
-    chacha20_lanes4::set_lane(x, 2, chacha20_block::start(s1, 0, nonce));
-    chacha20_lanes4::set_lane(x, 3, chacha20_block::start(s1, 1, nonce));
-    chacha20_x4::four_blocks(x);
+    chacha20_lanes::set_lane(x, 0, chacha20_block::start(s0, 0, nonce));
+    chacha20_lanes::set_lane(x, 1, chacha20_block::start(s0, 1, nonce));
+    chacha20_lanes::set_lane(x, 2, chacha20_block::start(s1, 0, nonce));
+    chacha20_lanes::set_lane(x, 3, chacha20_block::start(s1, 1, nonce));
+    chacha20_wide::blocks(x);
 }
 
 fn child_at(x: &[u32; 64], l: usize) -> Child
     requires { l < 4 }
     ensures { as_child result ≡ child (get_or (rows 4 x.now) l []) }
 {
-    let s = chacha20_lanes4::lane(x, l);
+    let s = chacha20_lanes::lane(x, l);
     Child {
         seed: [s.x0, s.x1, s.x2, s.x3, s.x4, s.x5, s.x6, s.x7],
         word: s.x8,

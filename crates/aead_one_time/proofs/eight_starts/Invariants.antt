@@ -1,7 +1,7 @@
 use mathlib.Core.Path.{◌≡◌}
 use Prim.Native.Nat.{◌≤◌, ◌-◌}
 use Rattle.base_algebra.specs.Word.{add}
-use Rattle.chacha20_lanes4.specs.Lanes.{rows, up_to}
+use Rattle.chacha20_lanes.specs.Lanes.{rows, up_to}
 use Rattle.aead_one_time.specs.OneTime.{starts}
 use Rattle.aead_one_time.proofs.eight_starts.Given as goal
 

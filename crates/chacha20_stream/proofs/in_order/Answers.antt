@@ -10,19 +10,18 @@ use Rattle.chacha20_stream.proofs.in_order.Goals as goal
 
 pub loop-i-init : goal.loop-i-init
 unfolding tab
-loop-i-init c = (search rules, refl, refl)
+loop-i-init c = (refl, refl)
 
 pub loop-i-preserved : goal.loop-i-preserved
 loop-i-preserved c =
     let x = c.args.x.now in
     let i = c.loop-i.i in
     let rule : ℕ → ℕ = λ j. get_or x (4 * (j % 16) + j / 16) 0 in (
-      search rules,
-      ap (λ l. set l i (rule i)) c.loop-i.invariant.1 ∙ tab_more rule i _ (search rules),
+      ap (λ l. set l i (rule i)) c.loop-i.invariant.0 ∙ tab_more rule i _ (search rules),
       simp length-set (omega arith),
     )
 
 pub returns : goal.returns
 returns c =
     let done : c.loop-i.i ≡ 64 = omega arith in
-    rw done at c.loop-i.invariant.1 ∙ append-nil _ ∙ places 4 _
+    rw done at c.loop-i.invariant.0 ∙ append-nil _ ∙ places 4 _

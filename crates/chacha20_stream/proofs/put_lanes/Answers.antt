@@ -5,14 +5,13 @@ use Rattle.std.proofs.Common.{rules}
 use Rattle.chacha20_stream.proofs.put_lanes.Goals as goal
 
 pub loop-l-init : goal.loop-l-init
-loop-l-init c = (search rules, put_none 8 _ _ _, refl)
+loop-l-init c = (put_none 8 _ _ _, refl)
 
 pub loop-l-preserved : goal.loop-l-preserved
 loop-l-preserved c = (
-  search rules,
-  put_more 8 _ _ _ _ _ _ (search rules) c.loop-l.invariant.1 c.put_lane.ensures,
+  put_more 8 _ _ _ _ _ _ (search rules) c.loop-l.invariant.0 c.put_lane.ensures,
   search rules,
 )
 
 pub returns : goal.returns
-returns c = put_all 8 _ _ _ _ c.loop-l.l (omega arith) c.loop-l.invariant.1
+returns c = put_all 8 _ _ _ _ c.loop-l.l (omega arith) c.loop-l.invariant.0

@@ -4,19 +4,18 @@ use native.Mathlib.Omega.{arith}
 use lib.ListN.{get_or}
 use Rattle.base_words.specs.List.{over, tab}
 use Rattle.base_words.specs.Bytes.{bytes_of, over_word}
-use Rattle.chacha20_lanes4.specs.Lanes.{col, row}
+use Rattle.chacha20_lanes.specs.Lanes.{col, row}
 use Rattle.std.proofs.Common.{rules}
 use Rattle.chacha20_stream.proofs.store_lane.Goals as goal
 
 pub loop-w-init : goal.loop-w-init
 unfolding over tab bytes_of
-loop-w-init c = (search rules, refl, refl)
+loop-w-init c = (refl, refl)
 
 pub loop-w-preserved : goal.loop-w-preserved
 loop-w-preserved c = (
-  search rules,
   over_word (λ w. get_or c.args.x.now (8 * w + c.args.l) 0) _ _ _ _ _
-      c.loop-w.invariant.1 c.store.ensures,
+      c.loop-w.invariant.0 c.store.ensures,
   search rules,
 )
 
@@ -24,6 +23,6 @@ pub returns : goal.returns
 unfolding col
 returns c =
     let done : c.loop-w.w ≡ 16 = omega arith in
-    rw done at c.loop-w.invariant.1
+    rw done at c.loop-w.invariant.0
     ∙ ap (λ r. over c.args.at (bytes_of r) c.args.b.now)
     (sym (row 8 c.args.l c.args.x.now (search rules)))

@@ -1,5 +1,4 @@
 use mathlib.Core.Path.{◌≡◌}
-use Prim.Native.Nat.{◌≤◌, ◌-◌}
 use lib.ListN.{length}
 use Rattle.base_words.specs.List.{over}
 use Rattle.base_words.specs.Bytes.{bytes_of}
@@ -8,7 +7,4 @@ use Rattle.chacha20_stream.proofs.store_lanes.Given as goal
 
 abbrev pub invariant-loop-l : goal.invariant-loop-l
 invariant-loop-l l =
-    (l.l ≤ 8) × (l.b ≡ over 0 (bytes_of (laid 8 l.l l.x)) l.initial.b) × (length l.b ≡ length l.initial.b)
-
-abbrev pub decreases-loop-l : goal.decreases-loop-l
-decreases-loop-l l = 8 - l.l
+    (l.b ≡ over 0 (bytes_of (laid 8 l.l l.x)) l.initial.b) × (length l.b ≡ length l.initial.b)

@@ -1,5 +1,5 @@
 use mathlib.Core.Path.{◌≡◌}
-use Prim.Native.Nat.{◌≤◌, ◌-◌, ◌+◌}
+use Prim.Native.Nat.{◌+◌}
 use lib.Bits.{bit_xor}
 use lib.ListN.{length, get_or}
 use Rattle.base_words.specs.List.{over, tab}
@@ -7,10 +7,6 @@ use Rattle.chacha20_stream.proofs.xor_part.Given as goal
 
 abbrev pub invariant-loop-i : goal.invariant-loop-i
 invariant-loop-i l =
-    (l.i ≤ l.n)
-    × (l.bytes ≡ over l.at (tab (λ i'. bit_xor (get_or l.initial.bytes (l.at + i') 0) (get_or l.b i' 0)) l.i)
+    (l.bytes ≡ over l.at (tab (λ i'. bit_xor (get_or l.initial.bytes (l.at + i') 0) (get_or l.b i' 0)) l.i)
     l.initial.bytes)
     × (length l.bytes ≡ length l.initial.bytes)
-
-abbrev pub decreases-loop-i : goal.decreases-loop-i
-decreases-loop-i l = l.n - l.i
