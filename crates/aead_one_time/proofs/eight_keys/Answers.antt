@@ -8,4 +8,4 @@ returns c =
     let args = c.args in
     c.store_keys.ensures
     ∙ keys_law 8 args.key.now _ args.a args.b _ _ _ (search rules) (search rules)
-    c.key_words.ensures c.eight_starts.ensures c.blocks.ensures
+    c.key_words.ensures c.eight_starts.ensures c.blocks-2.ensures

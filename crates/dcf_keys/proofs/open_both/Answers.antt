@@ -7,4 +7,4 @@ returns c =
     c.nonce-nonce.ensures c.start.ensures c.set_lane.ensures
     c.start-2.ensures c.set_lane-2.ensures
     c.start-3.ensures c.set_lane-3.ensures
-    c.start-4.ensures c.set_lane-4.ensures c.blocks.ensures
+    c.start-4.ensures c.set_lane-4.ensures c.blocks-2.ensures
