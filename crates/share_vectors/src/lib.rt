@@ -16,10 +16,8 @@ pub fn add_vectors(n: usize, a: &[u32], b: &[u32], out: &mut [u32])
     requires { (n ≤ length a.now) × (n ≤ length b.now) × (n ≤ length out.old) }
     ensures { out.new ≡ over 0 (plus n a.now b.now) out.old }
 {
-    let mut i: usize = 0;
-    while i < n {
+    for i in 0..n {
         out[i] = base_words::add(a[i], b[i]);
-        i += 1;
     }
 }
 
@@ -29,10 +27,8 @@ pub fn inner(n: usize, a: &[u32], b: &[u32]) -> u32
     ensures { result ≡ inner_of n a.now b.now }
 {
     let mut total: u32 = 0;
-    let mut i: usize = 0;
-    while i < n {
+    for i in 0..n {
         total = base_words::add(total, base_words::mul(a[i], b[i]));
-        i += 1;
     }
     total
 }
@@ -74,15 +70,13 @@ pub fn share_of(party: u32, n: usize, c: u32, mx: &[u32], my: &[u32], sx: &[u32]
     ensures { result ≡ share_of party n c mx.now my.now sx.now sy.now }
 {
     let mut total = c;
-    let mut i: usize = 0;
-    while i < n {
+    for i in 0..n {
         let factor = base_words::sub(base_words::only(party, my[i]), sy[i]);
         let place = base_words::sub(
             base_words::mul(mx[i], factor),
             base_words::mul(my[i], sx[i]),
         );
         total = base_words::add(total, place);
-        i += 1;
     }
     total
 }
