@@ -148,10 +148,8 @@ pub fn all_in_range(terms: Terms, v: &[u32]) -> bool
     ensures { result ≡ all_in_range terms v.now }
 {
     let mut all = true;
-    let mut at: usize = 0;
-    while at < v.len() {
-        all = all & in_range(terms, v[at]);
-        at += 1;
+    for w in v {
+        all = all & in_range(terms, *w);
     }
     all
 }

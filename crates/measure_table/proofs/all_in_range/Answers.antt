@@ -7,17 +7,17 @@ use Rattle.measure_table.proofs.Rows.{all_more, all_whole}
 use Rattle.std.proofs.Common.{rules}
 use Rattle.measure_table.proofs.all_in_range.Goals as goal
 
-pub loop-at-init : goal.loop-at-init
+pub loop-w-init : goal.loop-w-init
 unfolding all_in_range
-loop-at-init c = (refl, search rules)
+loop-w-init c = refl
 
-pub loop-at-preserved : goal.loop-at-preserved
-loop-at-preserved c =
+pub loop-w-preserved : goal.loop-w-preserved
+loop-w-preserved c =
     let args = c.args in
-    let more = all_more args.terms args.v.now c.loop-at.at (omega arith) in
-    (ap₂ ◌&&◌ c.loop-at.invariant.0 c.in_range-all.ensures ∙ sym more, search rules)
+    let more = all_more args.terms args.v.now c.loop-w.w-index (omega arith) in
+    ap₂ ◌&&◌ c.loop-w.invariant c.in_range-all.ensures ∙ sym more
 
 pub returns : goal.returns
 returns c =
-    let all : c.loop-at.at ≡ length c.args.v.now = omega arith in
-    c.loop-at.invariant.0 ∙ all_whole _ _ _ all
+    let all : c.loop-w.w-index ≡ length c.args.v.now = omega arith in
+    c.loop-w.invariant ∙ all_whole _ _ _ all
