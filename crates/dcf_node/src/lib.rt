@@ -3,7 +3,7 @@
 // nothing here branches on one: a mask of ones or zeros takes a correction or leaves it.
 #![tactic(auto)]
 
-ghost use Rattle.std.specs.Prelude.{◌≡◌, ◌&&◌, ◌<◌};
+ghost use Rattle.std.specs.Prelude.{◌≡◌, ◌&&◌, ◌<◌, take};
 ghost use Rattle.std.specs.Bool.{xor};
 ghost use Rattle.base_algebra.specs.Bit.{only as only_if, odd};
 ghost use Rattle.base_words.specs.Xor.{xors};
@@ -59,20 +59,22 @@ pub fn level_bit(u: u32, i: usize) -> u32
     (u >> (31 - i)) & 1
 }
 
+// The seed of the child whose block is s.
+pub fn seed_of(s: State) -> [u32; 8]
+    ensures { result ≡ take 8 (words s) }
+{
+    [s.x0, s.x1, s.x2, s.x3, s.x4, s.x5, s.x6, s.x7]
+}
+
 // A seed, xored with its correction if the flag is set.
 pub fn corrected(flag: u32, s: [u32; 8], c: [u32; 8]) -> [u32; 8]
     ensures { result ≡ corrected_by xors (odd flag) s c }
 {
-    [
-        s[0] ^ base_words::only(flag, c[0]),
-        s[1] ^ base_words::only(flag, c[1]),
-        s[2] ^ base_words::only(flag, c[2]),
-        s[3] ^ base_words::only(flag, c[3]),
-        s[4] ^ base_words::only(flag, c[4]),
-        s[5] ^ base_words::only(flag, c[5]),
-        s[6] ^ base_words::only(flag, c[6]),
-        s[7] ^ base_words::only(flag, c[7]),
-    ]
+    let mut out = [0; 8];
+    for i in 0..8 {
+        out[i] = s[i] ^ base_words::only(flag, c[i]);
+    }
+    out
 }
 
 // The flag correction of side d.
@@ -95,7 +97,7 @@ pub fn taken(w: Walk, c: Correction, d: u32, s: State) -> Walk
 {
     let f = w.flag;
     let e = c.seed;
-    let seed = [s.x0, s.x1, s.x2, s.x3, s.x4, s.x5, s.x6, s.x7];
+    let seed = seed_of(s);
     Walk {
         seed: corrected(f, seed, e),
         flag: next_flag(f, s.x9, c, d),

@@ -24,89 +24,69 @@ fn finished(w: Walk, last: u32, party: u32) -> u32
     dcf_node::by_sign(party, total)
 }
 
-// The values at two inputs.
-#[derive(Clone, Copy)]
-pub struct Both {
-    pub first: u32,
-    pub second: u32,
-}
-
 // The value at u of the party whose key seed is `seed`.
+// kept: key, seed and party apart, as a half has them: a struct would copy the key's 1284 bytes once more a check.
+// kept: this beside `values`: one generic walk would take a trait of one or two walks, with a law and two impls, to
+// share a loop of five lines; and two walks alone open two blocks at once.
 pub fn value(key: Key, seed: [u32; 8], party: u32, u: u32) -> u32
     ensures { result ≡ value_at party key seed u }
 {
     let corrections = key.corrections;
     let mut w = Walk {
-        seed: seed,
+        seed,
         flag: party,
         total: 0,
     };
-    let mut i: usize = 0;
-    while i < 32 {
+    for i in 0..32 {
         let c = corrections[i];
         let d = dcf_node::level_bit(u, i);
         let level = i as u32 + 1;
         let s = w.seed;
         w = dcf_node::taken(w, c, d, chacha20_block::block(s, d, dcf_node::nonce(level)));
-        i += 1;
     }
     finished(w, key.last, party)
 }
 
-// Two walks side by side.
-#[derive(Clone, Copy)]
-pub struct Walks {
-    pub a: Walk,
-    pub b: Walk,
-}
-
 // A level of both walks, to side d and to side e: two blocks at once.
-fn both_taken(w: Walks, level: u32, c: Correction, d: u32, e: u32) -> Walks
-    ensures a_value { as_walk result.a
-        ≡ taken_by xors (unpacked c) (odd d) (child (opened_block level w.a.seed d)) (as_walk w.a) }
-    ensures b_value { as_walk result.b
-        ≡ taken_by xors (unpacked c) (odd e) (child (opened_block level w.b.seed e)) (as_walk w.b) }
+fn both_taken(w: (Walk, Walk), level: u32, c: Correction, d: u32, e: u32) -> (Walk, Walk)
+    ensures a_value { as_walk result.0
+        ≡ taken_by xors (unpacked c) (odd d) (child (opened_block level w.0.seed d)) (as_walk w.0) }
+    ensures b_value { as_walk result.1
+        ≡ taken_by xors (unpacked c) (odd e) (child (opened_block level w.1.seed e)) (as_walk w.1) }
 {
     let nonce = dcf_node::nonce(level);
-    let a = w.a;
-    let b = w.b;
+    let (a, b) = w;
     let s = a.seed;
     let t = b.seed;
     let blocks = chacha20_x2::two_blocks(Two {
         a: chacha20_block::start(s, d, nonce),
         b: chacha20_block::start(t, e, nonce),
     });
-    Walks {
-        a: dcf_node::taken(a, c, d, blocks.a),
-        b: dcf_node::taken(b, c, e, blocks.b),
-    }
+    (
+        dcf_node::taken(a, c, d, blocks.a),
+        dcf_node::taken(b, c, e, blocks.b),
+    )
 }
 
 // The values at u and at v, in one walk.
-pub fn values(key: Key, seed: [u32; 8], party: u32, u: u32, v: u32) -> Both
-    ensures first_value { result.first ≡ value_at party key seed u }
-    ensures second_value { result.second ≡ value_at party key seed v }
+pub fn values(key: Key, seed: [u32; 8], party: u32, u: u32, v: u32) -> (u32, u32)
+    ensures first_value { result.0 ≡ value_at party key seed u }
+    ensures second_value { result.1 ≡ value_at party key seed v }
 {
     let corrections = key.corrections;
     let start = Walk {
-        seed: seed,
+        seed,
         flag: party,
         total: 0,
     };
-    let mut w = Walks { a: start, b: start };
-    let mut i: usize = 0;
-    while i < 32 {
+    let mut w = (start, start);
+    for i in 0..32 {
         let c = corrections[i];
         let d = dcf_node::level_bit(u, i);
         let e = dcf_node::level_bit(v, i);
         let level = i as u32 + 1;
         w = both_taken(w, level, c, d, e);
-        i += 1;
     }
-    let a = w.a;
-    let b = w.b;
-    Both {
-        first: finished(a, key.last, party),
-        second: finished(b, key.last, party),
-    }
+    let (a, b) = w;
+    (finished(a, key.last, party), finished(b, key.last, party))
 }

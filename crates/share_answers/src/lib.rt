@@ -23,8 +23,8 @@ pub fn answer(width: u32, party: u32, key: Key, seed: [u32; 8], z: u32) -> u32
     ensures { result ≡ answer_of width party key seed z }
 {
     let end = base_words::add(width, 1);
-    let at = dcf_walk::values(key, seed, party, base_words::sub(z, end), z);
-    let difference = base_words::sub(at.first, at.second);
+    let (first, second) = dcf_walk::values(key, seed, party, base_words::sub(z, end), z);
+    let difference = base_words::sub(first, second);
     base_words::add(difference, base_words::only(party, below(z, end)))
 }
 
@@ -32,5 +32,5 @@ pub fn answer(width: u32, party: u32, key: Key, seed: [u32; 8], z: u32) -> u32
 fn below(z: u32, end: u32) -> u32
     ensures { result ≡ less z end }
 {
-    if z < end { 1 } else { 0 }
+    (z < end) as u32
 }

@@ -10,9 +10,9 @@ unfolding answer
 returns c =
     let args = c.args in
     let place = c.sub.ensures ∙ ap (sub args.z) c.add-end.ensures in
-    let first = c.values-at.ensures.first_value ∙ ap (value_at args.party args.key args.seed) place in
+    let first = c.values-first.ensures.first_value ∙ ap (value_at args.party args.key args.seed) place in
     let one = c.below.ensures ∙ ap (less args.z) c.add-end.ensures in
     c.add.ensures
     ∙ ap₂ add
-    (c.sub-difference.ensures ∙ ap₂ sub first c.values-at.ensures.second_value)
+    (c.sub-difference.ensures ∙ ap₂ sub first c.values-first.ensures.second_value)
     (c.only.ensures ∙ ap (only (odd args.party)) one)

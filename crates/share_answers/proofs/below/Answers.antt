@@ -1,10 +1,15 @@
-use mathlib.Core.Path.{sym}
-use Rattle.base_algebra.specs.Bit.{less_lt, less_ge}
-use Rattle.std.proofs.Common.{rules}
+use mathlib.Core.Path.{◌≡◌, refl}
+use mathlib.Core.Bool.{Bool, true, false}
+use lib.Dec.{ltb}
+use mir.Val.{bool_byte}
+use Rattle.base_algebra.specs.Bit.{less, only}
 use Rattle.share_answers.proofs.below.Goals as goal
 
-pub returns-then-z-end : goal.returns-then-z-end
-returns-then-z-end c = sym (less_lt _ _ (search rules))
+byte_only : (b : Bool) → bool_byte b ≡ only b 1
+unfolding only
+byte_only true = refl
+byte_only false = refl
 
-pub returns-else-z-end : goal.returns-else-z-end
-returns-else-z-end c = sym (less_ge _ _ (search rules))
+pub returns : goal.returns
+unfolding less
+returns c = byte_only (ltb c.args.z c.args.end)
