@@ -54,6 +54,7 @@ pub fn no_correction() -> Correction
 }
 
 // All that a set brings, at zero.
+// kept: a function, since Rust has no `Default` for arrays of 512 words and none would be shorter by hand.
 pub fn no_set() -> Set
     ensures { result ≡ no_set }
 {
@@ -106,67 +107,58 @@ pub const MARK_IN_TAIL: usize = WIDTH_IN_TAIL + 4;
 pub const TAIL: usize = MARK_IN_TAIL + 1;
 
 // The share of X's mask.
-pub fn x_at(n: usize) -> usize
-    requires { n ≤ 65535 }
+pub fn x_at(n: u16) -> usize
     ensures { result ≡ offset n x_field }
 {
-    HEAD + 4 * n
+    HEAD + 4 * usize::from(n)
 }
 
 // The share of Y's mask.
-pub fn y_at(n: usize) -> usize
-    requires { n ≤ 65535 }
+pub fn y_at(n: u16) -> usize
     ensures { result ≡ offset n y_field }
 {
-    x_at(n) + 4 * n
+    x_at(n) + 4 * usize::from(n)
 }
 
-pub fn c_at(n: usize) -> usize
-    requires { n ≤ 65535 }
+pub fn c_at(n: u16) -> usize
     ensures { result ≡ offset n c_field }
 {
-    y_at(n) + 4 * n
+    y_at(n) + 4 * usize::from(n)
 }
 
-pub fn r_at(n: usize) -> usize
-    requires { n ≤ 65535 }
+pub fn r_at(n: u16) -> usize
     ensures { result ≡ offset n r_field }
 {
     c_at(n) + R_IN_TAIL
 }
 
 // The key seed.
-pub fn seed_at(n: usize) -> usize
-    requires { n ≤ 65535 }
+pub fn seed_at(n: u16) -> usize
     ensures { result ≡ offset n seed_field }
 {
     c_at(n) + SEED_IN_TAIL
 }
 
-pub fn corrections_at(n: usize) -> usize
-    requires { n ≤ 65535 }
+pub fn corrections_at(n: u16) -> usize
     ensures { result ≡ offset n corrections_field }
 {
     c_at(n) + CORRECTIONS_IN_TAIL
 }
 
 // The final word.
-pub fn last_at(n: usize) -> usize
-    requires { n ≤ 65535 }
+pub fn last_at(n: u16) -> usize
     ensures { result ≡ offset n last_field }
 {
     c_at(n) + LAST_IN_TAIL
 }
 
-pub fn width_at(n: usize) -> usize
-    requires { n ≤ 65535 }
+pub fn width_at(n: u16) -> usize
     ensures { result ≡ offset n width_field }
 {
     c_at(n) + WIDTH_IN_TAIL
 }
 
-pub fn mark_at(n: usize) -> usize
-    requires { n ≤ 65535 }
+pub fn mark_at(n: u16) -> usize
     ensures { result ≡ offset n mark_field }
 {
     c_at(n) + MARK_IN_TAIL
@@ -184,17 +176,15 @@ pub fn width_fits(width: u32, mark: u32) -> bool
 }
 
 // The bytes of all fields.
-pub fn size_of(n: usize) -> usize
-    requires { n ≤ 65535 }
+pub fn size_of(n: u16) -> usize
     ensures { result ≡ size n }
 {
     c_at(n) + TAIL
 }
 
 // How many blocks the content of a set of length n fills.
-pub fn blocks_of(n: usize) -> usize
-    requires { n ≤ 65535 }
+pub fn blocks_of(n: u16) -> usize
     ensures { result ≡ block_count n }
 {
-    (size_of(n) + TEXT - 1) / TEXT
+    size_of(n).div_ceil(TEXT)
 }

@@ -13,105 +13,83 @@ use half_content::{
     CODE_AT, CORRECTIONS_IN_TAIL, HEAD, LAST_IN_TAIL, LENGTH_AT, MARK_IN_TAIL, PARTY_AT, R_IN_TAIL,
     ROOM, SEED_IN_TAIL, Set, TAIL, WIDTH_IN_TAIL,
 };
-use measure_table::{MOST_ELEMENTS, Terms};
+use measure_table::Terms;
 
 // Name, party, measure code and L.
-fn head(name: [u8; 16], party: u32, terms: Terms) -> [u8; HEAD]
-    requires { (party < 256) × (terms.code < 256) }
-    ensures { result ≡ flat (name ∷ (party ∷ []) ∷ (terms.code ∷ []) ∷ bytes 2 terms.n ∷ []) }
+fn head(name: &[u8; 16], party: u32, terms: Terms) -> [u8; HEAD]
+    requires { (party < 256) × (terms.code < 256) × (terms.n ≤ most_elements) }
+    ensures { result ≡ flat (name.now ∷ (party ∷ []) ∷ (terms.code ∷ []) ∷ bytes 2 terms.n ∷ []) }
 {
     let mut h = [0u8; HEAD];
-    base_slices::copy(&mut h, 0, &name);
+    base_slices::copy(&mut h, 0, name);
     h[PARTY_AT] = party as u8;
     h[CODE_AT] = terms.code as u8;
-    h[LENGTH_AT] = (terms.n % 256) as u8;
-    h[LENGTH_AT + 1] = (terms.n / 256 % 256) as u8;
+    let [low, high] = (terms.n as u16).to_le_bytes();
+    h[LENGTH_AT] = low;
+    h[LENGTH_AT + 1] = high;
     h
 }
 
 // A correction: seed, word, flag byte.
-fn correction_bytes(seed: [u32; 8], word: u32, flags: u32) -> [u8; 37]
-    requires { flags < 256 }
-    ensures { result ≡ bytes_of seed ++ (le32 word ++ (flags ∷ [])) }
+fn correction_bytes(c: &Correction) -> [u8; 37]
+    requires { c.now.flags < 256 }
+    ensures { result ≡ correction_bytes c.now }
 {
     let mut b = [0u8; 37];
-    base_slices::store_all(&mut b, 0, &seed);
-    base_slices::store(&mut b, 32, word);
-    b[36] = flags as u8;
+    base_slices::store_all(&mut b, 0, &c.seed);
+    base_slices::store(&mut b, 32, c.word);
+    b[36] = c.flags as u8;
     b
 }
 
 // The 32 corrections over the bytes from `at` on.
-fn store_corrections(out: &mut [u8], at: usize, cs: [Correction; 32])
+fn store_corrections(out: &mut [u8], at: usize, cs: &[Correction; 32])
     requires at_in_bounds { at + 32 * 37 ≤ length out.old }
-    requires flag_bytes { FlagBytes cs }
-    ensures out_after { out.new ≡ over at (flat (map correction_bytes cs)) out.old }
-    ensures cs_len { length (flat (map correction_bytes cs)) ≡ 32 * 37 }
+    requires flag_bytes { FlagBytes cs.now }
+    ensures out_after { out.new ≡ over at (flat (map correction_bytes cs.now)) out.old }
+    ensures cs_len { length (flat (map correction_bytes cs.now)) ≡ 32 * 37 }
 {
-    let mut i: usize = 0;
-    while i < 32 {
-        let c = cs[i];
-        let seed = c.seed;
-        let b = correction_bytes(seed, c.word, c.flags);
+    for i in 0..32 {
+        let b = correction_bytes(&cs[i]);
         base_slices::copy(out, at + 37 * i, &b);
-        i += 1;
     }
 }
 
 // What follows the three vectors: c, r, the key seed, the corrections, the final word, the width and
 // the mark.
-fn tail(
-    c: u32,
-    r: u32,
-    seed: [u32; 8],
-    cs: [Correction; 32],
-    last: u32,
-    width: u32,
-    mark: u32,
-) -> [u8; TAIL]
-    requires flag_bytes { FlagBytes cs }
-    requires mark_bound { mark < 256 }
-    ensures { result ≡ flat (le32 c ∷ le32 r ∷ bytes_of seed ∷ flat (map correction_bytes cs)
-        ∷ le32 last ∷ le32 width ∷ (mark ∷ []) ∷ []) }
+fn tail(s: &Set) -> [u8; TAIL]
+    requires flag_bytes { FlagBytes s.now.key.corrections }
+    requires mark_bound { s.now.mark < 256 }
+    ensures { result ≡ flat (le32 s.now.c ∷ le32 s.now.r ∷ bytes_of s.now.seed
+        ∷ flat (map correction_bytes s.now.key.corrections) ∷ le32 s.now.key.last ∷ le32 s.now.width
+        ∷ (s.now.mark ∷ []) ∷ []) }
 {
     let mut t = [0u8; TAIL];
-    base_slices::store(&mut t, 0, c);
-    base_slices::store(&mut t, R_IN_TAIL, r);
-    base_slices::store_all(&mut t, SEED_IN_TAIL, &seed);
-    store_corrections(&mut t, CORRECTIONS_IN_TAIL, cs);
-    base_slices::store(&mut t, LAST_IN_TAIL, last);
-    base_slices::store(&mut t, WIDTH_IN_TAIL, width);
-    t[MARK_IN_TAIL] = mark as u8;
+    base_slices::store(&mut t, 0, s.c);
+    base_slices::store(&mut t, R_IN_TAIL, s.r);
+    base_slices::store_all(&mut t, SEED_IN_TAIL, &s.seed);
+    store_corrections(&mut t, CORRECTIONS_IN_TAIL, &s.key.corrections);
+    base_slices::store(&mut t, LAST_IN_TAIL, s.key.last);
+    base_slices::store(&mut t, WIDTH_IN_TAIL, s.width);
+    t[MARK_IN_TAIL] = s.mark as u8;
     t
 }
 
-// The first n words of w over the bytes from `at` on.
-fn store_first(out: &mut [u8], at: usize, n: usize, w: [u32; MOST_ELEMENTS])
-    requires { (n ≤ most_elements) × (at + 4 * n ≤ length out.old) }
-    ensures { out.new ≡ over at (bytes_of (take n w)) out.old }
+// A head, the used words of the set's three vectors and a tail, and zeros up to the most blocks.
+fn joined(h: &[u8; HEAD], s: &Set, t: &[u8; TAIL]) -> [u8; ROOM]
+    requires { s.now.terms.n ≤ most_elements }
+    ensures { let n = s.now.terms.n in
+        result ≡ flat (h.now ∷ bytes_of (take n s.now.mask) ∷ bytes_of (take n s.now.x)
+        ∷ bytes_of (take n s.now.y) ∷ t.now ∷ []) ++ replicate (room_bytes - size n) 0 }
 {
-    base_slices::store_all(out, at, &w[..n]);
-}
-
-// A head, the first n words of three vectors and a tail, and zeros up to the most blocks.
-fn joined(
-    h: [u8; HEAD],
-    n: usize,
-    mask: [u32; MOST_ELEMENTS],
-    x: [u32; MOST_ELEMENTS],
-    y: [u32; MOST_ELEMENTS],
-    t: [u8; TAIL],
-) -> [u8; ROOM]
-    requires { n ≤ most_elements }
-    ensures { result ≡ flat (h ∷ bytes_of (take n mask) ∷ bytes_of (take n x) ∷ bytes_of (take n y) ∷ t ∷ [])
-        ++ replicate (room_bytes - size n) 0 }
-{
+    let n = s.terms.n;
+    let length = n as u16;
     let mut out = [0u8; ROOM];
-    base_slices::copy(&mut out, 0, &h);
-    store_first(&mut out, HEAD, n, mask);
-    store_first(&mut out, half_content::x_at(n), n, x);
-    store_first(&mut out, half_content::y_at(n), n, y);
-    base_slices::copy(&mut out, half_content::c_at(n), &t);
+    base_slices::copy(&mut out, 0, h);
+    base_slices::store_all(&mut out, HEAD, &s.mask[..n]);
+    base_slices::store_all(&mut out, half_content::x_at(length), &s.x[..n]);
+    base_slices::store_all(&mut out, half_content::y_at(length), &s.y[..n]);
+    base_slices::copy(&mut out, half_content::c_at(length), t);
     out
 }
 
@@ -122,14 +100,7 @@ pub fn lay_out(name: [u8; 16], party: u32, s: Set) -> [u8; ROOM]
     requires mark_bound { s.mark < 256 }
     ensures { result ≡ flat (fields name party s) ++ replicate (room_bytes - size s.terms.n) 0 }
 {
-    let mask = s.mask;
-    let x = s.x;
-    let y = s.y;
-    let seed = s.seed;
-    let key = s.key;
-    let corrections = key.corrections;
-    let terms = s.terms;
-    let h = head(name, party, terms);
-    let t = tail(s.c, s.r, seed, corrections, key.last, s.width, s.mark);
-    joined(h, terms.n, mask, x, y, t)
+    let h = head(&name, party, s.terms);
+    let t = tail(&s);
+    joined(&h, &s, &t)
 }

@@ -5,7 +5,7 @@ use Prim.Native.Nat.{ℕ, zero, suc, ◌+◌, ◌*◌, ◌-◌, ◌<◌, ◌≤�
 use native.Mathlib.Numerals.{add-one}
 use native.Mathlib.Omega.{arith}
 use lib.ListN.{length, drop_of_length-le, get_or, take, drop, set, replicate, length-append}
-use lib.Seq.{drop-cons, set_at, append_snoc}
+use lib.Seq.{drop-cons, set_at, append_snoc, take_all}
 use Rattle.base_words.specs.List.{tab, length_tab, tab_more}
 use Rattle.base_words.specs.Bytes.{word_at, words_at}
 use Rattle.dcf_node.specs.declared.Correction.{Correction}
@@ -29,18 +29,24 @@ unfolding words_at
 vector_law f w z n h ez e = e ∙ fill_rest _ z n (length_tab (λ i. word_at f (4 * i)) n) h ez
 
 -- a correction, from its own 37 bytes
-pub correction_in_law : (f seed : List ℕ) (i word flags : ℕ)
-    → seed ≡ words_at 8 (take (37 * i + 32 - 37 * i) (drop (37 * i) f))
-    → word ≡ word_at f (37 * i + 32) → flags ≡ get_or f (37 * i + 36) 0
-    → ◌≡◌ {A = Correction} (record { seed = seed; word = word; flags = flags }) (correction_in f i)
+abbrev pub read : List ℕ → Correction
+read c = record { seed = words_at 8 c; word = word_at c 32; flags = get_or c 36 0 }
+
+pub read_correction : (c seed : List ℕ) (word flags : ℕ) → length c ≡ 37 → seed ≡ words_at 8 (take 32 c)
+    → word ≡ word_at c 32 → flags ≡ get_or c 36 0
+    → ◌≡◌ {A = Correction} (record { seed = seed; word = word; flags = flags }) (read c)
+unfolding part
+read_correction c seed word flags l es ew ef =
+    let all = take_all 37 c (omega arith) in
+    let s = es ∙ words_at_part 8 0 32 37 c (omega arith) (omega arith) ∙ ap (words_at 8) all in
+    λ k. record { seed = s k; word = ew k; flags = ef k }
+
+pub correction_in_law : (f : List ℕ) (i : ℕ)
+    → read (take (37 * i + 37 - 37 * i) (drop (37 * i) f)) ≡ correction_in f i
 unfolding correction_in part
-correction_in_law f seed i word flags es ew ef =
-    let w : 37 * i + 32 - 37 * i ≡ 32 = omega arith in
-    let s = es ∙ ap (λ (k : ℕ). words_at 8 (take k (drop (37 * i) f))) w
-    ∙ words_at_part 8 (37 * i) 32 37 f (omega arith) (omega arith) in
-    let x = ew ∙ sym (word_at_part (37 * i) 37 f 32 (omega arith)) in
-    let g = ef ∙ sym (get_d_part (37 * i) 37 f 36 (omega arith)) in
-    λ k. record { seed = s k; word = x k; flags = g k }
+correction_in_law f i =
+    let wide : 37 * i + 37 - 37 * i ≡ 37 = omega arith in
+    ap (λ (k : ℕ). read (take k (drop (37 * i) f))) wide
 
 length_corrections_in : (f : List ℕ) (n : ℕ) → length (corrections_in f n) ≡ n
 unfolding corrections_in

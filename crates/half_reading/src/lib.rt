@@ -3,30 +3,23 @@
 #![tactic(auto)]
 
 ghost use Rattle.std.specs.Prelude.{◌≡◌, ◌*◌, ◌<◌, ◌≤◌, length, get_or};
-ghost use Rattle.base_words.specs.Bytes.{words_at};
+ghost use Rattle.base_words.specs.Bytes.{word_at, words_at};
 ghost use Rattle.measure_table.specs.Measure.{most_elements};
 ghost use Rattle.half_content.specs.Content.{text_bytes, most_blocks, mask_field, offset, size, fill, length_in};
 ghost use Rattle.half_content.specs.Content.{terms_in};
-ghost use Rattle.half_content.specs.Content.{correction_in, corrections_in, key_in, set_in, flags_fit, zeros};
+ghost use Rattle.half_content.specs.Content.{corrections_in, key_in, set_in, flags_fit, zeros};
 ghost use Rattle.half_content.specs.Content.{content_fits};
 
 use dcf_node::{Correction, Key};
 use half_content::{CODE_AT, HEAD, LENGTH_AT, PARTY_AT, Set};
 use measure_table::{MOST_ELEMENTS, Terms};
 
-fn byte(b: &[u8], at: usize) -> u32
-    requires { at < length b.now }
-    ensures { (result ≡ get_or b.now at 0) × (result < 256) }
-{
-    b[at] as u32
-}
-
 // L, from its two bytes.
-fn length_in(b: &[u8]) -> usize
+fn length_in(b: &[u8]) -> u16
     requires { offset 0 mask_field ≤ length b.now }
-    ensures { (result ≡ length_in b.now) × (result < 65536) }
+    ensures { result ≡ length_in b.now }
 {
-    (byte(b, LENGTH_AT) + 256 * byte(b, LENGTH_AT + 1)) as usize
+    u16::from_le_bytes([b[LENGTH_AT], b[LENGTH_AT + 1]])
 }
 
 // Measure code and L.
@@ -35,8 +28,8 @@ pub fn terms_in(b: &[u8]) -> Terms
     ensures { (result ≡ terms_in b.now) × (result.n ≡ length_in b.now) × (result.n < 65536) }
 {
     Terms {
-        code: byte(b, CODE_AT),
-        n: length_in(b),
+        code: u32::from(b[CODE_AT]),
+        n: usize::from(length_in(b)),
     }
 }
 
@@ -46,10 +39,8 @@ fn vector(f: &[u8], n: usize) -> [u32; MOST_ELEMENTS]
     ensures { result ≡ fill (words_at n f.now) }
 {
     let mut w = [0u32; MOST_ELEMENTS];
-    let mut i: usize = 0;
-    while i < n {
+    for i in 0..n {
         w[i] = base_slices::load(f, 4 * i);
-        i += 1;
     }
     w
 }
@@ -58,22 +49,18 @@ fn seed_in(f: &[u8]) -> [u32; 8]
     requires { length f.now ≡ 32 }
     ensures { result ≡ words_at 8 f.now }
 {
-    let mut b = [0u8; 32];
-    base_slices::copy(&mut b, 0, f);
-    chacha20_block::key_words(&b)
+    chacha20_block::key_words(&base_slices::bytes_32(f))
 }
 
-// Correction i of those that f holds.
-fn correction_in(f: &[u8], i: usize) -> Correction
-    requires { (i < 32) × (length f.now ≡ 32 * 37) }
-    ensures { result ≡ correction_in f.now i }
+// A correction, from its own bytes.
+fn correction_in(c: &[u8]) -> Correction
+    requires { length c.now ≡ 37 }
+    ensures { result ≡ record { seed = words_at 8 c.now; word = word_at c.now 32; flags = get_or c.now 36 0 } }
 {
-    let at = 37 * i;
-    let end = at + 32;
     Correction {
-        seed: seed_in(&f[at..end]),
-        word: base_slices::load(f, end),
-        flags: byte(f, at + 36),
+        seed: seed_in(&c[..32]),
+        word: base_slices::load(c, 32),
+        flags: u32::from(c[36]),
     }
 }
 
@@ -83,16 +70,14 @@ fn corrections_in(f: &[u8]) -> [Correction; 32]
 {
     let none = half_content::no_correction();
     let mut cs = [none; 32];
-    let mut i: usize = 0;
-    while i < 32 {
-        cs[i] = correction_in(f, i);
-        i += 1;
+    for i in 0..32 {
+        cs[i] = correction_in(&f[37 * i..37 * i + 37]);
     }
     cs
 }
 
 // The comparison key of plain content whose vectors have n elements.
-fn key_in(b: &[u8], n: usize) -> Key
+fn key_in(b: &[u8], n: u16) -> Key
     requires { (n ≡ length_in b.now) × (n ≤ most_elements) × (size n ≤ length b.now) }
     ensures { result ≡ key_in b.now }
 {
@@ -110,7 +95,7 @@ pub fn read_set(number: u64, b: &[u8]) -> Set
     ensures { result ≡ set_in number b.now }
 {
     let terms = terms_in(b);
-    let n = terms.n;
+    let n = terms.n as u16;
     let x_at = half_content::x_at(n);
     let y_at = half_content::y_at(n);
     let c_at = half_content::c_at(n);
@@ -119,15 +104,15 @@ pub fn read_set(number: u64, b: &[u8]) -> Set
     Set {
         number,
         terms,
-        mask: vector(&b[HEAD..x_at], n),
-        x: vector(&b[x_at..y_at], n),
-        y: vector(&b[y_at..c_at], n),
+        mask: vector(&b[HEAD..x_at], terms.n),
+        x: vector(&b[x_at..y_at], terms.n),
+        y: vector(&b[y_at..c_at], terms.n),
         c: base_slices::load(b, c_at),
         r: base_slices::load(b, half_content::r_at(n)),
         seed: seed_in(&b[seed_at..corrections_at]),
         key: key_in(b, n),
         width: base_slices::load(b, half_content::width_at(n)),
-        mark: byte(b, half_content::mark_at(n)),
+        mark: u32::from(b[half_content::mark_at(n)]),
     }
 }
 
@@ -137,10 +122,8 @@ fn flags_fit(f: &[u8]) -> bool
     ensures { result ≡ flags_fit (corrections_in f.now 32) }
 {
     let mut all = true;
-    let mut i: usize = 0;
-    while i < 32 {
+    for i in 0..32 {
         all = all & (f[37 * i + 36] < 4);
-        i += 1;
     }
     all
 }
@@ -149,10 +132,8 @@ fn all_zero(b: &[u8]) -> bool
     ensures { result ≡ zeros b.now }
 {
     let mut all = true;
-    let mut i: usize = 0;
-    while i < b.len() {
-        all = all & (b[i] == 0);
-        i += 1;
+    for x in b {
+        all = all & (*x == 0);
     }
     all
 }
@@ -164,10 +145,10 @@ pub fn content_fits(name: [u8; 16], party: u32, count: usize, b: &[u8]) -> bool
     ensures { result ≡ content_fits name party count b.now }
 {
     let terms = terms_in(b);
-    let n = terms.n;
     if !measure_table::length_fits(terms) {
         return false;
     }
+    let n = terms.n as u16;
     if half_content::blocks_of(n) != count {
         return false;
     }
@@ -177,9 +158,9 @@ pub fn content_fits(name: [u8; 16], party: u32, count: usize, b: &[u8]) -> bool
     let mark_at = half_content::mark_at(n);
     let end = half_content::size_of(n);
     let named = base_slices::equal(&b[..PARTY_AT], &name);
-    let owned = byte(b, PARTY_AT) == party;
+    let owned = u32::from(b[PARTY_AT]) == party;
     let code = measure_table::is_code(terms.code);
     let flags = flags_fit(&b[corrections_at..last_at]);
-    let width = half_content::width_fits(base_slices::load(b, width_at), byte(b, mark_at));
+    let width = half_content::width_fits(base_slices::load(b, width_at), u32::from(b[mark_at]));
     named & owned & code & flags & width & all_zero(&b[end..])
 }

@@ -10,6 +10,7 @@ ghost use Rattle.half_seal.specs.OneTime.{KeysFor};
 
 use half_content::{BLOCK, MOST_BLOCKS, Set, TAG_AT, TEXT};
 
+// kept: `%` and `/`, since two words put together again from the eight of `to_le_bytes` are no plainer.
 fn low(number: u64) -> u32
     ensures { result ≡ number % 2 ^ 32 }
 {
@@ -63,8 +64,7 @@ pub fn write_blocks(key: &[u8; 32], number: u64, count: usize, p: &[u8], out: &m
         ≡ over 0 (first_blocks key.now number p.now count) out.old }
 {
     let keys = one_time_keys(key, number, count);
-    let mut i: usize = 0;
-    while i < count {
+    for i in 0..count {
         let once = aead_one_time::key_at(&keys, i);
         write_block(
             key,
@@ -74,7 +74,6 @@ pub fn write_blocks(key: &[u8; 32], number: u64, count: usize, p: &[u8], out: &m
             &p[TEXT * i..TEXT * i + TEXT],
             &mut out[BLOCK * i..BLOCK * i + BLOCK],
         );
-        i += 1;
     }
 }
 
@@ -85,7 +84,7 @@ pub fn write_half(key: &[u8; 32], name: [u8; 16], party: u32, s: Set, out: &mut 
     ensures { out.new ≡ over 0 (half key.now name party s) out.old }
 {
     let number = s.number;
-    let count = half_content::blocks_of(s.terms.n);
+    let count = half_content::blocks_of(s.terms.n as u16);
     let p = half_layout::lay_out(name, party, s);
     write_blocks(key, number, count, &p, out);
 }

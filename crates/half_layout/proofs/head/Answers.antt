@@ -8,4 +8,5 @@ use Rattle.half_layout.proofs.head.Goals as goal
 pub returns : goal.returns
 unfolding over bytes
 returns c =
-    head_law c.args.name _ _ _ _ _ _ (search rules) (search rules) c.copy.ensures refl
+    head_law c.args.name.now _ _ _ _ _ _ (search rules) (search rules) c.copy.ensures
+    (rw c.to_le_bytes.ensures refl)

@@ -1,31 +1,27 @@
 use mathlib.Core.Path.{refl}
+use Rattle.std.proofs.Common.{rules}
+use lib.Seq.{length-take-le}
+use native.Mathlib.Omega.{arith}
 use Rattle.half_content.specs.Content.{widths, sum_first, offset}
 use Rattle.half_layout.proofs.Stored.{joined_law}
-use Rattle.std.proofs.Common.{rules}
 use Rattle.half_layout.proofs.joined.Goals as goal
 
-pub store_first-requires-2 : goal.store_first-requires-2
+pub store_all-requires-2 : goal.store_all-requires-2
 unfolding offset widths sum_first
-store_first-requires-2 c = search rules
+store_all-requires-2 c = omega (arith, length-take-le c.args.s.now.terms.n c.args.s.now.x (search rules))
 
-pub store_first-requires-3 : goal.store_first-requires-3
+pub store_all-requires-3 : goal.store_all-requires-3
 unfolding offset widths sum_first
-store_first-requires-3 c = search rules
+store_all-requires-3 c = omega (arith, length-take-le c.args.s.now.terms.n c.args.s.now.y (search rules))
 
 pub copy-requires-2 : goal.copy-requires-2
 unfolding offset widths sum_first
-copy-requires-2 c = search rules
+copy-requires-2 c = omega arith
 
 pub returns : goal.returns
 returns c =
-    let a = c.args in
-    -- how many elements each array has, as owning it tells: it lies too far back for a search
-    let vectors = c.well_formed.1.1 in
-    let long_head = c.well_formed.0.1.0.1 in
-    let long_mask = vectors.0.1.0.1 in
-    let long_x = vectors.1.0.1.0.1 in
-    let long_y = vectors.1.1.0.1.0.1 in
-    let long_tail = vectors.1.1.1.0.1.0.1 in
-    joined_law a.n a.h a.mask a.x a.y a.t _ _ _ _ _ _ c.requires long_head long_mask long_x long_y long_tail refl
-    _ _ _ c.x_at.ensures c.y_at.ensures c.c_at.ensures c.copy.ensures c.store_first.ensures c.store_first-2.ensures
-    c.store_first-3.ensures c.copy-2.ensures
+    let s = c.args.s.now in
+    joined_law s.terms.n c.args.h.now s.mask s.x s.y c.args.t.now _ _ _ _ _ _ c.requires
+    (search rules) (search rules) (search rules) (search rules) (search rules) refl
+    _ _ _ c.x_at.ensures c.y_at.ensures c.c_at.ensures c.copy.ensures c.store_all.ensures c.store_all-2.ensures
+    c.store_all-3.ensures c.copy-2.ensures

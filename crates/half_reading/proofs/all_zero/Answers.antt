@@ -6,20 +6,17 @@ use lib.ListN.{get_or}
 use lib.Seq.{take_all}
 use Rattle.half_content.specs.Content.{zeros}
 use Rattle.half_reading.proofs.Checked.{zeros_more}
-use Rattle.std.proofs.Common.{rules}
 use Rattle.half_reading.proofs.all_zero.Goals as goal
 
-pub loop-i-init : goal.loop-i-init
+pub loop-x-init : goal.loop-x-init
 unfolding zeros
-loop-i-init c = (search rules, refl)
+loop-x-init c = refl
 
-pub loop-i-preserved : goal.loop-i-preserved
-loop-i-preserved c =
+pub loop-x-preserved : goal.loop-x-preserved
+loop-x-preserved c =
     let b = c.args.b.now in
-    let i = c.loop-i.i in (
-      search rules,
-      ap (λ all. all && eqb (get_or b i 0) 0) c.loop-i.invariant.1 ∙ sym (zeros_more b i (search rules)),
-    )
+    let i = c.loop-x.x-index in
+    ap (λ all. all && eqb (get_or b i 0) 0) c.loop-x.invariant ∙ sym (zeros_more b i (omega arith))
 
 pub returns : goal.returns
-returns c = c.loop-i.invariant.1 ∙ ap zeros (take_all c.loop-i.i c.args.b.now (omega arith))
+returns c = c.loop-x.invariant ∙ ap zeros (take_all c.loop-x.x-index c.args.b.now (omega arith))

@@ -46,9 +46,9 @@ pub load-requires : goal.load-requires
 unfolding block_count size offset widths sum_first
 load-requires c = search rules
 
-pub byte-requires-2 : goal.byte-requires-2
+pub bounds-b-mark_at : goal.bounds-b-mark_at
 unfolding block_count size offset widths sum_first
-byte-requires-2 c = search rules
+bounds-b-mark_at c = search rules
 
 pub slice_bounds-all_zero-count : goal.slice_bounds-all_zero-count
 unfolding block_count size offset widths sum_first
@@ -66,5 +66,5 @@ returns c =
     c.blocks_of.ensures c.if-blocks_of-count.false
     c.corrections_at-corrections_at.ensures c.last_at-last_at.ensures c.width_at-width_at.ensures
     c.mark_at-mark_at.ensures c.size_of-end.ensures
-    c.equal-named.ensures c.byte.ensures.0 c.is_code-code.ensures c.flags_fit-flags.ensures
-    c.load.ensures c.byte-2.ensures.0 c.width_fits-width.ensures c.all_zero.ensures
+    c.equal-named.ensures c.from.ensures c.is_code-code.ensures c.flags_fit-flags.ensures
+    c.load.ensures c.from-2.ensures c.width_fits-width.ensures c.all_zero.ensures

@@ -88,10 +88,9 @@ pub load-requires-3 : goal.load-requires-3
 unfolding size offset widths sum_first
 load-requires-3 c = search rules
 
-pub byte-requires : goal.byte-requires
+pub bounds-b-mark_at : goal.bounds-b-mark_at
 unfolding size offset widths sum_first
-byte-requires c =
-    omega (arith, c.mark_at.ensures, c.terms_in-terms.ensures.1, c.requires.1)
+bounds-b-mark_at c = omega (arith, c.mark_at.ensures, c.terms_in-terms.ensures.1, c.requires.1)
 
 pub returns : goal.returns
 returns c =
@@ -102,4 +101,4 @@ returns c =
     c.mark_at.ensures _ _ _ _ _ _ _ _ _
     c.vector.ensures c.vector-2.ensures c.vector-3.ensures c.load.ensures
     c.load-2.ensures
-    c.seed_in.ensures c.key_in.ensures c.load-3.ensures c.byte.ensures.0
+    c.seed_in.ensures c.key_in.ensures c.load-3.ensures c.from.ensures
