@@ -202,7 +202,7 @@ fn why_not_deal(
     if !((long == KEY) & measure_table::length_fits(terms)) {
         return base_messages::WRONG_LENGTH;
     }
-    let size = BLOCK * half_content::blocks_of(terms.n);
+    let size = BLOCK * half_content::blocks_of(terms.n as u16);
     if !((size <= room0) & (size <= room1)) {
         return base_messages::SHORT_BUFFER;
     }

@@ -77,7 +77,7 @@ pub fn at(d: Dealt, c: Command, byte: u8, i: usize) -> u32
 fn blocks_before(n: usize) -> usize
     ensures { result ≤ most_blocks }
 {
-    let length = base_slices::least(n, MOST_ELEMENTS);
+    let length = base_slices::least(n, MOST_ELEMENTS) as u16;
     (half_content::width_at(length) + TEXT - 1) / TEXT
 }
 
@@ -92,7 +92,7 @@ pub fn before(h: Half, n: usize) -> u32 {
     let key = b.key;
     let plain = d.plain;
     let blocks = blocks_before(n);
-    let end = half_content::width_at(base_slices::least(n, MOST_ELEMENTS));
+    let end = half_content::width_at(base_slices::least(n, MOST_ELEMENTS) as u16);
     let half = dealt::sealed(key, d.number, blocks, spread(plain, end, ROOM, 0));
     dealt::refusal(b, half, BLOCK * blocks)
 }

@@ -16,7 +16,7 @@ fn half_slot(newest: u64, k: u64, place: u64) -> usize
 
 // Both halves of an accepted deal of length `length` are kept in place of the oldest.
 fn keep_halves(length: u64, b: &mut [u8; BYTES], n: &mut [u64; NUMBERS]) {
-    let blocks = half_content::blocks_of(base_slices::least(memory::size(length), 512));
+    let blocks = half_content::blocks_of(base_slices::least(memory::size(length), 512) as u16);
     let size = memory::wide(512 * (blocks % 17));
     n[NEWEST] = n[NEWEST] % 4 + 1;
     let slot = half_slot(n[NEWEST], 0, 0);

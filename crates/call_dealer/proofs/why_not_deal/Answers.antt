@@ -12,8 +12,8 @@ returns-then-not-long-length_fits c =
     λ s seed el es. bad_length s _ el es _ _ _ c.is_code.ensures c.if-not-is_code.false _
     c.length_fits.ensures c.if-not-long-length_fits.true
 
-pub blocks_of-size-requires : goal.blocks_of-size-requires
-blocks_of-size-requires c =
+pub overflow_cast-terms : goal.overflow_cast-terms
+overflow_cast-terms c =
     omega (arith, (short c.args.long c.args.terms _ c.length_fits.ensures c.if-not-long-length_fits.false).1)
 
 pub overflow_mul-size : goal.overflow_mul-size

@@ -21,8 +21,8 @@ lay_out-plain-requires c =
       mark_bound = mark_byte _ proper;
     }
 
-pub blocks_of-requires : goal.blocks_of-requires
-blocks_of-requires c =
+pub overflow_cast-set : goal.overflow_cast-set
+overflow_cast-set c =
     omega (arith, length_fits_lem _ c.requires.proper.length_fits_lem)
 
 pub returns : goal.returns
