@@ -86,18 +86,20 @@ pub struct Span {
 pub fn next_part(text: &[u8], from: usize, mark: u8) -> Span
     ensures { NextPart text.now from mark result }
 {
-    let start = base_slices::least(from, text.len());
-    let mut end = start;
-    while end < text.len() {
+    let start = from.min(text.len());
+    for end in start..text.len() {
         if text[end] == mark {
-            break;
+            return Span {
+                start,
+                end,
+                next: end + 1,
+            };
         }
-        end += 1;
     }
     Span {
         start,
-        end,
-        next: end + 1,
+        end: text.len(),
+        next: text.len() + 1,
     }
 }
 
