@@ -10,6 +10,7 @@ use lib.ListN.{get_or}
 use Rattle.base_algebra.specs.Mod.{Mod, m_eq, m_by, m_exact}
 use Rattle.base_algebra.specs.Ring.{ring, ring=, reify}
 use Rattle.poly1305_limbs.specs.Limbs.{prime, value, words4, Below, Limbs, column, over_prime, mod_prime, low128}
+use Rattle.poly1305_limbs.specs.Limbs.{Carried}
 use Rattle.poly1305_limbs.proofs.Chain.{keeps, hands}
 
 -- ---- split
@@ -32,11 +33,15 @@ split_value w0 w1 w2 w3 top =
     ∷ w1 % 2 ^ 20 ∷ w2 / 2 ^ 14 ∷ w2 % 2 ^ 14 ∷ w3 / 2 ^ 8 ∷ w3 % 2 ^ 8 ∷ [])
     (search reify depth 40 fits 9000) refl)))))
 
-pub weaken : (h : List ℕ) → Below (2 ^ 26) h → Limbs h
-weaken h b = record { l0 = more b.l0; l1 = more b.l1; l2 = more b.l2; l3 = more b.l3; l4 = more b.l4 }
+pub loosen : {m n : ℕ} {h : List ℕ} → m ≤ n → Below m h → Below n h
+loosen {m} {n} l b =
+    record { l0 = more b.l0; l1 = more b.l1; l2 = more b.l2; l3 = more b.l3; l4 = more b.l4 }
   where
-    more : {a : ℕ} → a < 2 ^ 26 → a < 2 ^ 26 + 2 ^ 13
+    more : {a : ℕ} → a < m → a < n
     more h = omega arith
+
+pub weaken : (h : List ℕ) → Below (2 ^ 26) h → Limbs h
+weaken h = loosen (lit≤ tt)
 
 -- ---- plus
 
@@ -49,6 +54,20 @@ plus_value h c =
     ring= _ _ (get_or h 0 0 ∷ get_or h 1 0 ∷ get_or h 2 0 ∷ get_or h 3 0 ∷ get_or h 4 0
     ∷ get_or c 0 0 ∷ get_or c 1 0 ∷ get_or c 2 0 ∷ get_or c 3 0 ∷ get_or c 4 0 ∷ [])
     (search reify depth 40 fits 9000) refl
+
+pub sum_below : (h c : List ℕ) → Limbs h → (n : ℕ) → Below n c
+    → Below (2 ^ 26 + 2 ^ 13 + n) ((get_or h 0 0 + get_or c 0 0) ∷ (get_or h 1 0 + get_or c 1 0)
+    ∷ (get_or h 2 0 + get_or c 2 0) ∷ (get_or h 3 0 + get_or c 3 0) ∷ (get_or h 4 0 + get_or c 4 0) ∷ [])
+sum_below h c b n d = record {
+  l0 = more b.l0 d.l0;
+  l1 = more b.l1 d.l1;
+  l2 = more b.l2 d.l2;
+  l3 = more b.l3 d.l3;
+  l4 = more b.l4 d.l4;
+}
+  where
+    more : {x y : ℕ} → x < 2 ^ 26 + 2 ^ 13 → y < n → x + y < 2 ^ 26 + 2 ^ 13 + n
+    more h k = omega arith
 
 -- ---- multiply
 
@@ -159,6 +178,18 @@ module _ (d : List ℕ) (b : Below (2 ^ 61) d) (d1 d2 d3 d4 e0 : ℕ)
       (div-add-mod' d3 (2 ^ 26) ∙ is3)
       (div-add-mod' d4 (2 ^ 26) ∙ is4)
       (div-add-mod' e0 (2 ^ 26) ∙ is0)
+
+-- the carries of d with nothing added
+module _ {d c : List ℕ} (k : Carried d 0 c) where
+  same : get_or c 0 0 ≡ get_or d 0 0
+  same = omega (arith, k.l0)
+
+  pub plain1 : get_or c 1 0 ≡ get_or d 1 0 + get_or d 0 0 / 2 ^ 26
+  plain1 = rw same at k.l1
+
+  pub plain0 : get_or c 0 0 % 2 ^ 26 + 5 * (get_or c 4 0 / 2 ^ 26)
+      ≡ get_or d 0 0 % 2 ^ 26 + 5 * (get_or c 4 0 / 2 ^ 26)
+  plain0 = rw same refl
 
 -- ---- over_prime and remainder: the limbs of h and x, with every carry
 

@@ -1,5 +1,5 @@
 -- Numbers as the code has them: five limbs of 26 bits, or four words of 32, lowest first. Assumes nothing.
-use Rattle.std.specs.Prelude.{List, ℕ, ◌+◌, ◌-◌, ◌*◌, ◌/◌, ◌%◌, ◌^◌, ◌<◌, get_or}
+use Rattle.std.specs.Prelude.{◌≡◌, List, ℕ, ◌+◌, ◌-◌, ◌*◌, ◌/◌, ◌%◌, ◌^◌, ◌<◌, get_or}
 
 -- RFC 8439, 2.5: "the constant prime "P""
 abbrev pub prime : ℕ
@@ -25,6 +25,14 @@ pub record Below (n : ℕ) (h : List ℕ) : Type 0 where
 -- more. What code passes on as an accumulator, or as r, has these
 abbrev pub Limbs : List ℕ → Type 0
 Limbs h = Below (2 ^ 26 + 2 ^ 13) h
+
+-- limbs c: those of d and x, each with what the one below has beyond 26 bits
+pub record Carried (d : List ℕ) (x : ℕ) (c : List ℕ) : Type 0 where
+  pub l0 : get_or c 0 0 ≡ get_or d 0 0 + x
+  pub l1 : get_or c 1 0 ≡ get_or d 1 0 + get_or c 0 0 / 2 ^ 26
+  pub l2 : get_or c 2 0 ≡ get_or d 2 0 + get_or c 1 0 / 2 ^ 26
+  pub l3 : get_or c 3 0 ≡ get_or d 3 0 + get_or c 2 0 / 2 ^ 26
+  pub l4 : get_or c 4 0 ≡ get_or d 4 0 + get_or c 3 0 / 2 ^ 26
 
 -- a column of a product
 unfoldable pub column : List ℕ → ℕ → ℕ → ℕ → ℕ → ℕ → ℕ

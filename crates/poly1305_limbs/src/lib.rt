@@ -1,48 +1,75 @@
-// Arithmetic modulo 2^130 - 5, for Poly1305: a number is five limbs of 26 bits, lowest first
-// (67108864 is 2^26). Each stands in a u64, so that the five products of a column are summed with
-// no carry between them. Nothing here branches on a limb.
+// Arithmetic modulo 2^130 - 5, for Poly1305: a number is five limbs of 26 bits, lowest first.
+// Each stands in a u64, so that the five products of a column are summed with no carry between them.
+// Nothing here branches on a limb.
 #![tactic(auto)]
 
-ghost use Rattle.std.specs.Prelude.{◌≡◌, ◌+◌, ◌*◌, ◌^◌, ◌<◌, ◌≤◌};
+ghost use Rattle.std.specs.Prelude.{ℕ, ◌≡◌, ◌+◌, ◌*◌, ◌^◌, ◌<◌, ◌≤◌};
 ghost use Rattle.base_algebra.specs.Mod.{Mod};
 ghost use Rattle.poly1305_limbs.specs.Limbs.{prime, value, words4, Below, Limbs, column as column_of, over_prime};
-ghost use Rattle.poly1305_limbs.specs.Limbs.{mod_prime, low128};
+ghost use Rattle.poly1305_limbs.specs.Limbs.{mod_prime, low128, Carried};
 
-pub fn wide(x: u32) -> u64
-    ensures value { result ≡ x }
-    ensures upper_bound { result < 2 ^ 32 }
-{
-    x as u64
+// What a limb and a word count up to.
+const LIMB: u64 = 1 << 26;
+
+const WORD: u64 = 1 << 32;
+
+// The bit above a whole piece, at 2^128, in units of the last limb.
+pub const BIT: u64 = 1 << 24;
+
+// Limbs after the carries: 26 bits, and in one of them a little more. An accumulator has these, and r.
+#[derive(Clone, Copy)]
+pub struct Reduced {
+    pub limbs: [u64; 5],
+    pub ghost in_range: { Limbs limbs },
 }
 
-// Four words of 32 bits, lowest first, in limbs. `top` is what stands above them, in units of the
-// last limb: 2^24 of them are the bit that a whole piece has at 2^128.
-pub fn split(w0: u64, w1: u64, w2: u64, w3: u64, top: u64) -> [u64; 5]
-    requires { (w0 < 2 ^ 32) × (w1 < 2 ^ 32) × (w2 < 2 ^ 32) × (w3 < 2 ^ 32) × (top ≤ 2 ^ 24) }
-    ensures below { Below (2 ^ 26) result }
-    ensures result_value { value result ≡ w0 + w1 * 2 ^ 32 + w2 * 2 ^ 64 + w3 * 2 ^ 96 + top * 2 ^ 104 }
+impl Reduced {
+    // What an accumulator begins with.
+    pub const ZERO: Reduced = Reduced { limbs: [0; 5] };
+}
+
+// Limbs of 26 bits each: a piece, or a remainder.
+#[derive(Clone, Copy)]
+pub struct Exact {
+    pub limbs: [u64; 5],
+    pub ghost in_range: { Below (2 ^ 26) limbs },
+}
+
+// Four words, lowest first, in limbs: the first 26, 20, 14 and 8 bits of a word, those below LIMB, 1048576,
+// 16384 and 256, end a limb. `top` is what stands above them, in units of the last limb: a whole piece has
+// `BIT` there.
+pub fn split(w: [u32; 4], top: u64) -> Exact
+    requires { top ≤ 2 ^ 24 }
+    ensures { value result.limbs ≡ words4 w + top * 2 ^ 104 }
 {
-    [
-        w0 % 67108864,
-        w0 / 67108864 + w1 % 1048576 * 64,
+    let w0 = u64::from(w[0]);
+    let w1 = u64::from(w[1]);
+    let w2 = u64::from(w[2]);
+    let w3 = u64::from(w[3]);
+    let limbs = [
+        w0 % LIMB,
+        w0 / LIMB + w1 % 1048576 * 64,
         w1 / 1048576 + w2 % 16384 * 4096,
         w2 / 16384 + w3 % 256 * 262144,
         w3 / 256 + top,
-    ]
+    ];
+    Exact { limbs }
 }
 
-pub fn plus(h: [u64; 5], c: [u64; 5]) -> [u64; 5]
-    requires limbs { Limbs h }
-    requires below { Below (2 ^ 26) c }
-    ensures below_2 { Below (2 ^ 28) result }
-    ensures result_value { value result ≡ value h + value c }
+// The sum, before its carries. c is a piece, or a lane of `poly1305_x4`, which may have 27 bits.
+pub fn plus(h: Reduced, c: [u64; 5]) -> [u64; 5]
+    requires { Below (2 ^ 27 + 2 ^ 13) c }
+    ensures below { Below (2 ^ 28) result }
+    ensures adds { (n : ℕ) → Below n c → Below (2 ^ 26 + 2 ^ 13 + n) result }
+    ensures result_value { value result ≡ value h.limbs + value c }
 {
+    let a = h.limbs;
     [
-        h[0] + c[0],
-        h[1] + c[1],
-        h[2] + c[2],
-        h[3] + c[3],
-        h[4] + c[4],
+        a[0] + c[0],
+        a[1] + c[1],
+        a[2] + c[2],
+        a[3] + c[3],
+        a[4] + c[4],
     ]
 }
 
@@ -57,12 +84,12 @@ fn column(h: [u64; 5], b0: u64, b1: u64, b2: u64, b3: u64, b4: u64) -> u64
 
 // The product, before its carries. What stands at 2^130 and above comes back 5 times, since
 // 2^130 is 5 modulo 2^130 - 5.
-pub fn multiply(h: [u64; 5], r: [u64; 5]) -> [u64; 5]
-    requires below { Below (2 ^ 28) h }
-    requires limbs { Limbs r }
-    ensures below_2 { Below (2 ^ 61) result }
-    ensures fact { Mod prime (value result) (value h * value r) }
+pub fn multiply(h: [u64; 5], factor: Reduced) -> [u64; 5]
+    requires { Below (2 ^ 28) h }
+    ensures below { Below (2 ^ 61) result }
+    ensures fact { Mod prime (value result) (value h * value factor.limbs) }
 {
+    let r = factor.limbs;
     let s1 = 5 * r[1];
     let s2 = 5 * r[2];
     let s3 = 5 * r[3];
@@ -75,76 +102,79 @@ pub fn multiply(h: [u64; 5], r: [u64; 5]) -> [u64; 5]
     [d0, d1, d2, d3, d4]
 }
 
+// The limbs of d and x, each with what the one below has beyond its 26 bits.
+fn carried(d: [u64; 5], x: u64) -> [u64; 5]
+    requires below { Below (2 ^ 61) d }
+    requires x_bound { x ≤ 5 }
+    ensures below_62 { Below (2 ^ 62) result }
+    ensures carried { Carried d x result }
+{
+    let d0 = d[0] + x;
+    let d1 = d[1] + d0 / LIMB;
+    let d2 = d[2] + d1 / LIMB;
+    let d3 = d[3] + d2 / LIMB;
+    let d4 = d[4] + d3 / LIMB;
+    [d0, d1, d2, d3, d4]
+}
+
 // The carries: each limb keeps its lowest 26 bits and hands the rest on, the last one 5 times to
 // the first. What the first then has too much goes to the second.
-pub fn reduce(d: [u64; 5]) -> [u64; 5]
+pub fn reduce(d: [u64; 5]) -> Reduced
     requires { Below (2 ^ 61) d }
-    ensures limbs { Limbs result }
-    ensures fact { Mod prime (value result) (value d) }
+    ensures { Mod prime (value result.limbs) (value d) }
 {
-    let d1 = d[1] + d[0] / 67108864;
-    let d2 = d[2] + d1 / 67108864;
-    let d3 = d[3] + d2 / 67108864;
-    let d4 = d[4] + d3 / 67108864;
-    let e0 = d[0] % 67108864 + 5 * (d4 / 67108864);
-    [
-        e0 % 67108864,
-        d1 % 67108864 + e0 / 67108864,
-        d2 % 67108864,
-        d3 % 67108864,
-        d4 % 67108864,
-    ]
+    let c = carried(d, 0);
+    let e0 = c[0] % LIMB + 5 * (c[4] / LIMB);
+    let limbs = [
+        e0 % LIMB,
+        c[1] % LIMB + e0 / LIMB,
+        c[2] % LIMB,
+        c[3] % LIMB,
+        c[4] % LIMB,
+    ];
+    Reduced { limbs }
 }
 
 // 1 where h is 2^130 - 5 or more, and 0 else: what h + 5 has at 2^130.
-fn over_prime(h: [u64; 5]) -> u64
-    requires { Limbs h }
+fn over_prime(h: Reduced) -> u64
     ensures upper_bound { result < 2 }
-    ensures value { result ≡ over_prime (value h) }
+    ensures value { result ≡ over_prime (value h.limbs) }
 {
-    let d0 = h[0] + 5;
-    let d1 = h[1] + d0 / 67108864;
-    let d2 = h[2] + d1 / 67108864;
-    let d3 = h[3] + d2 / 67108864;
-    let d4 = h[4] + d3 / 67108864;
-    d4 / 67108864
+    let d = carried(h.limbs, 5);
+    d[4] / LIMB
 }
 
 // h modulo 2^130 - 5. Where h is that or more, h + 5 without what it has at 2^130 is the remainder,
 // since h is less than twice that.
-pub fn remainder(h: [u64; 5]) -> [u64; 5]
-    requires { Limbs h }
-    ensures below { Below (2 ^ 26) result }
-    ensures result_value { value result ≡ mod_prime (value h) }
+pub fn remainder(h: Reduced) -> Exact
+    ensures { value result.limbs ≡ mod_prime (value h.limbs) }
 {
     let q = over_prime(h);
-    let d0 = h[0] + 5 * q;
-    let d1 = h[1] + d0 / 67108864;
-    let d2 = h[2] + d1 / 67108864;
-    let d3 = h[3] + d2 / 67108864;
-    let d4 = h[4] + d3 / 67108864;
-    [
-        d0 % 67108864,
-        d1 % 67108864,
-        d2 % 67108864,
-        d3 % 67108864,
-        d4 % 67108864,
-    ]
+    let d = carried(h.limbs, 5 * q);
+    let limbs = [
+        d[0] % LIMB,
+        d[1] % LIMB,
+        d[2] % LIMB,
+        d[3] % LIMB,
+        d[4] % LIMB,
+    ];
+    Exact { limbs }
 }
 
-// a + s modulo 2^128, in words.
-pub fn add_s(a: [u64; 5], s: [u32; 4]) -> [u32; 4]
-    requires { Below (2 ^ 26) a }
-    ensures { words4 result ≡ low128 (value a + words4 s) }
+// h + s modulo 2^128, in words. A word takes the lowest 6, 12, 18 and 24 bits of the limb above it: those
+// below 64, 4096, 262144 and 16777216.
+pub fn add_s(h: Exact, s: [u32; 4]) -> [u32; 4]
+    ensures { words4 result ≡ low128 (value h.limbs + words4 s) }
 {
-    let t0 = a[0] + a[1] % 64 * 67108864 + wide(s[0]);
-    let t1 = a[1] / 64 + a[2] % 4096 * 1048576 + wide(s[1]) + t0 / 4294967296;
-    let t2 = a[2] / 4096 + a[3] % 262144 * 16384 + wide(s[2]) + t1 / 4294967296;
-    let t3 = a[3] / 262144 + a[4] % 16777216 * 256 + wide(s[3]) + t2 / 4294967296;
+    let a = h.limbs;
+    let t0 = a[0] + a[1] % 64 * LIMB + u64::from(s[0]);
+    let t1 = a[1] / 64 + a[2] % 4096 * 1048576 + u64::from(s[1]) + t0 / WORD;
+    let t2 = a[2] / 4096 + a[3] % 262144 * 16384 + u64::from(s[2]) + t1 / WORD;
+    let t3 = a[3] / 262144 + a[4] % 16777216 * 256 + u64::from(s[3]) + t2 / WORD;
     [
-        (t0 % 4294967296) as u32,
-        (t1 % 4294967296) as u32,
-        (t2 % 4294967296) as u32,
-        (t3 % 4294967296) as u32,
+        (t0 % WORD) as u32,
+        (t1 % WORD) as u32,
+        (t2 % WORD) as u32,
+        (t3 % WORD) as u32,
     ]
 }

@@ -11,7 +11,7 @@ use Rattle.base_words.specs.Numbers.{number, bytes, number4, last4, number_of_wo
 use Rattle.base_algebra.specs.Mod.{m_eq}
 use Rattle.base_algebra.specs.Ring.{ring=, reify}
 use Rattle.base_words.specs.List.{over}
-use Rattle.base_words.specs.Bytes.{le32, word_at}
+use Rattle.base_words.specs.Bytes.{le32, bytes_of, word_at}
 use Rattle.poly1305_mac.specs.Poly1305.{clamp, r_of, s_of, tag_of}
 use Rattle.poly1305_limbs.specs.Limbs.{words4, low128}
 
@@ -162,36 +162,32 @@ sixteen a b c d ha hb hc hd =
     nested = ring= _ _ (a ∷ b ∷ c ∷ d ∷ []) (search reify depth 40 fits 9000) refl
 
 over_zeros : (a b c d : ℕ)
-    → over 12 (le32 d) (over 8 (le32 c) (over 4 (le32 b) (over 0 (le32 a) (replicate 16 0))))
-    ≡ le32 a ++ (le32 b ++ (le32 c ++ le32 d))
-unfolding over le32
+    → over 0 (bytes_of (a ∷ b ∷ c ∷ d ∷ [])) (replicate 16 0) ≡ le32 a ++ (le32 b ++ (le32 c ++ le32 d))
+unfolding over bytes_of le32
 over_zeros a b c d = refl
 
-stored : (t : List ℕ) (o1 o2 o3 o4 : List ℕ) {x : ℕ}
+four : (t : List ℕ) → length t ≡ 4 → t ≡ get_or t 0 0 ∷ get_or t 1 0 ∷ get_or t 2 0 ∷ get_or t 3 0 ∷ []
+four [] h = absurd (omega arith)
+four (a ∷ []) h = absurd (omega arith)
+four (a ∷ b ∷ []) h = absurd (omega arith)
+four (a ∷ b ∷ c ∷ []) h = absurd (omega arith)
+four (a ∷ b ∷ c ∷ d ∷ []) h = refl
+four (a ∷ b ∷ c ∷ d ∷ e ∷ s) h = absurd (omega arith)
+
+stored : (t out : List ℕ) {x : ℕ} → length t ≡ 4
     → get_or t 0 0 < 2 ^ 32 → get_or t 1 0 < 2 ^ 32 → get_or t 2 0 < 2 ^ 32 → get_or t 3 0 < 2 ^ 32
-    → o1 ≡ over 0 (le32 (get_or t 0 0)) (replicate 16 0)
-    → o2 ≡ over 4 (le32 (get_or t 1 0)) o1
-    → o3 ≡ over 8 (le32 (get_or t 2 0)) o2
-    → o4 ≡ over 12 (le32 (get_or t 3 0)) o3
-    → words4 t ≡ x
-    → o4 ≡ bytes 16 x
+    → out ≡ over 0 (bytes_of t) (replicate 16 0) → words4 t ≡ x → out ≡ bytes 16 x
 unfolding words4
-stored t o1 o2 o3 o4 h0 h1 h2 h3 e1 e2 e3 e4 e =
-    e4
-    ∙ ap (over 12 (le32 (get_or t 3 0)))
-    (e3 ∙ ap (over 8 (le32 (get_or t 2 0))) (e2 ∙ ap (over 4 (le32 (get_or t 1 0))) e1))
+stored t out l h0 h1 h2 h3 f e =
+    f
+    ∙ ap (λ (s : List ℕ). over 0 (bytes_of s) (replicate 16 0)) (four t l)
     ∙ over_zeros (get_or t 0 0) (get_or t 1 0) (get_or t 2 0) (get_or t 3 0)
     ∙ sym (sixteen (get_or t 0 0) (get_or t 1 0) (get_or t 2 0) (get_or t 3 0) h0 h1 h2 h3)
     ∙ ap (bytes 16) e
 
-pub tag_law : (t o1 o2 o3 o4 : List ℕ) (w : ℕ) {a v : ℕ}
+pub tag_law : (t out : List ℕ) (w : ℕ) {a v : ℕ} → length t ≡ 4
     → get_or t 0 0 < 2 ^ 32 → get_or t 1 0 < 2 ^ 32 → get_or t 2 0 < 2 ^ 32 → get_or t 3 0 < 2 ^ 32
-    → o1 ≡ over 0 (le32 (get_or t 0 0)) (replicate 16 0)
-    → o2 ≡ over 4 (le32 (get_or t 1 0)) o1
-    → o3 ≡ over 8 (le32 (get_or t 2 0)) o2
-    → o4 ≡ over 12 (le32 (get_or t 3 0)) o3
-    → a ≡ v → words4 t ≡ low128 (a + w)
-    → o4 ≡ tag_of v w
+    → out ≡ over 0 (bytes_of t) (replicate 16 0) → a ≡ v → words4 t ≡ low128 (a + w) → out ≡ tag_of v w
 unfolding low128 tag_of
-tag_law t o1 o2 o3 o4 w h0 h1 h2 h3 e1 e2 e3 e4 f e =
-    stored t o1 o2 o3 o4 h0 h1 h2 h3 e1 e2 e3 e4 (e ∙ ap (λ (x : ℕ). (x + w) % 2 ^ 128) f)
+tag_law t out w l h0 h1 h2 h3 o f e =
+    stored t out l h0 h1 h2 h3 o (e ∙ ap (λ (x : ℕ). (x + w) % 2 ^ 128) f)

@@ -1,9 +1,10 @@
 -- The laws of the functions that absorb a message. Assumes nothing.
 use mathlib.Core.Path.{◌≡◌, refl, sym, ap, ap₂, ◌∙◌}
 use mathlib.Core.List.{List, [], ◌∷◌, ◌++◌}
-use Prim.Native.Nat.{ℕ, zero, suc, ◌+◌, ◌*◌, ◌-◌, ◌/◌, ◌%◌, ◌^◌, ◌≤◌, ◌<◌}
+use Prim.Native.Nat.{ℕ, zero, suc, ◌+◌, ◌*◌, ◌-◌, ◌/◌, ◌%◌, ◌^◌, ◌≤◌}
 use native.Mathlib.Nat.{suc-add, zero-add, mul-zero, add-zero}
 use native.Mathlib.Omega.{arith}
+use Rattle.std.proofs.Common.{add-one}
 use lib.ListN.{length, take, drop, set, replicate, length-append, length-drop, length-set, length-replicate}
 use lib.Seq.{length-take-le, take_all, drop-append-le, set_at, append_snoc}
 use Rattle.base_words.specs.Numbers.{number}
@@ -50,41 +51,14 @@ zeros_after s n =
 
 -- ---- the loop over the blocks
 
-pub record Absorbed (r t h : ℕ) (m : List ℕ) (a at : ℕ) : Type 0 where
-  pub within : at ≤ length m
-  pub whole : at % 16 ≡ 0
-  pub is : Mod prime a (unreduced r t h m (at / 16))
-
-pub absorbed_none : (r t h : ℕ) (m : List ℕ) → Absorbed r t h m h 0
+pub blocks_none : (r t h : ℕ) (m : List ℕ) → Mod prime h (unreduced r t h m 0)
 unfolding unreduced
-absorbed_none r t h m = record { within = omega arith; whole = refl; is = m_refl }
+blocks_none r t h m = m_refl
 
-pub absorbed_more : (r t h : ℕ) (m : List ℕ) {a x : ℕ} (at : ℕ) → Absorbed r t h m a at → at + 16 ≤ length m
-    → Mod prime x ((a + (number (take 16 (drop at m)) + t)) * r) → Absorbed r t h m x (at + 16)
+pub blocks_more : (r t h : ℕ) (m : List ℕ) {a x : ℕ} (i : ℕ) → Mod prime a (unreduced r t h m i)
+    → Mod prime x ((a + (number (take 16 (drop (16 * i) m)) + t)) * r) → Mod prime x (unreduced r t h m (i + 1))
 unfolding unreduced piece
-absorbed_more r t h m {a} {x} at A l k =
-    record {
-      within = l;
-      whole = omega (arith, A.whole);
-      is = rw next (m_trans k (m_mul (m_add A.is (m_eq block)) m_refl));
-    }
-  where
-    next : (at + 16) / 16 ≡ suc (at / 16)
-    next = omega arith
-
-    start : at ≡ 16 * (at / 16)
-    start = omega (arith, A.whole)
-
-    block : number (take 16 (drop at m)) + t ≡ number (take 16 (drop (16 * (at / 16)) m)) + t
-    block = ap (λ (i : ℕ). number (take 16 (drop i m)) + t) start
-
--- no whole block is left
-pub absorbed_all : (r t h : ℕ) (m : List ℕ) {a : ℕ} (at : ℕ) → Absorbed r t h m a at → length m - at < 16
-    → Mod prime a (unreduced r t h m (length m / 16))
-absorbed_all r t h m {a} at A l = rw (sym count) A.is
-  where
-    count : at / 16 ≡ length m / 16
-    count = omega (arith, A.whole, A.within)
+blocks_more r t h m i is k = rw (add-one i) (m_trans k (m_mul (m_add is m_refl) m_refl))
 
 -- with the bit above each, they are the pieces that have 16 bytes
 length_piece : (m : List ℕ) (n : ℕ) → 16 * suc n ≤ length m → length (piece m n) ≡ 16

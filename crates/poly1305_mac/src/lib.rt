@@ -6,63 +6,55 @@
 ghost use Rattle.std.specs.Prelude.{◌≡◌, ◌+◌, ◌-◌, ◌*◌, ◌%◌, ◌/◌, ◌^◌, ◌<◌, ◌≤◌, ◌++◌, length, take, drop, replicate};
 ghost use Rattle.base_words.specs.Numbers.{number};
 ghost use Rattle.base_algebra.specs.Mod.{Mod};
-ghost use Rattle.poly1305_limbs.specs.Limbs.{prime, value, words4, Below, Limbs, mod_prime};
+ghost use Rattle.poly1305_limbs.specs.Limbs.{prime, value, words4, mod_prime};
 ghost use Rattle.poly1305_mac.specs.Poly1305.{r_of, s_of, piece, pieces, pad16, absorb_all, tag_of, mac as mac_of};
 ghost use Rattle.poly1305_mac.specs.Blocks.{unreduced};
+
+use poly1305_limbs::{BIT, Exact, Reduced};
 
 // The two halves of a key: r, clamped, in limbs; and s, in words, lowest first.
 #[derive(Clone, Copy)]
 pub struct OneTimeKey {
-    pub r: [u64; 5],
+    pub r: Reduced,
     pub s: [u32; 4],
 }
 
 // The 16 bytes at `at`, and `top` above them.
-fn block(m: &[u8], at: usize, top: u64) -> [u64; 5]
+pub fn block(m: &[u8], at: usize, top: u64) -> Exact
     requires at_in_bounds { at + 16 ≤ length m.now }
     requires top_bound { top ≤ 2 ^ 24 }
-    ensures below { Below (2 ^ 26) result }
-    ensures result_value { value result ≡ number (take 16 (drop at m.now)) + top * 2 ^ 104 }
+    ensures { value result.limbs ≡ number (take 16 (drop at m.now)) + top * 2 ^ 104 }
 {
-    let w0 = poly1305_limbs::wide(base_slices::load(m, at));
-    let w1 = poly1305_limbs::wide(base_slices::load(m, at + 4));
-    let w2 = poly1305_limbs::wide(base_slices::load(m, at + 8));
-    let w3 = poly1305_limbs::wide(base_slices::load(m, at + 12));
-    poly1305_limbs::split(w0, w1, w2, w3, top)
+    let w0 = base_slices::load(m, at);
+    let w1 = base_slices::load(m, at + 4);
+    let w2 = base_slices::load(m, at + 8);
+    let w3 = base_slices::load(m, at + 12);
+    poly1305_limbs::split([w0, w1, w2, w3], top)
 }
 
 // The accumulator after the 16 bytes at `at`, with `top` above them.
-fn step(h: [u64; 5], r: [u64; 5], m: &[u8], at: usize, top: u64) -> [u64; 5]
-    requires limbs { Limbs h }
-    requires limbs_2 { Limbs r }
+fn step(h: Reduced, r: Reduced, m: &[u8], at: usize, top: u64) -> Reduced
     requires at_in_bounds { at + 16 ≤ length m.now }
     requires top_bound { top ≤ 2 ^ 24 }
-    ensures limbs_3 { Limbs result }
-    ensures fact { Mod prime (value result)
-        ((value h + (number (take 16 (drop at m.now)) + top * 2 ^ 104)) * value r) }
+    ensures { Mod prime (value result.limbs)
+        ((value h.limbs + (number (take 16 (drop at m.now)) + top * 2 ^ 104)) * value r.limbs) }
 {
     let c = block(m, at, top);
-    let e = poly1305_limbs::plus(h, c);
+    let e = poly1305_limbs::plus(h, c.limbs);
     let d = poly1305_limbs::multiply(e, r);
     poly1305_limbs::reduce(d)
 }
 
 // The accumulator after the whole blocks of m, with `top` above each. This loop alone calls `step`,
 // so that the compiler puts it inside and keeps the limbs in registers.
-fn absorb_blocks(h: [u64; 5], r: [u64; 5], m: &[u8], top: u64) -> [u64; 5]
-    requires limbs { Limbs h }
-    requires limbs_2 { Limbs r }
-    requires top_bound { top ≤ 2 ^ 24 }
-    ensures limbs_3 { Limbs result }
-    ensures fact { Mod prime (value result)
-        (unreduced (value r) (top * 2 ^ 104) (value h) m.now (length m.now / 16)) }
+fn absorb_blocks(h: Reduced, r: Reduced, m: &[u8], top: u64) -> Reduced
+    requires { top ≤ 2 ^ 24 }
+    ensures { Mod prime (value result.limbs)
+        (unreduced (value r.limbs) (top * 2 ^ 104) (value h.limbs) m.now (length m.now / 16)) }
 {
     let mut a = h;
-    let mut at: usize = 0;
-    while 16 <= m.len() - at {
-        let next = step(a, r, m, at, top);
-        a = next;
-        at += 16;
+    for i in 0..m.len() / 16 {
+        a = step(a, r, m, 16 * i, top);
     }
     a
 }
@@ -80,29 +72,23 @@ fn rest(m: &[u8]) -> [u8; 16]
 
 // The accumulator after m, whose last piece is filled with zeros to 16 bytes, as 2.8 does with
 // the additional data and the ciphertext.
-pub fn absorb_padded(h: [u64; 5], r: [u64; 5], m: &[u8]) -> [u64; 5]
-    requires limbs { Limbs h }
-    requires limbs_2 { Limbs r }
-    ensures limbs_3 { Limbs result }
-    ensures fact { Mod prime (value result)
-        (absorb_all (value r) (value h) (pieces (m.now ++ pad16 m.now))) }
+pub fn absorb_padded(h: Reduced, r: Reduced, m: &[u8]) -> Reduced
+    ensures { Mod prime (value result.limbs)
+        (absorb_all (value r.limbs) (value h.limbs) (pieces (m.now ++ pad16 m.now))) }
 {
-    let a = absorb_blocks(h, r, m, 16777216);
+    let a = absorb_blocks(h, r, m, BIT);
     if m.len() % 16 == 0 {
         return a;
     }
     let b = rest(m);
-    absorb_blocks(a, r, &b, 16777216)
+    absorb_blocks(a, r, &b, BIT)
 }
 
 // The accumulator after m. A last piece of n < 16 bytes has its bit at byte n, and none above.
-fn absorb(h: [u64; 5], r: [u64; 5], m: &[u8]) -> [u64; 5]
-    requires limbs { Limbs h }
-    requires limbs_2 { Limbs r }
-    ensures limbs_3 { Limbs result }
-    ensures fact { Mod prime (value result) (absorb_all (value r) (value h) (pieces m.now)) }
+fn absorb(h: Reduced, r: Reduced, m: &[u8]) -> Reduced
+    ensures { Mod prime (value result.limbs) (absorb_all (value r.limbs) (value h.limbs) (pieces m.now)) }
 {
-    let a = absorb_blocks(h, r, m, 16777216);
+    let a = absorb_blocks(h, r, m, BIT);
     let n = m.len() % 16;
     if n == 0 {
         return a;
@@ -112,30 +98,33 @@ fn absorb(h: [u64; 5], r: [u64; 5], m: &[u8]) -> [u64; 5]
     absorb_blocks(a, r, &b, 0)
 }
 
+// A word without its top four bits.
+const CLAMPED: u32 = 1 << 28;
+
 // A word of r: the top four bits of its last byte and the bottom two of its first are cleared.
 fn clamped(w: u32) -> u32
     ensures { result ≡ w % 2 ^ 28 / 4 * 4 }
 {
-    w % 268435456 / 4 * 4
+    w % CLAMPED / 4 * 4
 }
 
 // r, clamped. Its first word keeps its bottom bits.
-fn clamped_r(k: &[u8]) -> [u64; 5]
+fn clamped_r(k: &[u8]) -> Reduced
     requires { 16 ≤ length k.now }
-    ensures limbs { Limbs result }
-    ensures result_value { value result ≡ r_of k.now }
+    ensures { value result.limbs ≡ r_of k.now }
 {
-    let w0 = poly1305_limbs::wide(base_slices::load(k, 0) % 268435456);
-    let w1 = poly1305_limbs::wide(clamped(base_slices::load(k, 4)));
-    let w2 = poly1305_limbs::wide(clamped(base_slices::load(k, 8)));
-    let w3 = poly1305_limbs::wide(clamped(base_slices::load(k, 12)));
-    poly1305_limbs::split(w0, w1, w2, w3, 0)
+    let w0 = base_slices::load(k, 0) % CLAMPED;
+    let w1 = clamped(base_slices::load(k, 4));
+    let w2 = clamped(base_slices::load(k, 8));
+    let w3 = clamped(base_slices::load(k, 12));
+    let exact = poly1305_limbs::split([w0, w1, w2, w3], 0);
+    let limbs = exact.limbs;
+    Reduced { limbs }
 }
 
 // r and s of a key.
 pub fn key(k: &[u8; 32]) -> OneTimeKey
-    ensures limbs { Limbs result.r }
-    ensures r_value { value result.r ≡ r_of k.now }
+    ensures r_value { value result.r.limbs ≡ r_of k.now }
     ensures s_value { words4 result.s ≡ s_of k.now }
 {
     let r = clamped_r(k);
@@ -144,23 +133,19 @@ pub fn key(k: &[u8; 32]) -> OneTimeKey
     let s2 = base_slices::load(k, 24);
     let s3 = base_slices::load(k, 28);
     OneTimeKey {
-        r: r,
+        r,
         s: [s0, s1, s2, s3],
     }
 }
 
 // The tag that the accumulator h and s give.
-pub fn tag(h: [u64; 5], s: [u32; 4]) -> [u8; 16]
-    requires { Limbs h }
-    ensures { result ≡ tag_of (mod_prime (value h)) (words4 s) }
+pub fn tag(h: Reduced, s: [u32; 4]) -> [u8; 16]
+    ensures { result ≡ tag_of (mod_prime (value h.limbs)) (words4 s) }
 {
     let a = poly1305_limbs::remainder(h);
     let t = poly1305_limbs::add_s(a, s);
     let mut out = [0u8; 16];
-    base_slices::store(&mut out, 0, t[0]);
-    base_slices::store(&mut out, 4, t[1]);
-    base_slices::store(&mut out, 8, t[2]);
-    base_slices::store(&mut out, 12, t[3]);
+    base_slices::store_all(&mut out, 0, &t);
     out
 }
 
@@ -169,8 +154,6 @@ pub fn mac(k: &[u8; 32], m: &[u8]) -> [u8; 16]
     ensures { result ≡ mac_of k.now m.now }
 {
     let halves = key(k);
-    let r = halves.r;
-    let s = halves.s;
-    let a = absorb([0; 5], r, m);
-    tag(a, s)
+    let a = absorb(Reduced::ZERO, halves.r, m);
+    tag(a, halves.s)
 }

@@ -1,7 +1,7 @@
 -- The laws of the functions on four lanes. Assumes nothing.
 use mathlib.Core.Path.{◌≡◌, refl, sym, ap, ap₂, ◌∙◌, subst}
 use mathlib.Core.List.{List, [], ◌∷◌}
-use Prim.Native.Nat.{ℕ, zero, suc, ◌+◌, ◌*◌, ◌-◌, ◌/◌, ◌%◌, ◌^◌, ◌≤◌, ◌<◌}
+use Prim.Native.Nat.{ℕ, zero, suc, ◌+◌, ◌*◌, ◌-◌, ◌%◌, ◌^◌, ◌≤◌, ◌<◌}
 use mathlib.Core.Bool.{Bool, true, false}
 use native.Mathlib.Nat.{mod-eq_of_lt, zero-add}
 use native.Mathlib.Omega.{arith}
@@ -13,7 +13,8 @@ use Rattle.base_words.specs.Numbers.{number}
 use Rattle.base_algebra.specs.Mod.{Mod, m_refl, m_eq, m_trans, m_add, m_mul}
 use Rattle.base_algebra.specs.Ring.{ring, reify}
 use Rattle.base_words.specs.Spelt.{all}
-use Rattle.poly1305_limbs.specs.Limbs.{prime, value, Below, Limbs}
+use Rattle.poly1305_limbs.specs.Limbs.{prime, value, Below}
+use Rattle.poly1305_limbs.proofs.Limbs.{loosen}
 use Rattle.poly1305_mac.specs.Poly1305.{piece, first_pieces, pieces, absorb_all}
 use Rattle.poly1305_mac.specs.Laws.{pieces_whole}
 use Rattle.poly1305_x4.proofs.Law.{four_lanes}
@@ -21,13 +22,6 @@ use Rattle.poly1305_x4.specs.Poly4.{bit, power4, lane_after, combined, combined_
 use Rattle.poly1305_x4.specs.Poly4.{Next, HeldAll, NextAll, LaneAll, First}
 
 -- ---- a lane, read and written
-
-loosen : {m n : ℕ} {h : List ℕ} → m ≤ n → Below m h → Below n h
-loosen {m} {n} l b =
-    record { l0 = more b.l0; l1 = more b.l1; l2 = more b.l2; l3 = more b.l3; l4 = more b.l4 }
-  where
-    more : {a : ℕ} → a < m → a < n
-    more h = omega arith
 
 pub weaken : (h : List ℕ) → Held h → Below (2 ^ 28) h
 weaken h = loosen (lit≤ tt)
@@ -71,21 +65,7 @@ write_lane x (suc (suc (suc zero))) t h k =
     subst (λ (y : List ℕ). rows (stores 3 t y) ≡ set (rows y) 3 (five t)) (all 20 x h) refl
 write_lane x (suc (suc (suc (suc l)))) t h k = absurd (let no : ⊥ = omega arith in no)
 
--- ---- sum and next
-
-pub sum_below : (h c : List ℕ) → Limbs h
-    → Adds c ((get_or h 0 0 + get_or c 0 0) ∷ (get_or h 1 0 + get_or c 1 0)
-    ∷ (get_or h 2 0 + get_or c 2 0) ∷ (get_or h 3 0 + get_or c 3 0) ∷ (get_or h 4 0 + get_or c 4 0) ∷ [])
-sum_below h c b n d = record {
-  l0 = more b.l0 d.l0;
-  l1 = more b.l1 d.l1;
-  l2 = more b.l2 d.l2;
-  l3 = more b.l3 d.l3;
-  l4 = more b.l4 d.l4;
-}
-  where
-    more : {x y : ℕ} → x < 2 ^ 26 + 2 ^ 13 → y < n → x + y < 2 ^ 26 + 2 ^ 13 + n
-    more h k = omega arith
+-- ---- next
 
 pub next_is : (h r c : ℕ) {d e a : ℕ} → Mod prime d (h * r) → Mod prime e d → a ≡ e + c → Mod prime a (h * r + c)
 next_is h r c k l f = m_trans (m_eq f) (m_add (m_trans l k) m_refl)
@@ -219,55 +199,50 @@ first_is a m y s b0 b1 b2 b3 e ad es h0 h1 h2 h3 e0 e1 e2 e3 r = rw e lanes
 
 -- ---- the loop over the message
 
-pub record Groups (r a : ℕ) (m : List ℕ) (y : List (List ℕ)) (at : ℕ) : Type 0 where
-  pub within : at ≤ length m
-  pub whole : at % 64 ≡ 0
-  pub some : 64 ≤ at
-  pub lanes : LaneAll r a m (at / 64 - 1) y
+-- after the first g groups of four blocks
+pub record Groups (r a : ℕ) (m : List ℕ) (y : List (List ℕ)) (g : ℕ) : Type 0 where
+  pub some : 1 ≤ g
+  pub lanes : LaneAll r a m (g - 1) y
 
-pub groups_first : (r a : ℕ) (m : List ℕ) (y : List (List ℕ)) → 64 ≤ length m → First a m y → Groups r a m y 64
-groups_first r a m y h f = record { within = h; whole = refl; some = omega arith; lanes = f r }
+pub groups_first : (r a : ℕ) (m : List ℕ) (y : List (List ℕ)) → First a m y → Groups r a m y 1
+groups_first r a m y f = record { some = lit≤ tt; lanes = f r }
 
-pub groups_held : (r a : ℕ) (m : List ℕ) (y : List (List ℕ)) (at : ℕ) → Groups r a m y at → HeldAll y
-groups_held r a m y at G l h = (G.lanes l h).below
+pub groups_held : (r a : ℕ) (m : List ℕ) (y : List (List ℕ)) (g : ℕ) → Groups r a m y g → HeldAll y
+groups_held r a m y g G l h = (G.lanes l h).below
 
-pub groups_more : (r a R : ℕ) (m : List ℕ) (y z : List (List ℕ)) (at : ℕ) → Groups r a m y at → at + 64 ≤ length m
-    → Mod prime R (power4 r) → NextAll R m at y z → Groups r a m z (at + 64)
+pub groups_more : (r a R : ℕ) (m : List ℕ) (y z : List (List ℕ)) (g : ℕ) → Groups r a m y g
+    → Mod prime R (power4 r) → NextAll R m (64 * g) y z → Groups r a m z (g + 1)
 unfolding lane_after piece
-groups_more r a R m y z at G h h_r N =
-    record { within = h; whole = omega (arith, G.whole); some = omega arith; lanes = rw up more }
+groups_more r a R m y z g G h_r N = record { some = omega arith; lanes = rw up more }
   where
-    up : (at + 64) / 64 - 1 ≡ suc (at / 64 - 1)
+    up : g + 1 - 1 ≡ suc (g - 1)
     up = omega (arith, G.some)
 
-    pos : (l : ℕ) → at + 16 * l ≡ 16 * (4 * suc (at / 64 - 1) + l)
-    pos l = omega (arith, G.some, G.whole)
+    pos : (l : ℕ) → 64 * g + 16 * l ≡ 16 * (4 * suc (g - 1) + l)
+    pos l = omega (arith, G.some)
 
-    more : LaneAll r a m (suc (at / 64 - 1)) z
-    more l g = record {
-      below = (N l g).below;
-      is = m_trans (N l g).is
-          (m_add (m_mul (G.lanes l g).is h_r) (m_eq (ap (λ (i : ℕ). number (take 16 (drop i m)) + bit) (pos l))));
+    more : LaneAll r a m (suc (g - 1)) z
+    more l k = record {
+      below = (N l k).below;
+      is = m_trans (N l k).is
+          (m_add (m_mul (G.lanes l k).is h_r) (m_eq (ap (λ (i : ℕ). number (take 16 (drop i m)) + bit) (pos l))));
     }
 
 -- all is absorbed
-pub groups_all : (r a : ℕ) (m : List ℕ) (y : List (List ℕ)) (at : ℕ) {c : ℕ}
-    → Groups r a m y at → length m % 64 ≡ 0 → length m - at < 64
+pub groups_all : (r a : ℕ) (m : List ℕ) (y : List (List ℕ)) (g : ℕ) {c : ℕ}
+    → Groups r a m y g → length m ≡ 64 * g
     → Mod prime c (combined_rows r y) → Mod prime c (absorb_all r a (pieces m))
-groups_all r a m y at {c} G w h k = rw (pieces_whole m (4 * suc (at / 64 - 1)) count)
-    (m_trans k (m_trans sums (four_lanes r a m (at / 64 - 1) (omega arith))))
+groups_all r a m y g {c} G h k = rw (pieces_whole m (4 * suc (g - 1)) count)
+    (m_trans k (m_trans sums (four_lanes r a m (g - 1) (omega arith))))
   where
-    end : at ≡ length m
-    end = omega (arith, G.within, G.whole)
+    count : length m ≡ 16 * (4 * suc (g - 1))
+    count = omega (arith, G.some)
 
-    count : length m ≡ 16 * (4 * suc (at / 64 - 1))
-    count = omega (arith, G.some, G.whole)
+    is : (l : ℕ) (k : l < 4) → Mod prime (value (get_or y l [])) (lane_after r a m (g - 1) l)
+    is l k = (G.lanes l k).is
 
-    is : (l : ℕ) (g : l < 4) → Mod prime (value (get_or y l [])) (lane_after r a m (at / 64 - 1) l)
-    is l g = (G.lanes l g).is
-
-    sums : Mod prime (combined_rows r y) (combined r (lane_after r a m (at / 64 - 1) 0)
-        (lane_after r a m (at / 64 - 1) 1) (lane_after r a m (at / 64 - 1) 2) (lane_after r a m (at / 64 - 1) 3))
+    sums : Mod prime (combined_rows r y) (combined r (lane_after r a m (g - 1) 0)
+        (lane_after r a m (g - 1) 1) (lane_after r a m (g - 1) 2) (lane_after r a m (g - 1) 3))
     sums =
         m_add (m_add (m_add (m_mul (is 0 (omega arith)) m_refl) (m_mul (is 1 (omega arith)) m_refl))
         (m_mul (is 2 (omega arith)) m_refl)) (m_mul (is 3 (omega arith)) m_refl)

@@ -4,18 +4,9 @@ use Rattle.poly1305_limbs.proofs.Limbs.{fits}
 use Rattle.std.proofs.Common.{rules}
 use Rattle.poly1305_limbs.proofs.column.Goals as goal
 
-pub overflow_mul-result : goal.overflow_mul-result
-overflow_mul-result c = omega (arith, fits c.requires.below.l0 c.requires.b0_bound.0)
-
-pub overflow_mul-result-2 : goal.overflow_mul-result-2
-overflow_mul-result-2 c = omega (arith, fits c.requires.below.l1 c.requires.b0_bound.1)
-
 pub overflow_add-result : goal.overflow_add-result
 overflow_add-result c =
     omega (arith, fits c.requires.below.l0 c.requires.b0_bound.0, fits c.requires.below.l1 c.requires.b0_bound.1)
-
-pub overflow_mul-result-3 : goal.overflow_mul-result-3
-overflow_mul-result-3 c = omega (arith, fits c.requires.below.l2 c.requires.b0_bound.2)
 
 pub overflow_add-result-2 : goal.overflow_add-result-2
 overflow_add-result-2 c =
@@ -26,9 +17,6 @@ overflow_add-result-2 c =
       fits c.requires.below.l2 c.requires.b0_bound.2,
     )
 
-pub overflow_mul-result-4 : goal.overflow_mul-result-4
-overflow_mul-result-4 c = omega (arith, fits c.requires.below.l3 c.requires.b0_bound.3)
-
 pub overflow_add-result-3 : goal.overflow_add-result-3
 overflow_add-result-3 c =
     omega (
@@ -38,9 +26,6 @@ overflow_add-result-3 c =
       fits c.requires.below.l2 c.requires.b0_bound.2,
       fits c.requires.below.l3 c.requires.b0_bound.3,
     )
-
-pub overflow_mul-result-5 : goal.overflow_mul-result-5
-overflow_mul-result-5 c = omega (arith, fits c.requires.below.l4 c.requires.b0_bound.4)
 
 pub overflow_add-result-4 : goal.overflow_add-result-4
 overflow_add-result-4 c =

@@ -1,8 +1,8 @@
 use Rattle.poly1305_limbs.proofs.Limbs.{product}
 use Rattle.poly1305_limbs.proofs.multiply.Goals as goal
 
-pub returns-clause-below_2 : goal.returns-clause-below_2
-returns-clause-below_2 c = record {
+pub returns-clause-below : goal.returns-clause-below
+returns-clause-below c = record {
   l0 = c.column-d0.ensures.upper_bound;
   l1 = c.column-d1.ensures.upper_bound;
   l2 = c.column-d2.ensures.upper_bound;

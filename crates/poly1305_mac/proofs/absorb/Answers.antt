@@ -1,15 +1,8 @@
 use Rattle.poly1305_mac.proofs.Pieces.{absorb_none, absorb_left}
 use Rattle.poly1305_mac.proofs.absorb.Goals as goal
 
-pub returns-then-n-eq0-clause-limbs_3 : goal.returns-then-n-eq0-clause-limbs_3
-returns-then-n-eq0-clause-limbs_3 c = c.absorb_blocks-a.ensures.limbs_3
+pub returns-then-n-eq0 : goal.returns-then-n-eq0
+returns-then-n-eq0 c = absorb_none _ _ _ c.absorb_blocks-a.ensures c.if-n-eq0.true
 
-pub returns-then-n-eq0-clause-fact : goal.returns-then-n-eq0-clause-fact
-returns-then-n-eq0-clause-fact c = absorb_none _ _ _ c.absorb_blocks-a.ensures.fact c.if-n-eq0.true
-
-pub returns-clause-limbs_3 : goal.returns-clause-limbs_3
-returns-clause-limbs_3 c = c.absorb_blocks.ensures.limbs_3
-
-pub returns-clause-fact : goal.returns-clause-fact
-returns-clause-fact c = absorb_left _ _ _ c.absorb_blocks-a.ensures.fact _
-    c.if-n-eq0.false c.rest-b.ensures c.absorb_blocks.ensures.fact
+pub returns : goal.returns
+returns c = absorb_left _ _ _ c.absorb_blocks-a.ensures _ c.if-n-eq0.false c.rest-b.ensures c.absorb_blocks.ensures

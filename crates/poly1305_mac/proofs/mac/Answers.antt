@@ -3,5 +3,5 @@ use Rattle.poly1305_mac.proofs.mac.Goals as goal
 
 pub returns : goal.returns
 returns c =
-    let a = c.absorb-a.ensures.fact in
-    mac_law _ _ c.key-halves.ensures.r_value c.key-halves.ensures.s_value (rw value_zero at a) c.tag.ensures
+    mac_law _ _ c.key-halves.ensures.r_value c.key-halves.ensures.s_value
+    (rw value_zero at c.absorb-a.ensures) c.tag.ensures

@@ -12,6 +12,5 @@ returns c =
     let f1 : Fits w32 (get_or t 1 0) = search rules in
     let f2 : Fits w32 (get_or t 2 0) = search rules in
     let f3 : Fits w32 (get_or t 3 0) = search rules in
-    tag_law t _ _ _ _ _ f0.fits f1.fits f2.fits f3.fits
-    c.store.ensures c.store-2.ensures c.store-3.ensures c.store-4.ensures
-    c.remainder-a.ensures.result_value c.add_s-t.ensures
+    tag_law t _ _ (search rules) f0.fits f1.fits f2.fits f3.fits c.store_all.ensures c.remainder-a.ensures
+    c.add_s-t.ensures
