@@ -1,12 +1,14 @@
 -- The one-time key, the lengths and the tag, as the code puts them together. Assumes nothing.
-use mathlib.Core.Path.{◌≡◌, sym, ap, ap₂, ◌∙◌}
+use mathlib.Core.Path.{◌≡◌, refl, sym, ap, ap₂, ◌∙◌}
 use mathlib.Core.List.{List, [], ◌∷◌, ◌++◌, append_assoc}
 use Prim.Native.Nat.{ℕ, ◌-◌, ◌*◌, ◌/◌, ◌%◌, ◌^◌, ◌<◌, ◌≤◌}
 use native.Mathlib.Omega.{arith}
 use mathlib.Core.Bool.{true, false}
 use borrow.Author.Tests.{le-leb, lt-leb}
-use lib.ListN.{length, take}
-use Rattle.base_words.specs.Numbers.{bytes, eight}
+use lib.ListN.{length, take, replicate}
+use Rattle.std.specs.Int.{w64, to_le_bytes}
+use Rattle.std.proofs.Common.{shr-shr}
+use Rattle.base_words.specs.Numbers.{bytes}
 use Rattle.base_algebra.specs.Mod.{Mod}
 use Rattle.base_words.specs.List.{over, over_all}
 use Rattle.base_words.specs.Bytes.{le32, bytes_of, words_at}
@@ -28,12 +30,22 @@ unfolding poly_key block_bytes bytes_of le32
 poly_key_law key nonce out t s is size e =
     e ∙ over_all (take 32 (bytes_of (words s))) out (sym size) ∙ ap (λ (l : List ℕ). take 32 (bytes_of l)) is
 
-pub lengths_law : (a b : ℕ) (out t : List ℕ) → length out ≡ 16
-    → t ≡ over 0 (bytes_of (a % 2 ^ 32 ∷ a / 2 ^ 32 ∷ b % 2 ^ 32 ∷ b / 2 ^ 32 ∷ [])) out → t ≡ bytes 8 a ++ bytes 8 b
-unfolding bytes_of le32
-lengths_law a b out t size e =
-    e ∙ over_all (bytes_of (a % 2 ^ 32 ∷ a / 2 ^ 32 ∷ b % 2 ^ 32 ∷ b / 2 ^ 32 ∷ [])) out (sym size)
-    ∙ ap₂ (λ (x y : List ℕ). x ++ y) (eight a) (eight b)
+le_bytes : (a : ℕ) → to_le_bytes w64 a ≡ bytes 8 a
+unfolding bytes
+le_bytes a =
+    let s2 : a / 2 ^ 8 / 2 ^ 8 ≡ a / 2 ^ 16 = shr-shr a 8 8 in
+    let s3 : a / 2 ^ 16 / 2 ^ 8 ≡ a / 2 ^ 24 = shr-shr a 16 8 in
+    let s4 : a / 2 ^ 24 / 2 ^ 8 ≡ a / 2 ^ 32 = shr-shr a 24 8 in
+    let s5 : a / 2 ^ 32 / 2 ^ 8 ≡ a / 2 ^ 40 = shr-shr a 32 8 in
+    let s6 : a / 2 ^ 40 / 2 ^ 8 ≡ a / 2 ^ 48 = shr-shr a 40 8 in
+    let s7 : a / 2 ^ 48 / 2 ^ 8 ≡ a / 2 ^ 56 = shr-shr a 48 8 in
+    rw (s2, s3, s4, s5, s6, s7) refl
+
+pub lengths_law : (a b : ℕ) (out t : List ℕ) → out ≡ over 0 (to_le_bytes w64 a) (replicate 16 0)
+    → t ≡ over 8 (to_le_bytes w64 b) out → t ≡ bytes 8 a ++ bytes 8 b
+unfolding over
+lengths_law a b out t e f =
+    f ∙ ap (over 8 (to_le_bytes w64 b)) e ∙ ap₂ (λ (x y : List ℕ). x ++ y) (le_bytes a) (le_bytes b)
 
 -- a text and the lengths, taken one after the other
 pub text_law : (text lens : List ℕ) (r h b : ℕ) {c : ℕ} → length lens ≡ 16

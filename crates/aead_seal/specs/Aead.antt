@@ -1,12 +1,11 @@
 -- The AEAD of RFC 8439, 2.6 and 2.8, on lists of bytes. Assumes nothing.
-use Rattle.std.specs.Prelude.{Bool, ◌&&◌, cond, List, ◌++◌, ℕ, ◌-◌, ◌*◌, ◌^◌, leb, length, take, replicate}
+use Rattle.std.specs.Prelude.{Bool, Option, Some, None, ◌&&◌, cond, List, ◌++◌, ℕ, ◌-◌, ◌*◌, ◌^◌, leb, length, take, replicate}
 use Rattle.base_words.specs.Numbers.{bytes}
 use Rattle.base_words.specs.List.{same}
 use Rattle.base_words.specs.Bytes.{words_at}
 use Rattle.chacha20_block.specs.ChaCha20.{block_bytes}
 use Rattle.chacha20_stream.specs.Keystream.{xored}
 use Rattle.poly1305_mac.specs.Poly1305.{pad16, mac}
-use Rattle.aead_seal.specs.declared.Sealed.{Sealed}
 
 -- 2.6: the one-time key is the first 32 bytes of block 0
 unfoldable pub poly_key : List ℕ → List ℕ → List ℕ
@@ -28,12 +27,21 @@ tag_for key nonce aad text = mac (poly_key key nonce) (mac_data aad text)
 unfoldable pub within : List ℕ → Bool
 within text = leb (length text) ((2 ^ 32 - 1) * 64)
 
--- what sealing answers, and what it leaves of the text
+-- what sealing gives, and what it leaves of the text: `ok` is whether the text was sealed; where it was not, it is
+-- too long, and the tag is zeros
+pub record Sealed : Type 0 where
+  pub ok : Bool
+  pub tag : List ℕ
+
 unfoldable pub sealed : List ℕ → List ℕ → List ℕ → List ℕ → Sealed
 sealed key nonce aad text = record {
   ok = within text;
   tag = cond (within text) (tag_for key nonce aad (cipher key nonce text)) (replicate 16 0);
 }
+
+-- what code hands on of it: the tag, and none where the text was not sealed
+abbrev pub handed : Sealed → Option (List ℕ)
+handed s = cond s.ok (Some s.tag) None
 
 unfoldable pub sealed_text : List ℕ → List ℕ → List ℕ → List ℕ
 sealed_text key nonce text = cond (within text) (cipher key nonce text) text

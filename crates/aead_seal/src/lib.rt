@@ -5,22 +5,17 @@
 ghost use Rattle.std.specs.Prelude.{◌≡◌, ◌++◌, ◌≤◌, length};
 ghost use Rattle.base_words.specs.Numbers.{bytes};
 ghost use Rattle.base_algebra.specs.Mod.{Mod};
-ghost use Rattle.poly1305_limbs.specs.Limbs.{prime, value, Limbs};
+ghost use Rattle.poly1305_limbs.specs.Limbs.{prime, value};
 ghost use Rattle.poly1305_mac.specs.Poly1305.{pieces, pad16, absorb_all, mac};
-ghost use Rattle.aead_seal.specs.Aead.{poly_key, mac_data, sealed, sealed_text, opens, opened_text};
+ghost use Rattle.aead_seal.specs.Aead.{poly_key, mac_data, sealed, handed, sealed_text, opens, opened_text};
+
+use poly1305_limbs::Reduced;
 
 // RFC 8439's P_MAX: what the block counter of 32 bits has room for, after block 0.
 const LIMIT: usize = 274877906880;
 
 // The block that encryption starts at, 2.8: block 0 is the one-time key's.
 const FIRST: u32 = 1;
-
-// `ok` is whether the text was sealed; where it was not, it is too long, and the tag is zeros.
-#[derive(Clone, Copy)]
-pub struct Sealed {
-    pub ok: bool,
-    pub tag: [u8; 16],
-}
 
 // The one-time key of Poly1305 for a nonce, 2.6.
 pub fn poly_key(key: &[u8; 32], nonce: &[u8; 12]) -> [u8; 32]
@@ -41,25 +36,17 @@ pub fn poly_key(key: &[u8; 32], nonce: &[u8; 12]) -> [u8; 32]
 fn lengths(a: usize, b: usize) -> [u8; 16]
     ensures { result ≡ bytes 8 a ++ bytes 8 b }
 {
-    let w = [
-        (a % 4294967296) as u32,
-        (a / 4294967296) as u32,
-        (b % 4294967296) as u32,
-        (b / 4294967296) as u32,
-    ];
     let mut out = [0u8; 16];
-    base_slices::store_all(&mut out, 0, &w);
+    base_slices::copy(&mut out, 0, &a.to_le_bytes());
+    base_slices::copy(&mut out, 8, &b.to_le_bytes());
     out
 }
 
 // The accumulator after a text, padded, and then `both`. They are put in one place, so that four blocks
 // at a time are taken of both together.
-fn absorb_short(h: [u64; 5], r: [u64; 5], text: &[u8], both: &[u8]) -> [u64; 5]
-    requires limbs { Limbs h }
-    requires limbs_2 { Limbs r }
-    requires text_len_bound { (length text.now ≤ 496) × (length both.now ≡ 16) }
-    ensures limbs_3 { Limbs result }
-    ensures fact { Mod prime (value result) (absorb_all (value r) (value h)
+fn absorb_short(h: Reduced, r: Reduced, text: &[u8], both: &[u8; 16]) -> Reduced
+    requires { length text.now ≤ 496 }
+    ensures { Mod prime (value result.limbs) (absorb_all (value r.limbs) (value h.limbs)
         (pieces ((text.now ++ pad16 text.now) ++ both.now))) }
 {
     let n = text.len();
@@ -71,12 +58,8 @@ fn absorb_short(h: [u64; 5], r: [u64; 5], text: &[u8], both: &[u8]) -> [u64; 5]
 }
 
 // The same for a text of any length.
-fn absorb_text(h: [u64; 5], r: [u64; 5], text: &[u8], both: &[u8]) -> [u64; 5]
-    requires limbs { Limbs h }
-    requires limbs_2 { Limbs r }
-    requires both_len { length both.now ≡ 16 }
-    ensures limbs_3 { Limbs result }
-    ensures fact { Mod prime (value result) (absorb_all (value r) (value h)
+fn absorb_text(h: Reduced, r: Reduced, text: &[u8], both: &[u8; 16]) -> Reduced
+    ensures { Mod prime (value result.limbs) (absorb_all (value r.limbs) (value h.limbs)
         (pieces ((text.now ++ pad16 text.now) ++ both.now))) }
 {
     if text.len() <= 496 {
@@ -91,12 +74,10 @@ fn tag_by(once: &[u8; 32], aad: &[u8], text: &[u8]) -> [u8; 16]
     ensures { result ≡ mac once.now (mac_data aad.now text.now) }
 {
     let halves = poly1305_mac::key(once);
-    let r = halves.r;
-    let s = halves.s;
-    let a = poly1305_mac::absorb_padded([0; 5], r, aad);
+    let a = poly1305_mac::absorb_padded(Reduced::ZERO, halves.r, aad);
     let both = lengths(aad.len(), text.len());
-    let c = absorb_text(a, r, text, &both);
-    poly1305_mac::tag(c, s)
+    let c = absorb_text(a, halves.r, text, &both);
+    poly1305_mac::tag(c, halves.s)
 }
 
 // `seal` where the one-time key is at hand.
@@ -106,16 +87,13 @@ pub fn seal_by(
     nonce: &[u8; 12],
     aad: &[u8],
     text: &mut [u8],
-) -> Sealed
+) -> Option<[u8; 16]>
     requires { once.now ≡ poly_key key.now nonce.now }
-    ensures value { result ≡ sealed key.now nonce.now aad.now text.old }
+    ensures value { result ≡ handed (sealed key.now nonce.now aad.now text.old) }
     ensures text_after { text.new ≡ sealed_text key.now nonce.now text.old }
 {
     if LIMIT < text.len() {
-        return Sealed {
-            ok: false,
-            tag: [0; 16],
-        };
+        return None;
     }
     chacha20_stream::xor(
         chacha20_block::key_words(key),
@@ -124,7 +102,7 @@ pub fn seal_by(
         text,
     );
     let tag = tag_by(once, aad, text);
-    Sealed { ok: true, tag }
+    Some(tag)
 }
 
 // `open` where the one-time key is at hand.
@@ -159,9 +137,10 @@ pub fn open_by(
     }
 }
 
-// The text becomes its ciphertext. One that is too long stays as it is.
-pub fn seal(key: &[u8; 32], nonce: &[u8; 12], aad: &[u8], text: &mut [u8]) -> Sealed
-    ensures value { result ≡ sealed key.now nonce.now aad.now text.old }
+// The text becomes its ciphertext, and the answer is its tag. A text that is too long stays as it is and
+// has none.
+pub fn seal(key: &[u8; 32], nonce: &[u8; 12], aad: &[u8], text: &mut [u8]) -> Option<[u8; 16]>
+    ensures value { result ≡ handed (sealed key.now nonce.now aad.now text.old) }
     ensures text_after { text.new ≡ sealed_text key.now nonce.now text.old }
 {
     let once = poly_key(key, nonce);

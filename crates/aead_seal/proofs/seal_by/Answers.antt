@@ -1,5 +1,6 @@
 use mathlib.Core.Path.{◌≡◌, refl, ap, ap₂, ◌∙◌}
 use mathlib.Core.Bool.{true, false}
+use Rattle.std.specs.Prelude.{Some}
 use Rattle.chacha20_stream.specs.Keystream.{xored}
 use Rattle.aead_seal.specs.Aead.{cipher, mac_data, tag_for, within, sealed, sealed_text}
 use Rattle.poly1305_mac.specs.Poly1305.{mac}
@@ -28,7 +29,7 @@ returns-clause-value c =
     let done = c.xor.ensures ∙ ap₂ (λ k n. xored k 1 n args.text.now)
     c.key_words.ensures c.nonce_words.ensures in
     let tag = c.tag_by-tag.ensures ∙ ap₂ (λ k t. mac k (mac_data args.aad.now t)) c.requires done in
-    rw short (ap (λ t. record { ok = true; tag = t }) tag)
+    rw short (ap (λ t. Some t) tag)
 
 pub returns-clause-text_after : goal.returns-clause-text_after
 unfolding sealed sealed_text cipher tag_for
