@@ -35,12 +35,13 @@ pub fn cipher_seal(
         tag.old }
     ensures text_after { text.new ≡ sealed_text key.now nonce.now text.old }
 {
-    let s = aead_seal::seal(key, nonce, aad, text);
-    if s.ok {
-        let t = s.tag;
-        *tag = t;
+    match aead_seal::seal(key, nonce, aad, text) {
+        Some(t) => {
+            *tag = t;
+            true
+        }
+        None => false,
     }
-    s.ok
 }
 
 // Opens text in place if its tag fits, and answers whether it does.

@@ -10,8 +10,8 @@ use lib.ListN.{length, take-append-drop, take, drop, replicate, length-append, l
 use lib.Seq.{length-take-le, take_at, drop_at}
 use Rattle.base_words.specs.List.{over, over_all, over_after, over_next, flat}
 use Rattle.base_words.specs.Bytes.{le32, bytes_of}
-use Rattle.aead_seal.specs.declared.Sealed.{Sealed}
-use Rattle.aead_seal.specs.Aead.{cipher, tag_for, within, sealed, sealed_text}
+use Rattle.aead_seal.specs.Aead.{cipher, tag_for, within, sealed, handed, sealed_text}
+use Rattle.std.specs.Prelude.{Option, Some, IsSome, unwrap_or}
 use Rattle.aead_seal.specs.Claims.{length_cipher}
 use Rattle.half_content.specs.declared.Set.{Set}
 use Rattle.half_content.specs.Content.{block_bytes, text_bytes, room_bytes, part, fields, size, block_count, Proper}
@@ -43,7 +43,8 @@ module _ (key h text out0 : List ℕ) (lh : length h ≡ 12) (lt : length text �
       f ∙ ap (over 12 text) first ∙ over_after h text (drop 12 out0) 12 lh (omega (arith, length-drop 12 out0))
       ∙ ap (λ (k : ℕ). h ++ (text ++ drop k (drop 12 out0))) lt
 
-  module _ (out1 out2 y out : List ℕ) (s : Sealed) (e1 : out1 ≡ over 0 h out0) (e2 : out2 ≡ over 12 text out1) where
+  module _ (out1 out2 y out : List ℕ) (o : Option (List ℕ)) (tag : List ℕ)
+      (e1 : out1 ≡ over 0 h out0) (e2 : out2 ≡ over 12 text out1) where
     middle : take text_bytes (drop 12 out2) ≡ text
     middle =
         ap (λ (l : List ℕ). take text_bytes (drop 12 l)) (two out1 out2 e1 e2)
@@ -62,11 +63,17 @@ module _ (key h text out0 : List ℕ) (lh : length h ≡ 12) (lt : length text �
     unfolding sealed_text within
     sealed_is e = e ∙ ap (sealed_text key h) middle ∙ rw (le-leb (length text) ((2 ^ 32 - 1) * 64) (omega arith)) refl
 
-    tag_is : s ≡ sealed key h h (take text_bytes (drop 12 out2)) → s.tag ≡ tag_for key h h (cipher key h text)
+    is_sealed : o ≡ handed (sealed key h h (take text_bytes (drop 12 out2))) → o ≡ Some (tag_for key h h (cipher key h text))
     unfolding sealed within
-    tag_is e =
-        ap (λ z. z.tag) e ∙ ap (λ (l : List ℕ). (sealed key h h l).tag) middle
+    is_sealed e =
+        e ∙ ap (λ (l : List ℕ). handed (sealed key h h l)) middle
         ∙ rw (le-leb (length text) ((2 ^ 32 - 1) * 64) (omega arith)) refl
+
+    pub has_tag : o ≡ handed (sealed key h h (take text_bytes (drop 12 out2))) → IsSome o
+    has_tag e = rw (is_sealed e) refl
+
+    tag_is : o ≡ handed (sealed key h h (take text_bytes (drop 12 out2))) → o ≡ Some tag → tag ≡ tag_for key h h (cipher key h text)
+    tag_is e t = ap (λ (x : Option (List ℕ)). unwrap_or x []) (sym t ∙ is_sealed e)
 
     pub length_put : y ≡ sealed_text key h (take text_bytes (drop 12 out2))
         → length (put_mid 12 text_bytes out2 y) ≡ block_bytes
@@ -74,23 +81,23 @@ module _ (key h text out0 : List ℕ) (lh : length h ≡ 12) (lt : length text �
         let ly : length y ≡ text_bytes = ap length (sealed_is e) ∙ length_cipher key h text ∙ lt in
         ap length (put ly) ∙ omega (arith, length-append h (y ++ rest), length-append y rest, length_rest)
 
-    pub length_tag_is : s ≡ sealed key h h (take text_bytes (drop 12 out2)) → length s.tag ≡ 16
-    length_tag_is e = ap length (tag_is e) ∙ length_tag key h h (cipher key h text)
+    pub length_tag_is : o ≡ handed (sealed key h h (take text_bytes (drop 12 out2))) → o ≡ Some tag → length tag ≡ 16
+    length_tag_is e t = ap length (tag_is e t) ∙ length_tag key h h (cipher key h text)
 
     pub write_law : y ≡ sealed_text key h (take text_bytes (drop 12 out2))
-        → s ≡ sealed key h h (take text_bytes (drop 12 out2))
-        → out ≡ over (12 + text_bytes) s.tag (put_mid 12 text_bytes out2 y)
+        → o ≡ handed (sealed key h h (take text_bytes (drop 12 out2))) → o ≡ Some tag
+        → out ≡ over (12 + text_bytes) tag (put_mid 12 text_bytes out2 y)
         → out ≡ h ++ (cipher key h text ++ tag_for key h h (cipher key h text))
-    write_law e g f =
+    write_law e g t f =
         let ly : length y ≡ text_bytes = ap length (sealed_is e) ∙ length_cipher key h text ∙ lt in
         let lf : length (h ++ y) ≡ (12 + text_bytes) = omega (arith, length-append h y) in
-        let end : length rest ≤ length s.tag = omega (arith, length_rest, length_tag_is g) in
-        f ∙ ap (over (12 + text_bytes) s.tag) (put ly ∙ sym (append_assoc h y rest))
-        ∙ over_after (h ++ y) s.tag rest (12 + text_bytes) lf (omega (arith, length_rest, length_tag_is g))
-        ∙ append_assoc h y (s.tag ++ drop (length s.tag) rest)
+        let end : length rest ≤ length tag = omega (arith, length_rest, length_tag_is g t) in
+        f ∙ ap (over (12 + text_bytes) tag) (put ly ∙ sym (append_assoc h y rest))
+        ∙ over_after (h ++ y) tag rest (12 + text_bytes) lf (omega (arith, length_rest, length_tag_is g t))
+        ∙ append_assoc h y (tag ++ drop (length tag) rest)
         ∙ ap (λ (l : List ℕ). h ++ (y ++ l))
-        (ap (λ (l : List ℕ). s.tag ++ l) (drop_of_length-le rest end) ∙ append-nil s.tag)
-        ∙ ap₂ (λ (a b : List ℕ). h ++ (a ++ b)) (sealed_is e) (tag_is g)
+        (ap (λ (l : List ℕ). tag ++ l) (drop_of_length-le rest end) ∙ append-nil tag)
+        ∙ ap₂ (λ (a b : List ℕ). h ++ (a ++ b)) (sealed_is e) (tag_is g t)
 
   pub is_block : (set i : ℕ) → h ≡ header set i
       → h ++ (cipher key h text ++ tag_for key h h (cipher key h text)) ≡ block key set i text

@@ -52,7 +52,7 @@ fn write_block(key: &[u8; 32], once: &[u8; 32], number: u64, i: u32, text: &[u8]
     base_slices::copy(out, 12, text);
     let aad = h;
     let sealed = aead_seal::seal_by(key, once, &h, &aad, &mut out[12..TAG_AT]);
-    let tag = sealed.tag;
+    let tag = sealed.unwrap();
     base_slices::copy(out, TAG_AT, &tag);
 }
 

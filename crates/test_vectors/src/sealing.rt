@@ -19,13 +19,12 @@ pub fn poly_key(line: Line<'_>, out: &mut Output) -> Option<()> {
 // Seals the text of a line that goes on KEY NONCE AAD DATA, and answers the tag.
 fn seal_text(line: Line<'_>, text: &mut [u8]) -> Option<[u8; 16]> {
     let mut aad = no_message();
-    let sealed = aead_seal::seal(
+    aead_seal::seal(
         &line.array(1)?,
         &line.array(2)?,
         line.bytes(3, &mut aad)?,
         text,
-    );
-    if sealed.ok { Some(sealed.tag) } else { None }
+    )
 }
 
 // seal KEY NONCE AAD DATA, answered by the ciphertext and the tag.
