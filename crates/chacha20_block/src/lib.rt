@@ -2,7 +2,7 @@
 // key_words and nonce_words read them from bytes.
 #![tactic(auto)]
 
-ghost use Rattle.std.specs.Prelude.{◌≡◌};
+ghost use Rattle.std.specs.Prelude.{◌≡◌, ◌*◌, ◌≤◌, length};
 ghost use Rattle.base_words.specs.Bytes.{words_at};
 ghost use Rattle.chacha20_rounds.specs.Rounds.{words, rounds};
 ghost use Rattle.chacha20_block.specs.ChaCha20.{start as start_of, block as block_of};
@@ -13,10 +13,8 @@ fn twenty_rounds(s: State) -> State
     ensures { words result ≡ rounds 10 (words s) }
 {
     let mut t = s;
-    let mut i: u32 = 0;
-    while i < 10 {
+    for _ in 0..10u32 {
         t = chacha20_rounds::diagonal_round(chacha20_rounds::column_round(t));
-        i += 1;
     }
     t
 }
@@ -52,30 +50,26 @@ pub fn block(key: [u32; 8], counter: u32, nonce: [u32; 3]) -> State
     chacha20_rounds::add_states(t, s)
 }
 
+// The first N words of b.
+fn words_of<const N: usize>(b: &[u8]) -> [u32; N]
+    requires { 4 * N ≤ length b.now }
+    ensures { result ≡ words_at N b.now }
+{
+    let mut w = [0u32; N];
+    for i in 0..N {
+        w[i] = base_slices::load(b, 4 * i);
+    }
+    w
+}
+
 pub fn key_words(key: &[u8; 32]) -> [u32; 8]
     ensures { result ≡ words_at 8 key.now }
 {
-    // made a slice once, and not for each load: a shorter walk to prove
-    let key: &[u8] = key;
-    [
-        base_slices::load(key, 0),
-        base_slices::load(key, 4),
-        base_slices::load(key, 8),
-        base_slices::load(key, 12),
-        base_slices::load(key, 16),
-        base_slices::load(key, 20),
-        base_slices::load(key, 24),
-        base_slices::load(key, 28),
-    ]
+    words_of(key)
 }
 
 pub fn nonce_words(nonce: &[u8; 12]) -> [u32; 3]
     ensures { result ≡ words_at 3 nonce.now }
 {
-    let nonce: &[u8] = nonce;
-    [
-        base_slices::load(nonce, 0),
-        base_slices::load(nonce, 4),
-        base_slices::load(nonce, 8),
-    ]
+    words_of(nonce)
 }

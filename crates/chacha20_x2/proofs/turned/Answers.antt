@@ -1,16 +1,15 @@
-use mathlib.Core.Path.{◌≡◌}
-use native.Mathlib.Omega.{arith}
+use Rattle.std.proofs.Common.{◌≡◌, arith}
 use Rattle.chacha20_x2.specs.Pair.{left_by}
 use Rattle.chacha20_x2.proofs.turned.Goals as goal
 
-pub returns-then-by-eq1 : goal.returns-then-by-eq1
+pub returns-in-1 : goal.returns-in-1
 unfolding left_by
-returns-then-by-eq1 c = rw c.if-by-eq1.true
+returns-in-1 c = rw c.in-1.is c.row.ensures
 
-pub returns-then-by-eq2 : goal.returns-then-by-eq2
+pub returns-in-2 : goal.returns-in-2
 unfolding left_by
-returns-then-by-eq2 c = rw c.if-by-eq2.true
+returns-in-2 c = rw c.in-2.is c.row-in-2.ensures
 
-pub returns : goal.returns
+pub returns-in_default : goal.returns-in_default
 unfolding left_by
-returns c = let three : c.args.by ≡ 3 = omega arith in rw three
+returns-in_default c = let three : c.args.by ≡ 3 = omega arith in rw three c.row-in_default.ensures

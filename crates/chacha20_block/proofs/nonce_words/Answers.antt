@@ -1,8 +1,0 @@
-use Rattle.std.proofs.Common.{[], ◌∷◌}
-use Rattle.base_words.specs.List.{tab}
-use Rattle.base_words.specs.Bytes.{words_at}
-use Rattle.chacha20_block.proofs.nonce_words.Goals as goal
-
-pub returns : goal.returns
-unfolding words_at tab
-returns c = λ i. c.load.ensures i ∷ c.load-2.ensures i ∷ c.load-3.ensures i ∷ []
