@@ -37,19 +37,22 @@ fn read_numbers(line: Line<'_>) -> Option<Numbers> {
     })
 }
 
-// The sum of the two shares of a vector's mask, and the vector masked: its first and last word.
-fn mask(
-    v: &[u32],
-    shares: &[u32],
-    sum: &mut [u32; MOST_ELEMENTS],
-    masked: &mut [u32; MOST_ELEMENTS],
-) -> (u32, u32)
-    requires { (0 < length v.now) × (length v.now ≤ 512) × (2 * length v.now ≤ length shares.now) }
+// A vector's mask, which is the sum of two shares, and the vector masked.
+#[derive(Clone, Copy)]
+struct Masked {
+    mask: [u32; MOST_ELEMENTS],
+    vector: [u32; MOST_ELEMENTS],
+}
+
+fn add_mask(v: &[u32], shares: &[u32]) -> Masked
+    requires { (length v.now ≤ 512) × (2 * length v.now ≤ length shares.now) }
 {
     let n = v.len();
-    share_vectors::add_vectors(n, shares, &shares[n..], sum);
-    share_vectors::add_vectors(n, v, sum, masked);
-    (masked[0], masked[n - 1])
+    let mut mask = [0u32; MOST_ELEMENTS];
+    let mut vector = [0u32; MOST_ELEMENTS];
+    share_vectors::add_vectors(n, shares, &shares[n..], &mut mask);
+    share_vectors::add_vectors(n, v, &mask, &mut vector);
+    Masked { mask, vector }
 }
 
 // Words 0 and 1.
@@ -80,18 +83,21 @@ fn two_words(d: Numbers, x: &[u32], y: &[u32], masks: &[u32]) -> [u32; 6]
     requires vectors { (0 < length x.now) × (length x.now ≤ 512) × (length y.now ≡ length x.now) }
     requires masks { length masks.now ≡ 4 * length x.now }
 {
-    let mut x_mask = [0u32; MOST_ELEMENTS];
-    let mut y_mask = [0u32; MOST_ELEMENTS];
-    let mut mx = [0u32; MOST_ELEMENTS];
-    let mut my = [0u32; MOST_ELEMENTS];
     let n = x.len();
-    let ex = mask(x, masks, &mut x_mask, &mut mx);
-    let ey = mask(y, &masks[2 * n..], &mut y_mask, &mut my);
-    let c1 = share_vectors::other_c(n, &x_mask, &y_mask, d.c0);
+    let mx = add_mask(x, masks);
+    let my = add_mask(y, &masks[2 * n..]);
+    let c1 = share_vectors::other_c(n, &mx.mask, &my.mask, d.c0);
     let terms = Terms { code: d.code, n };
     let own = (share_vectors::own(terms, x), share_vectors::own(terms, y));
-    let w = words_of(d, terms, own, c1, masks, &mx, &my);
-    [ex.0, ex.1, ey.0, ey.1, w.0, w.1]
+    let w = words_of(d, terms, own, c1, masks, &mx.vector, &my.vector);
+    [
+        mx.vector[0],
+        mx.vector[n - 1],
+        my.vector[0],
+        my.vector[n - 1],
+        w.0,
+        w.1,
+    ]
 }
 
 // Z, both answers and their sum.
@@ -103,9 +109,9 @@ fn answers(d: &Dealt, width: u32, z: u32) -> [u32; 4] {
 
 // run CODE RULE X Y MASKS C0 R R0 SEED0 SEED1
 pub fn check(line: Line<'_>, out: &mut Output) -> Option<()> {
-    let mut x = [0u32; MOST_ELEMENTS];
-    let mut y = [0u32; MOST_ELEMENTS];
-    let mut masks = [0u32; MASKS];
+    let mut x: [u32; MOST_ELEMENTS] = test_script::zeros();
+    let mut y: [u32; MOST_ELEMENTS] = test_script::zeros();
+    let mut masks: [u32; MASKS] = test_script::zeros();
     let x = line.vector(3, &mut x)?;
     let y = line.vector(4, &mut y)?;
     let masks = line.vector(5, &mut masks)?;

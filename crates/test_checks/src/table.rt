@@ -7,9 +7,9 @@ const LIST: usize = 512;
 // table FIRSTS LASTS THRESHOLDS MINUTE: the number and the place, and the threshold of a row that was
 // chosen, else 0.
 pub fn choose(line: Line<'_>, out: &mut Output) -> Option<()> {
-    let mut firsts = [0u32; LIST];
-    let mut lasts = [0u32; LIST];
-    let mut thresholds = [0u32; LIST];
+    let mut firsts: [u32; LIST] = test_script::zeros();
+    let mut lasts: [u32; LIST] = test_script::zeros();
+    let mut thresholds: [u32; LIST] = test_script::zeros();
     let c = call_day::choose(
         line.vector(1, &mut firsts)?,
         line.vector(2, &mut lasts)?,

@@ -9,10 +9,6 @@ const BYTES: usize = 128;
 
 const WORDS: usize = 640;
 
-fn no_words() -> [u32; WORDS] {
-    [0; WORDS]
-}
-
 // What stands in a buffer before the call: no two neighbours are alike, and no word is a bit.
 fn bytes_before() -> [u8; BYTES] {
     std::array::from_fn(|i| ((i % 256 * 37 + 11) % 256) as u8)
@@ -82,13 +78,13 @@ fn put_packed(vector: &[u32], line: Line<'_>, out: &mut Output) -> Option<()> {
 
 // pack VECTOR ROOM
 fn pack(line: Line<'_>, out: &mut Output) -> Option<()> {
-    let mut words = no_words();
+    let mut words: [u32; WORDS] = test_script::zeros();
     put_packed(line.vector(1, &mut words)?, line, out)
 }
 
 // pack VECTOR ROOM PLACE WORD
 fn pack_with(line: Line<'_>, out: &mut Output) -> Option<()> {
-    let mut words = no_words();
+    let mut words: [u32; WORDS] = test_script::zeros();
     let vector = line.vector(1, &mut words)?;
     *vector.get_mut(line.word(3)? as usize)? = line.word(4)?;
     put_packed(vector, line, out)

@@ -30,10 +30,15 @@ pub use write::{
 // One more than the longest script.
 pub const SIZE: usize = 524289;
 
-// Room for a script. Zeros come from a function: a proof that knows what a long array holds carries
+// Zeros for a buffer. They come from a function: a proof that knows what a long array holds carries
 // all of it.
+pub fn zeros<T: Copy + Default, const N: usize>() -> [T; N] {
+    [T::default(); N]
+}
+
+// Room for a script.
 pub fn no_text() -> [u8; SIZE] {
-    [0; SIZE]
+    zeros()
 }
 
 // Reads the script, and answers how many bytes it has: none if it is too long.

@@ -4,11 +4,6 @@ ghost use Rattle.std.specs.Prelude.{◌≤◌, length};
 
 const OUTPUT: usize = 4096;
 
-// Zeros come from a function: a proof that knows what a long array holds carries all of it.
-fn no_output() -> [u8; OUTPUT] {
-    [0; OUTPUT]
-}
-
 // The answers that are not yet written out stand in the first bytes.
 #[derive(Drop)]
 pub struct Output {
@@ -20,7 +15,7 @@ pub struct Output {
 impl Output {
     pub fn new() -> Self {
         Output {
-            text: no_output(),
+            text: crate::zeros(),
             len: 0,
         }
     }

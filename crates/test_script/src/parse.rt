@@ -116,13 +116,9 @@ pub fn parse_array<const N: usize>(field: &[u8]) -> Option<[u8; N]> {
 // The longest vector that a field stands for, in words.
 const VECTOR: usize = 2048;
 
-fn no_bytes() -> [u8; 4 * VECTOR] {
-    [0; 4 * VECTOR]
-}
-
 // The bytes of a field as words, little-endian, into the first of a buffer, if it has room for them.
 pub fn parse_vector<'a>(field: &[u8], out: &'a mut [u32]) -> Option<&'a mut [u32]> {
-    let mut buffer = no_bytes();
+    let mut buffer: [u8; 4 * VECTOR] = crate::zeros();
     let (words, rest) = parse_bytes(field, &mut buffer)?.as_chunks::<4>();
     if !rest.is_empty() {
         return None;

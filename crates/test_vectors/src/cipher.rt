@@ -1,13 +1,9 @@
 // The commands on ChaCha20 alone.
-use crate::no_message;
+use crate::MESSAGE;
 use test_script::{Line, Output};
 
 // The longest key stream, in words.
 const STREAM: usize = 600;
-
-fn no_stream() -> [u32; STREAM] {
-    [0; STREAM]
-}
 
 // A field that is to be a key, as words.
 fn key(line: Line<'_>, n: usize) -> Option<[u32; 8]> {
@@ -43,7 +39,7 @@ pub fn block(line: Line<'_>, out: &mut Output) -> Option<()> {
 
 // stream KEY NONCE N
 pub fn stream(line: Line<'_>, out: &mut Output) -> Option<()> {
-    let mut buffer = no_stream();
+    let mut buffer: [u32; STREAM] = test_script::zeros();
     let words = buffer.get_mut(..line.word(3)? as usize)?;
     chacha20_stream::stream(key(line, 1)?, nonce(line, 2)?, words);
     out.put_words(words);
@@ -52,7 +48,7 @@ pub fn stream(line: Line<'_>, out: &mut Output) -> Option<()> {
 
 // xor KEY COUNTER NONCE DATA
 pub fn xor(line: Line<'_>, out: &mut Output) -> Option<()> {
-    let mut buffer = no_message();
+    let mut buffer: [u8; MESSAGE] = test_script::zeros();
     let text = line.bytes(4, &mut buffer)?;
     chacha20_stream::xor(key(line, 1)?, line.word(2)?, nonce(line, 3)?, text);
     out.put_hex(text);

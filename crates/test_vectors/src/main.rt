@@ -10,12 +10,6 @@ use test_script::{Line, Output};
 // The longest message in bytes.
 pub const MESSAGE: usize = 4096;
 
-// Room for a message. Zeros come from a function: a proof that knows what a long array holds carries
-// all of it.
-fn no_message() -> [u8; MESSAGE] {
-    [0; MESSAGE]
-}
-
 fn answer(line: Line<'_>, out: &mut Output) -> Option<()> {
     match (line.field(0), line.count()) {
         (b"quarter", 5) => cipher::quarter(line, out),
