@@ -12,40 +12,34 @@ ghost use Rattle.aead_one_time.specs.OneTime.{starts, firsts, keys, KeysTo};
 fn eight_starts(x: &mut [u32; 128], key: [u32; 8], a: u32, b: u32, first: u32)
     ensures { rows 8 x.new ≡ starts 8 key a b first }
 {
-    let mut n = first;
-    let mut l: usize = 0;
-    while l < 8 {
+    for l in 0..8 {
+        let n = base_words::add(first, l as u32);
         chacha20_lanes::set_lane(x, l, chacha20_block::start(key, 0, [a, b, n]));
-        n = base_words::add(n, 1);
-        l += 1;
     }
 }
 
 // The first 32 bytes of block l.
+// kept: (d) `out` and a place, not a part of `out`: the keys add up as `over` at places.
 fn store_key(out: &mut [u8], at: usize, x: &[u32; 128], l: usize)
     requires { (at + 32 ≤ length out.old) × (l < 8) }
     ensures { out.new
         ≡ over at (bytes_of (take 8 (get_or (rows 8 x.now) l []))) out.old }
 {
-    let mut w: usize = 0;
-    while w < 8 {
+    for w in 0..8 {
         base_slices::store(out, at + 4 * w, x[8 * w + l]);
-        w += 1;
     }
 }
 
-fn store_keys(out: &mut [u8], x: &[u32; 128])
-    requires { length out.old ≡ 256 }
+fn store_keys(out: &mut [u8; 256], x: &[u32; 128])
     ensures { out.new ≡ firsts 8 x.now }
 {
-    let mut l: usize = 0;
-    while l < 8 {
+    for l in 0..8 {
         store_key(out, 32 * l, x, l);
-        l += 1;
     }
 }
 
 // The keys for the nonces a, b and first, a, b and first + 1, and so on, one after the other.
+// kept: (d) a and b apart: `nonce_of` and the other definitions have them so.
 fn eight_keys(key: &[u8; 32], a: u32, b: u32, first: u32) -> [u8; 256]
     ensures { result ≡ keys 8 key.now a b first }
 {
@@ -59,6 +53,7 @@ fn eight_keys(key: &[u8; 32], a: u32, b: u32, first: u32) -> [u8; 256]
 
 // The keys for the nonces a, b and 0, a, b and 1, and so on, one after the other: `count` of them, and
 // perhaps some more.
+// kept: (a) no heap: `count` says how many there are, beside room for the most.
 pub fn keys_to(key: &[u8; 32], a: u32, b: u32, count: usize) -> [u8; 512]
     requires { count ≤ 16 }
     ensures { KeysTo key.now a b count result }
@@ -74,8 +69,8 @@ pub fn keys_to(key: &[u8; 32], a: u32, b: u32, count: usize) -> [u8; 512]
 }
 
 // Key i of such keys.
-pub fn key_at(keys: &[u8], i: usize) -> [u8; 32]
-    requires { (i < 16) × (32 * i + 32 ≤ length keys.now) }
+pub fn key_at(keys: &[u8; 512], i: usize) -> [u8; 32]
+    requires { i < 16 }
     ensures { result ≡ take 32 (drop (32 * i) keys.now) }
 {
     base_slices::bytes_32(&keys[32 * i..32 * i + 32])

@@ -44,6 +44,7 @@ fn lengths(a: usize, b: usize) -> [u8; 16]
 
 // The accumulator after a text, padded, and then `both`. They are put in one place, so that four blocks
 // at a time are taken of both together.
+// kept: (a) no heap: a fixed room, and `end` beside it.
 fn absorb_short(h: Reduced, r: Reduced, text: &[u8], both: &[u8; 16]) -> Reduced
     requires { length text.now ≤ 496 }
     ensures { Mod prime (value result.limbs) (absorb_all (value r.limbs) (value h.limbs)
@@ -81,6 +82,7 @@ fn tag_by(once: &[u8; 32], aad: &[u8], text: &[u8]) -> [u8; 16]
 }
 
 // `seal` where the one-time key is at hand.
+// kept: (a) key, nonce and aad are parameters of their own, as RFC 8439, 2.8 has them and callers give them.
 pub fn seal_by(
     key: &[u8; 32],
     once: &[u8; 32],

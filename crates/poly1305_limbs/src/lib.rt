@@ -56,6 +56,8 @@ pub fn split(w: [u32; 4], top: u64) -> Exact
     Exact { limbs }
 }
 
+// kept: (d) sums and products have their bounds in clauses: a sum, r and a lane are factors, and a type for them
+// would be made anew of each.
 // The sum, before its carries. c is a piece, or a lane of `poly1305_x4`, which may have 27 bits.
 pub fn plus(h: Reduced, c: [u64; 5]) -> [u64; 5]
     requires { Below (2 ^ 27 + 2 ^ 13) c }
@@ -73,6 +75,7 @@ pub fn plus(h: Reduced, c: [u64; 5]) -> [u64; 5]
     ]
 }
 
+// kept: (d) five factors, not an array: `multiply` turns them for each column and would make five.
 fn column(h: [u64; 5], b0: u64, b1: u64, b2: u64, b3: u64, b4: u64) -> u64
     requires below { Below (2 ^ 28) h }
     requires b0_bound { (b0 < 2 ^ 30) × (b1 < 2 ^ 30) × (b2 < 2 ^ 30) × (b3 < 2 ^ 30) × (b4 < 2 ^ 30) }

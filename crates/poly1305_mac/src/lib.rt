@@ -33,6 +33,7 @@ pub fn block(m: &[u8], at: usize, top: u64) -> Exact
 }
 
 // The accumulator after the 16 bytes at `at`, with `top` above them.
+// kept: (d) h and r apart: a pair of them would be made anew for each block, since h alone changes.
 fn step(h: Reduced, r: Reduced, m: &[u8], at: usize, top: u64) -> Reduced
     requires at_in_bounds { at + 16 ≤ length m.now }
     requires top_bound { top ≤ 2 ^ 24 }
@@ -84,6 +85,8 @@ pub fn absorb_padded(h: Reduced, r: Reduced, m: &[u8]) -> Reduced
     absorb_blocks(a, r, &b, BIT)
 }
 
+// kept: (d) `absorb` and `absorb_padded` apart: they share `absorb_blocks` and `rest`, and one of both would branch
+// on a flag for the rest of their lines.
 // The accumulator after m. A last piece of n < 16 bytes has its bit at byte n, and none above.
 fn absorb(h: Reduced, r: Reduced, m: &[u8]) -> Reduced
     ensures { Mod prime (value result.limbs) (absorb_all (value r.limbs) (value h.limbs) (pieces m.now)) }

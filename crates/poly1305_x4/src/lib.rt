@@ -14,6 +14,8 @@ use poly1305_limbs::{BIT, Reduced};
 
 const WORD: u64 = 1 << 32;
 
+// kept: (d) lanes of their own beside chacha20_lanes': five limbs of u64 for 16 words of u32, and a remainder.
+// kept: (d) `Held` is a clause: it is a fact over one of the four rows, and over a block as well.
 // One lane's limbs. LLVM has to see that each is below 2^32 to multiply four lanes at once, and the
 // remainder, which changes nothing, says so.
 fn lane(x: &[u64; 20], l: usize) -> [u64; 5]

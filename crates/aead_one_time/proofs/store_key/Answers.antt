@@ -10,19 +10,18 @@ use Rattle.aead_one_time.proofs.store_key.Goals as goal
 
 pub loop-w-init : goal.loop-w-init
 unfolding over tab bytes_of
-loop-w-init c = (search rules, refl, refl)
+loop-w-init c = (refl, refl)
 
 pub loop-w-preserved : goal.loop-w-preserved
 loop-w-preserved c = (
-  search rules,
   over_word (λ w. get_or c.args.x.now (8 * w + c.args.l) 0) _ _ _ _ _
-      c.loop-w.invariant.1 c.store.ensures,
+      c.loop-w.invariant.0 c.store.ensures,
   search rules,
 )
 
 pub returns : goal.returns
 returns c =
     let done : c.loop-w.w ≡ 8 = omega arith in
-    rw done at c.loop-w.invariant.1
+    rw done at c.loop-w.invariant.0
     ∙ ap (λ r. over c.args.at (bytes_of r) c.args.out.now)
     (first_words 8 c.args.l c.args.x.now (search rules))
