@@ -24,14 +24,14 @@ fn lend<'a, T>(buffer: &'a mut [T], line: Line<'_>, place: usize) -> Option<&'a 
 }
 
 // Why not, and the buffer after the call.
-fn put_bytes(out: &mut Output, why: u32, lent: &[u8]) {
+fn answer_bytes(out: &mut Output, why: u32, lent: &[u8]) {
     out.put_number(u64::from(why));
     out.put_byte(b' ');
     out.put_hex(lent);
 }
 
 // The words as digits, - if there are none.
-fn put_digits(out: &mut Output, lent: &[u32]) {
+fn answer_digits(out: &mut Output, lent: &[u32]) {
     if lent.is_empty() {
         out.put_byte(b'-');
     }
@@ -52,7 +52,7 @@ fn rearrange<F: Fn(&[u8], &mut [u8]) -> u32>(to: F, line: Line<'_>, out: &mut Ou
     let mut buffer = bytes_before();
     let lent = lend(&mut buffer, line, 2)?;
     let why = to(line.bytes(1, &mut code)?, lent);
-    put_bytes(out, why, lent);
+    answer_bytes(out, why, lent);
     Some(())
 }
 
@@ -64,22 +64,22 @@ fn unpack(line: Line<'_>, out: &mut Output) -> Option<()> {
     let why = measure_iris::unpack(line.bytes(1, &mut code)?, lent);
     out.put_number(u64::from(why));
     out.put_byte(b' ');
-    put_digits(out, lent);
+    answer_digits(out, lent);
     Some(())
 }
 
-fn put_packed(vector: &[u32], line: Line<'_>, out: &mut Output) -> Option<()> {
+fn answer_packed(vector: &[u32], line: Line<'_>, out: &mut Output) -> Option<()> {
     let mut buffer = bytes_before();
     let lent = lend(&mut buffer, line, 2)?;
     let why = measure_iris::pack(vector, lent);
-    put_bytes(out, why, lent);
+    answer_bytes(out, why, lent);
     Some(())
 }
 
 // pack VECTOR ROOM
 fn pack(line: Line<'_>, out: &mut Output) -> Option<()> {
     let mut words: [u32; WORDS] = test_script::zeros();
-    put_packed(line.vector(1, &mut words)?, line, out)
+    answer_packed(line.vector(1, &mut words)?, line, out)
 }
 
 // pack VECTOR ROOM PLACE WORD
@@ -87,7 +87,7 @@ fn pack_with(line: Line<'_>, out: &mut Output) -> Option<()> {
     let mut words: [u32; WORDS] = test_script::zeros();
     let vector = line.vector(1, &mut words)?;
     *vector.get_mut(line.word(3)? as usize)? = line.word(4)?;
-    put_packed(vector, line, out)
+    answer_packed(vector, line, out)
 }
 
 // hamming CODE CODE

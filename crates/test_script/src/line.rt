@@ -7,6 +7,7 @@ use crate::parse::{
 };
 
 // The lines that are left of a text. The last may have no line feed, and there is none after it.
+// kept: (a) over next_line, which promises NextPart; no clause of split_inclusive says where a part lies.
 #[derive(Clone, Copy)]
 pub struct Lines<'a> {
     text: &'a [u8],

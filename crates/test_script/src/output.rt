@@ -1,5 +1,7 @@
 // Standard output by way of a buffer, which is written out when it is full. A write that fails loses
 // its bytes: whoever compares the output sees that.
+// kept: (d) std::io's writer and write! ask for the runtime, an allocator, a type with Display for hex and
+// for words, and a Result at every put: here none can fail.
 ghost use Rattle.std.specs.Prelude.{◌≤◌, length};
 
 const OUTPUT: usize = 4096;
