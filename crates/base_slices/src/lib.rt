@@ -1,5 +1,7 @@
 // Words in byte slices, little-endian (01, "Measures"): loads and stores, and copies and compares of
 // bytes. [SPEC 2.5]
+// kept: load, store, copy, least, bytes_32: the library's methods, with contracts that the crates above cite.
+// kept: equal: `==` need not look at every byte, and how long it takes would tell where two differ.
 #![tactic(auto)]
 
 ghost use Rattle.std.specs.Prelude.{◌≡◌, ◌+◌, ◌*◌, ◌<◌, ◌≤◌, min, length};

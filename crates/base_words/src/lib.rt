@@ -1,4 +1,5 @@
 // A word is a u32; sums, differences and products are taken modulo 2^32 (01, "Measures"). [SPEC 2.1, 2.2]
+// kept: add, sub, mul, rotate_left: u32's methods, with contracts over the definitions that the claims are over.
 #![tactic(auto)]
 
 ghost use Rattle.std.specs.Prelude.{◌≡◌, ◌<◌};

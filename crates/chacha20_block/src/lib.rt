@@ -1,5 +1,6 @@
 // The ChaCha20 block function of RFC 8439, 2.3, on words. Keys and nonces are words already:
 // key_words and nonce_words read them from bytes.
+// kept: key, counter and nonce are the RFC's three inputs, and the definitions `start` and `block` take them so.
 #![tactic(auto)]
 
 ghost use Rattle.std.specs.Prelude.{◌≡◌, ◌*◌, ◌≤◌, length};

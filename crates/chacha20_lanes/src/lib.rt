@@ -51,6 +51,7 @@ pub fn lane<const W: usize>(x: &[u32; W], l: usize) -> State
     }
 }
 
+// kept: four words and no Four: the definition `put_four` takes them so.
 fn set_four<const W: usize>(x: &mut [u32; W], at: usize, a: u32, b: u32, c: u32, d: u32)
     requires { 3 * (W / 16) + at < W }
     ensures { x.new ≡ put_four (W / 16) at a b c d x.old }

@@ -13,6 +13,7 @@ pub struct Four {
     pub d: u32,
 }
 
+// kept: sixteen names, no array: the definition `words` is over them, and so are all claims on rounds and blocks.
 #[derive(Clone, Copy)]
 pub struct State {
     pub x0: u32,

@@ -9,8 +9,7 @@ ghost use Rattle.base_words.specs.Bytes.{bytes_of};
 ghost use Rattle.chacha20_lanes.specs.Lanes.{rows, in_order};
 ghost use Rattle.chacha20_stream.specs.Keystream.{key_word, starts, blocks_from, stream as stream_of, xored};
 
-// kept: key, counter and nonce stay three parameters: `stream` and `xor` take them so, and a struct of them would be
-// made anew each turn, since the counter goes on.
+// kept: key, counter, nonce: `stream` and `xor` take them so, and a struct would be made anew as the counter goes on.
 // The starting states of blocks in a row.
 fn starts<const W: usize>(x: &mut [u32; W], key: [u32; 8], counter: u32, nonce: [u32; 3])
     ensures { rows (W / 16) x.new ≡ starts (W / 16) key counter nonce }
@@ -29,6 +28,7 @@ fn next_blocks<const W: usize>(x: &mut [u32; W], key: [u32; 8], counter: u32, no
     chacha20_wide::blocks(x);
 }
 
+// kept: `put_lane` beside `store_lane`: one over both would take a closure that writes a word, to share three lines.
 fn put_lane(out: &mut [u32], at: usize, x: &[u32; 128], l: usize)
     requires { (at + 16 ≤ length out.old) × (l < 8) }
     ensures { out.new ≡ over at (get_or (rows 8 x.now) l []) out.old }

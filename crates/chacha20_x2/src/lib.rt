@@ -131,6 +131,7 @@ fn columns(z: &mut [u32; 128])
 }
 
 // A row's words, turned to the left by one, two or three places.
+// kept: `by` is a number of places, as the definition `left_by` counts them, and no choice of a step.
 fn turned(q: Four, by: usize) -> Four
     requires { (0 < by) × (by < 4) }
     ensures { result ≡ left_by by q }
@@ -142,6 +143,7 @@ fn turned(q: Four, by: usize) -> Four
     }
 }
 
+// kept: `by`, as in `turned`.
 fn turn(z: &mut [u32; 128], at: usize, by: usize)
     requires { (at + 4 ≤ 64) × (0 < by) × (by < 4) }
     ensures { take 64 z.new ≡ turned_at at by (take 64 z.old) }

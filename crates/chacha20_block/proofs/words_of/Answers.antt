@@ -1,5 +1,5 @@
-use Rattle.std.proofs.Common.{◌≡◌, ℕ, List, length, drop, ◌*◌, ◌∙◌, [], refl, ap, set, length-set, replicate, append-nil, arith}
-use Rattle.std.proofs.Common.{drop_of_length-le}
+use Rattle.std.proofs.Common.{◌≡◌, ℕ, List, length, drop, ◌*◌, ◌∙◌, [], refl, ap, set, replicate, arith}
+use Rattle.std.proofs.Common.{length-set, append-nil, drop_of_length-le}
 use Rattle.std.proofs.lemmas.List.{length-replicate}
 use Rattle.base_words.specs.List.{tab, tab_more}
 use Rattle.base_words.specs.Bytes.{word_at, words_at}
