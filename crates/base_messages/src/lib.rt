@@ -45,41 +45,8 @@ pub fn why(answer: Result<(), Refusal>) -> u32
     }
 }
 
-// Why a call is turned down (01, "When a call is turned down"): c/door.h says each in words. 0 where
-// nothing refuses.
-pub const BAD_NAME: u32 = 1;
-
-pub const BAD_PARTY_OR_CODE: u32 = 2;
-
-pub const OUT_OF_TURN: u32 = 3;
-
-pub const WRONG_LENGTH: u32 = 4;
-
-pub const SHORT_BUFFER: u32 = 5;
-
-pub const WRONG_MESSAGE: u32 = 6;
-
-pub const WRONG_NUMBER: u32 = 7;
-
-pub const OUT_OF_RANGE: u32 = 8;
-
-pub const EQUAL_KEYS: u32 = 9;
-
-pub const BAD_BLOCK: u32 = 10;
-
-pub const BAD_CONTENT: u32 = 11;
-
-pub const BAD_SUM: u32 = 12;
-
-pub const BAD_MARKS: u32 = 13;
-
-pub const BAD_ROWS: u32 = 14;
-
-pub const NO_ROW: u32 = 15;
-
-pub const MORE_ROWS: u32 = 16;
-
 // A message's kind.
+// kept: the C interface hands kind and sender in as numbers, and a host may send any (`Label` is repr(C)).
 pub const VECTOR: u32 = 0;
 
 pub const WORD: u32 = 1;
@@ -87,6 +54,7 @@ pub const WORD: u32 = 1;
 pub const ANSWER: u32 = 2;
 
 // The parties: party 0 is the camera box, party 1 the office box.
+// kept: the C interface has them as numbers, of which a host may hand in any (`Identity` is repr(C)).
 pub const CAMERA: u32 = 0;
 
 pub const OFFICE: u32 = 1;
@@ -170,6 +138,7 @@ pub fn padded(name: &[u8]) -> [u8; NAME]
 
 // Whether a message is of the kind that a call takes, under the door's padded name, and from the
 // expected party.
+// kept: label and name stay two, since a struct of both would be taken apart in the one line that reads it.
 pub fn expected(kind: u32, door: [u8; NAME], sender: u32, label: Label, name: &[u8]) -> bool
     ensures { result ≡ expected_of kind door sender label name.now }
 {
