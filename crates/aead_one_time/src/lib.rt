@@ -69,6 +69,7 @@ pub fn keys_to(key: &[u8; 32], a: u32, b: u32, count: usize) -> [u8; 512]
 }
 
 // Key i of such keys.
+// kept: (a) bytes, not an array of keys: `KeysTo` is over bytes, and so is half_seal's `KeysFor`.
 pub fn key_at(keys: &[u8; 512], i: usize) -> [u8; 32]
     requires { i < 16 }
     ensures { result ≡ take 32 (drop (32 * i) keys.now) }

@@ -1,5 +1,6 @@
 -- The AEAD of RFC 8439, 2.6 and 2.8, on lists of bytes. Assumes nothing.
-use Rattle.std.specs.Prelude.{Bool, Option, Some, None, ◌&&◌, cond, List, ◌++◌, ℕ, ◌-◌, ◌*◌, ◌^◌, leb, length, take, replicate}
+use Rattle.std.specs.Prelude.{Bool, Option, Some, None}
+use Rattle.std.specs.Prelude.{◌&&◌, cond, List, ◌++◌, ℕ, ◌-◌, ◌*◌, ◌^◌, leb, length, take, replicate}
 use Rattle.base_words.specs.Numbers.{bytes}
 use Rattle.base_words.specs.List.{same}
 use Rattle.base_words.specs.Bytes.{words_at}

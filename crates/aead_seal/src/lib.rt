@@ -108,6 +108,7 @@ pub fn seal_by(
 }
 
 // `open` where the one-time key is at hand.
+// kept: (a) the call of xor stands here and in `seal_by`: the wrong program from_block_0 is one of `seal_by`.
 pub fn open_by(
     key: &[u8; 32],
     once: &[u8; 32],

@@ -63,7 +63,8 @@ module _ (key h text out0 : List ℕ) (lh : length h ≡ 12) (lt : length text �
     unfolding sealed_text within
     sealed_is e = e ∙ ap (sealed_text key h) middle ∙ rw (le-leb (length text) ((2 ^ 32 - 1) * 64) (omega arith)) refl
 
-    is_sealed : o ≡ handed (sealed key h h (take text_bytes (drop 12 out2))) → o ≡ Some (tag_for key h h (cipher key h text))
+    is_sealed : o ≡ handed (sealed key h h (take text_bytes (drop 12 out2)))
+        → o ≡ Some (tag_for key h h (cipher key h text))
     unfolding sealed within
     is_sealed e =
         e ∙ ap (λ (l : List ℕ). handed (sealed key h h l)) middle
@@ -72,7 +73,8 @@ module _ (key h text out0 : List ℕ) (lh : length h ≡ 12) (lt : length text �
     pub has_tag : o ≡ handed (sealed key h h (take text_bytes (drop 12 out2))) → IsSome o
     has_tag e = rw (is_sealed e) refl
 
-    tag_is : o ≡ handed (sealed key h h (take text_bytes (drop 12 out2))) → o ≡ Some tag → tag ≡ tag_for key h h (cipher key h text)
+    tag_is : o ≡ handed (sealed key h h (take text_bytes (drop 12 out2)))
+        → o ≡ Some tag → tag ≡ tag_for key h h (cipher key h text)
     tag_is e t = ap (λ (x : Option (List ℕ)). unwrap_or x []) (sym t ∙ is_sealed e)
 
     pub length_put : y ≡ sealed_text key h (take text_bytes (drop 12 out2))

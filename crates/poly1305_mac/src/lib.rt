@@ -20,6 +20,7 @@ pub struct OneTimeKey {
 }
 
 // The 16 bytes at `at`, and `top` above them.
+// kept: (d) `top` is a number with a bound, `BIT` or 0: a type for it would be one more name for a number.
 pub fn block(m: &[u8], at: usize, top: u64) -> Exact
     requires at_in_bounds { at + 16 ≤ length m.now }
     requires top_bound { top ≤ 2 ^ 24 }
@@ -48,6 +49,7 @@ fn step(h: Reduced, r: Reduced, m: &[u8], at: usize, top: u64) -> Reduced
 
 // The accumulator after the whole blocks of m, with `top` above each. This loop alone calls `step`,
 // so that the compiler puts it inside and keeps the limbs in registers.
+// kept: (d) an index, not chunks_exact: `block` reads at a place, as poly1305_x4 needs, and `unreduced` counts pieces.
 fn absorb_blocks(h: Reduced, r: Reduced, m: &[u8], top: u64) -> Reduced
     requires { top ≤ 2 ^ 24 }
     ensures { Mod prime (value result.limbs)
