@@ -1,26 +1,17 @@
 use Rattle.dcf_node.proofs.Laws.{seed_corrected}
-use mathlib.Core.Path.{◌≡◌, ◌∙◌, refl, ap}
-use native.Mathlib.Omega.{arith}
+use mathlib.Core.Path.{◌∙◌}
+use mathlib.Core.List.{[], ◌∷◌}
 use lib.Bits.{bit_xor}
-use lib.ListN.{get_or, set}
-use Rattle.base_algebra.specs.Bit.{only, odd}
-use Rattle.base_words.specs.List.{over, tab, over_tab}
-use Rattle.std.proofs.Common.{rules, zero-add}
+use lib.ListN.{get_or}
+use Rattle.base_algebra.specs.Bit.{odd}
+use Rattle.std.proofs.Common.{rules}
 use Rattle.dcf_node.proofs.corrected.Goals as goal
 
-pub loop-i-init : goal.loop-i-init
-unfolding over tab
-loop-i-init c = refl
-
-pub loop-i-preserved : goal.loop-i-preserved
-loop-i-preserved c =
-    let a = c.args in
-    ap (λ x. set c.loop-i.out c.loop-i.i (bit_xor (get_or a.s c.loop-i.i 0) x)) c.only.ensures
-    ∙ (simp zero-add at (over_tab (λ j. bit_xor (get_or a.s j 0) (only (odd a.flag) (get_or a.c j 0))) _ c.loop-i.out 0
-    c.loop-i.i c.loop-i.invariant))
-
 pub returns : goal.returns
-unfolding over tab
-returns c =
-    let done : c.loop-i.i ≡ 8 = omega arith in
-    (rw done at c.loop-i.invariant) ∙ seed_corrected c.args.s c.args.c (search rules) (search rules) (odd c.args.flag)
+returns c = (let s = c.args.s in
+    λ i.
+    bit_xor (get_or s 0 0) (c.only.ensures i) ∷ bit_xor (get_or s 1 0) (c.only-2.ensures i)
+    ∷ bit_xor (get_or s 2 0) (c.only-3.ensures i) ∷ bit_xor (get_or s 3 0) (c.only-4.ensures i)
+    ∷ bit_xor (get_or s 4 0) (c.only-5.ensures i) ∷ bit_xor (get_or s 5 0) (c.only-6.ensures i)
+    ∷ bit_xor (get_or s 6 0) (c.only-7.ensures i) ∷ bit_xor (get_or s 7 0) (c.only-8.ensures i) ∷ [])
+    ∙ seed_corrected c.args.s c.args.c (search rules) (search rules) (odd c.args.flag)
