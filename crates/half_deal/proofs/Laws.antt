@@ -3,10 +3,9 @@ use mathlib.Core.Path.{◌≡◌, sym, ap, ap₂, ◌∙◌}
 use mathlib.Core.List.{List, [], ◌∷◌, ◌++◌}
 use Prim.Native.Nat.{ℕ, ◌+◌, ◌-◌, ◌*◌, ◌<◌, ◌≤◌}
 use native.Mathlib.Nat.{mul-le-mul_right}
-use native.Mathlib.Numerals.{add-one}
 use native.Mathlib.Omega.{arith}
-use lib.ListN.{length, get_or, take, drop, set, replicate, length-drop}
-use lib.Seq.{length-take-le, take-suc, take-suc-set, take_all, take_at, get_or-drop, get_or-take}
+use lib.ListN.{length, get_or, take, drop, replicate}
+use lib.Seq.{length-take-le, take_at, get_or-take}
 use Rattle.base_algebra.specs.Word.{add}
 use Rattle.base_words.specs.List.{over, length_tab, tab_ext}
 use Rattle.base_words.specs.Bytes.{words_at}
@@ -25,39 +24,23 @@ use Rattle.half_deal.specs.Dealing.{set_words, x, y, c0, r, r0, key_seed, mask_x
 use Rattle.half_deal.specs.Dealing.{deal_from, set_from}
 use Rattle.half_deal.specs.Laws.{other_c_fill}
 
--- ---- copies
-
-pub copy_more : (w out : List ℕ) (at i : ℕ) → i < length out → at + i < length w → take i out ≡ part at i w
-    → take (i + 1) (set out i (get_or w (at + i) 0)) ≡ part at (i + 1) w
-unfolding part
-copy_more w out at i hi hw e =
-    let inside : i < length (drop at w) = omega (arith, length-drop at w) in
-    rw (add-one i)
-    (take-suc-set out i (get_or w (at + i) 0) hi
-    ∙ ap₂ (λ (l : List ℕ) (a : ℕ). l ++ (a ∷ [])) e (sym (get_or-drop at w i 0))
-    ∙ sym (take-suc (drop at w) i 0 inside))
-
-pub copy_done : (w out before : List ℕ) (at i : ℕ)
-    → length out ≡ length before → i ≡ length out → take i out ≡ part at i w
-    → out ≡ part at (length before) w
-copy_done w out before at i size done e =
-    sym (take_all i out (omega arith)) ∙ e ∙ ap (λ (k : ℕ). part at k w) (done ∙ size)
-
 -- ---- the start of an array of zeros is written
 
 abbrev pub zeros : ℕ → List ℕ
 zeros k = replicate k 0
 
-pub room : (w : List ℕ) (at n : ℕ) → n ≤ most_elements → at + n ≤ length w
-    → at + length (take n (zeros most_elements)) ≤ length w
-room w at n most fits = omega (arith, length-take-le n (zeros most_elements) most)
+-- a range from `at` on
+pub part_as_range : (w : List ℕ) (at n : ℕ) → take (at + n - at) (drop at w) ≡ part at n w
+unfolding part
+part_as_range w at n =
+    let wide : at + n - at ≡ n = omega arith in
+    ap (λ (k : ℕ). take k (drop at w)) wide
 
 pub words_law : (w a out : List ℕ) (at n : ℕ) → a ≡ zeros most_elements → n ≤ most_elements → at + n ≤ length w
-    → out ≡ part at (length (take n a)) w
+    → out ≡ take (at + n - at) (drop at w)
     → out ++ drop n a ≡ fill (part at n w)
 words_law w a out at n ea most fits e =
-    let size : length (take n a) ≡ n = length-take-le n a (omega (arith, ap length ea)) in
-    let is : out ≡ part at n w = e ∙ ap (λ (k : ℕ). part at k w) size in
+    let is : out ≡ part at n w = e ∙ part_as_range w at n in
     ap (λ (l : List ℕ). l ++ drop n a) is ∙ fill_rest (part at n w) a n (length_part w at n fits) most ea
 
 -- a sum of vectors asks for its own places only, however far the slices reach

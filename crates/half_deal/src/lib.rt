@@ -35,25 +35,13 @@ fn draw(seed: &[u8; 32], n: usize) -> [u32; MOST_WORDS]
     w
 }
 
-// The words from `at` on, as many as there is room for.
-fn copy(w: &[u32], at: usize, out: &mut [u32])
-    requires { at + length out.old ≤ length w.now }
-    ensures { out.new ≡ part at (length out.old) w.now }
-{
-    let mut i: usize = 0;
-    while i < out.len() {
-        out[i] = w[at + i];
-        i += 1;
-    }
-}
-
 // n words from `at` on, in an array.
 fn words_from(w: &[u32], at: usize, n: usize) -> [u32; MOST_ELEMENTS]
     requires { (n ≤ most_elements) × (at + n ≤ length w.now) }
     ensures { result ≡ fill (part at n w.now) }
 {
     let mut a = [0u32; MOST_ELEMENTS];
-    copy(w, at, &mut a[..n]);
+    a[..n].copy_from_slice(&w[at..at + n]);
     a
 }
 
@@ -63,7 +51,8 @@ fn key_seed(w: &[u32], n: usize, party: usize) -> [u32; 8]
     ensures { result ≡ key_seed n w.now party }
 {
     let mut seed = [0u32; 8];
-    copy(w, 4 * n + 3 + 8 * party, &mut seed);
+    let at = 4 * n + 3 + 8 * party;
+    seed.copy_from_slice(&w[at..at + 8]);
     seed
 }
 
@@ -78,49 +67,53 @@ fn mask(w: &[u32], at: usize, n: usize) -> [u32; MOST_ELEMENTS]
     m
 }
 
+// What both sets of a deal have.
+#[derive(Clone, Copy)]
+struct Shared {
+    number: u64,
+    terms: Terms,
+    rule: Rule,
+    key: Key,
+}
+
 // A party's set, from what is made for it and its own words among those that were drawn.
 fn set_for(
     w: &[u32],
     party: usize,
-    number: u64,
-    terms: Terms,
-    rule: Rule,
+    shared: &Shared,
     mask: [u32; MOST_ELEMENTS],
     c: u32,
     r: u32,
-    key: Key,
 ) -> Set
-    requires { (party ≤ 1) × (terms.n ≤ most_elements) × (4 * terms.n + 19 ≤ length w.now) }
+    requires { (party ≤ 1) × (shared.now.terms.n ≤ most_elements)
+        × (4 * shared.now.terms.n + 19 ≤ length w.now) }
     ensures { result ≡ record {
-      number = number;
-      terms = terms;
+      number = shared.now.number;
+      terms = shared.now.terms;
       mask = mask;
-      x = fill (share_x terms.n w.now party);
-      y = fill (share_y terms.n w.now party);
+      x = fill (share_x shared.now.terms.n w.now party);
+      y = fill (share_y shared.now.terms.n w.now party);
       c = c;
       r = r;
-      seed = key_seed terms.n w.now party;
-      key = key;
-      width = width_of rule;
-      mark = mark_of rule;
+      seed = key_seed shared.now.terms.n w.now party;
+      key = shared.now.key;
+      width = width_of shared.now.rule;
+      mark = mark_of shared.now.rule;
     } }
 {
-    let n = terms.n;
-    let x = words_from(w, party * n, n);
-    let y = words_from(w, (2 + party) * n, n);
-    let seed = key_seed(w, n, party);
+    let n = shared.terms.n;
     Set {
-        number,
-        terms,
+        number: shared.number,
+        terms: shared.terms,
         mask,
-        x,
-        y,
+        x: words_from(w, party * n, n),
+        y: words_from(w, (2 + party) * n, n),
         c,
         r,
-        seed,
-        key,
-        width: measure_table::width_of(rule),
-        mark: measure_table::mark_of(rule),
+        seed: key_seed(w, n, party),
+        key: shared.key,
+        width: measure_table::width_of(shared.rule),
+        mark: measure_table::mark_of(shared.rule),
     }
 }
 
@@ -142,9 +135,16 @@ fn sets_from(w: &[u32], number: u64, terms: Terms, rule: Rule) -> Dealt
     let c1 = share_vectors::other_c(n, &mask_x, &mask_y, c0);
     let mark = measure_table::mark_of(rule);
     let r1 = share_vectors::other_r(terms, mark, r, measure_table::offset_of(rule), r0);
-    let camera = set_for(w, 0, number, terms, rule, mask_x, c0, r0, key);
-    let office = set_for(w, 1, number, terms, rule, mask_y, c1, r1, key);
-    Dealt { camera, office }
+    let shared = Shared {
+        number,
+        terms,
+        rule,
+        key,
+    };
+    Dealt {
+        camera: set_for(w, 0, &shared, mask_x, c0, r0),
+        office: set_for(w, 1, &shared, mask_y, c1, r1),
+    }
 }
 
 // Both parties' sets of a deal.
