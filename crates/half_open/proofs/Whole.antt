@@ -19,11 +19,15 @@ use Rattle.half_content.specs.Content.{block_bytes, text_bytes, most_blocks, siz
 use Rattle.half_content.specs.Content.{content_fits}
 use Rattle.half_content.specs.Content.{no_set, no_terms, mask_field, widths, sum_first, offset}
 use Rattle.half_content.proofs.Laws.{fits_reads}
-use Rattle.half_open.specs.declared.Examined.{Examined}
-use Rattle.half_open.specs.declared.Told.{Told}
+use Rattle.base_messages.specs.declared.Refusal.{Refusal}
+use Rattle.base_messages.specs.declared.Refusal.TheVariants.{BadName, BadPartyOrCode, OutOfTurn, WrongLength}
+use Rattle.base_messages.specs.declared.Refusal.TheVariants.{ShortBuffer, WrongMessage, WrongNumber, OutOfRange}
+use Rattle.base_messages.specs.declared.Refusal.TheVariants.{EqualKeys, BadBlock, BadContent, BadSum, BadMarks}
+use Rattle.base_messages.specs.declared.Refusal.TheVariants.{BadRows, NoRow, MoreRows}
+use Rattle.base_messages.specs.Refusals.{number_of}
 use Rattle.half_seal.specs.Half.{set_number, first_fit, opened_content, whole_blocks, why_not_opened, why_not}
 use Rattle.half_seal.specs.Half.{opened_set}
-use Rattle.half_open.specs.Examined.{refused, examined, told}
+use Rattle.half_open.specs.Examined.{examined, told}
 use Rattle.half_open.proofs.Laws.{length_opened}
 
 -- ---- whole blocks: 10 and 11
@@ -130,17 +134,34 @@ reads key name h party why e none t et l =
 
 -- ---- the answers
 
-module _ (key name h : List ℕ) (party last why : ℕ) (ey : why ≡ why_not key name party last h) where
-  pub examined_refused : (r : Examined) → (why ≡ 0 → ⊥) → r ≡ refused why → r ≡ examined key name party last h
-  unfolding refused examined
-  examined_refused r some e =
-      e ∙ (λ i. record { why = ey i; set = Refusals.refused (opened_set key h) no_set ey some i })
+-- no refusal has the number of none
+pub refuses : (e : Refusal) → number_of e ≡ 0 → ⊥
+refuses BadName h = omega arith
+refuses BadPartyOrCode h = omega arith
+refuses OutOfTurn h = omega arith
+refuses WrongLength h = omega arith
+refuses ShortBuffer h = omega arith
+refuses WrongMessage h = omega arith
+refuses WrongNumber h = omega arith
+refuses OutOfRange h = omega arith
+refuses EqualKeys h = omega arith
+refuses BadBlock h = omega arith
+refuses BadContent h = omega arith
+refuses BadSum h = omega arith
+refuses BadMarks h = omega arith
+refuses BadRows h = omega arith
+refuses NoRow h = omega arith
+refuses MoreRows h = omega arith
 
-  pub told_refused : (r : Told) → (why ≡ 0 → ⊥) → r ≡ record { why = why; terms = no_terms }
-      → r ≡ told key name party last h
+module _ (key name h : List ℕ) (party last why : ℕ) (ey : why ≡ why_not key name party last h) where
+  pub examined_refused : (why ≡ 0 → ⊥) → record { why = why; set = no_set } ≡ examined key name party last h
+  unfolding examined
+  examined_refused some = λ i. record { why = ey i; set = Refusals.refused (opened_set key h) no_set ey some i }
+
+  pub told_refused : (why ≡ 0 → ⊥) → record { why = why; terms = no_terms } ≡ told key name party last h
   unfolding told
-  told_refused r some e =
-      e ∙ (λ i. record { why = ey i; terms = Refusals.refused (opened_set key h).terms no_terms ey some i })
+  told_refused some =
+      λ i. record { why = ey i; terms = Refusals.refused (opened_set key h).terms no_terms ey some i }
 
   module _ (none : why ≡ 0) (t : List ℕ) (et : t ≡ opened_content key h) where
     pub examined_taken : (number : ℕ) (s : Set) → number ≡ set_number h → s ≡ set_in number t

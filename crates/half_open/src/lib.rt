@@ -3,19 +3,22 @@
 #![tactic(auto)]
 
 ghost use Rattle.std.specs.Prelude.{◌≡◌, true, ◌&&◌, ◌+◌, ◌*◌, ◌/◌, ◌%◌, ◌^◌, ◌≤◌, eqb, leb, ltb, length, take};
+ghost use Rattle.std.specs.Prelude.{OnOk, IfOk};
 ghost use Rattle.base_words.specs.Bytes.{word_at, words_at};
 ghost use Rattle.aead_seal.specs.Aead.{poly_key, opens};
 ghost use Rattle.base_messages.specs.Messages.{wrong_length, wrong_number, unless};
-ghost use Rattle.half_content.specs.Content.{block_bytes, text_bytes, most_blocks, room_bytes, part, no_terms};
+ghost use Rattle.base_messages.specs.Refusals.{why_of};
+ghost use Rattle.half_content.specs.Content.{block_bytes, text_bytes, most_blocks, part};
 ghost use Rattle.half_seal.specs.Half.{header, text_in, block_fits, first_fit, opened_blocks, opened_content};
 ghost use Rattle.half_seal.specs.Half.{set_number};
 ghost use Rattle.half_seal.specs.Half.{whole_blocks, why_not_opened};
-ghost use Rattle.half_open.specs.Examined.{refused as refused_for, examined, told};
+ghost use Rattle.half_open.specs.Examined.{examined, told, as_examined, as_told};
 
-use base_messages::NAME;
+use base_messages::{NAME, Refusal};
 use half_content::{BLOCK, MOST_BLOCKS, ROOM, Set, TAG_AT, TEXT};
 use measure_table::Terms;
 
+// kept: a sum of the two words that are loaded, which is plainer than eight bytes in a row.
 fn joined(low: u32, high: u32) -> u64
     ensures { result ≡ low + high * 2 ^ 32 }
 {
@@ -92,8 +95,7 @@ fn open_blocks(key: &[u8; 32], number: u64, count: usize, h: &[u8], out: &mut [u
 {
     let keys = half_seal::one_time_keys(key, number, count);
     let mut fit = true;
-    let mut i: usize = 0;
-    while i < count {
+    for i in 0..count {
         let once = aead_one_time::key_at(&keys, i);
         let this = open_block(
             key,
@@ -104,7 +106,6 @@ fn open_blocks(key: &[u8; 32], number: u64, count: usize, h: &[u8], out: &mut [u
             &mut out[TEXT * i..TEXT * i + TEXT],
         );
         fit = fit & this;
-        i += 1;
     }
     fit
 }
@@ -116,39 +117,7 @@ fn is_whole(bytes: usize) -> bool
     (bytes % BLOCK == 0) & ((3 <= bytes / BLOCK) & (bytes / BLOCK <= MOST_BLOCKS))
 }
 
-// What examining a half finds: why it is turned down (0 if it is not), and the set, or no set.
-#[derive(Clone, Copy)]
-pub struct Examined {
-    pub why: u32,
-    pub set: Set,
-}
-
-// What a trial is told of it: why, and measure code and L, or zeros.
-#[derive(Clone, Copy)]
-pub struct Told {
-    pub why: u32,
-    pub terms: Terms,
-}
-
-fn refused(why: u32) -> Examined
-    ensures { result ≡ refused_for why }
-{
-    Examined {
-        why,
-        set: half_content::no_set(),
-    }
-}
-
-fn nothing_told(why: u32) -> Told
-    ensures { result ≡ record { why = why; terms = no_terms } }
-{
-    Told {
-        why,
-        terms: Terms { code: 0, n: 0 },
-    }
-}
-
-// Why whole blocks are turned down: 0 if they are not, and `text` then has what they open to.
+// Why whole blocks are turned down; where they are not, `text` then has what they open to.
 fn why_not_opened(
     key: &[u8; 32],
     name: [u8; NAME],
@@ -156,88 +125,89 @@ fn why_not_opened(
     number: u64,
     h: &[u8],
     text: &mut [u8],
-) -> u32
+) -> Result<(), Refusal>
     requires { (3 ≤ length h.now / block_bytes) × (length h.now / block_bytes ≤ most_blocks)
         × (number ≡ set_number h.now) × (length text.old ≡ text_bytes * (length h.now / block_bytes)) }
-    ensures value { result ≡ why_not_opened key.now name party h.now }
-    ensures text_after { result ≡ 0 → text.new ≡ opened_content key.now h.now }
+    ensures value { why_of result ≡ why_not_opened key.now name party h.now }
+    ensures text_after { OnOk result (text.new ≡ opened_content key.now h.now) }
 {
     let count = h.len() / BLOCK;
     if !open_blocks(key, number, count, h, text) {
-        return base_messages::BAD_BLOCK;
+        return Err(Refusal::BadBlock);
     }
     if !half_reading::content_fits(name, party, count, text) {
-        return base_messages::BAD_CONTENT;
+        return Err(Refusal::BadContent);
     }
-    0
+    Ok(())
 }
 
-// Why any bytes are turned down before a block is opened, 0 if they are not.
-fn why_not_numbered(last: u64, h: &[u8]) -> u32
-    ensures { result ≡ unless (whole_blocks h.now) wrong_length
+// Why any bytes are turned down before a block is opened, or the set's number.
+fn why_not_numbered(last: u64, h: &[u8]) -> Result<u64, Refusal>
+    ensures value { why_of result ≡ unless (whole_blocks h.now) wrong_length
         (unless (ltb last (set_number h.now)) wrong_number 0) }
+    ensures its_number { IfOk result (λ number. number ≡ set_number h.now) }
 {
     if !is_whole(h.len()) {
-        return base_messages::WRONG_LENGTH;
+        return Err(Refusal::WrongLength);
     }
     let number = load_number(h);
     if !(last < number) {
-        return base_messages::WRONG_NUMBER;
+        return Err(Refusal::WrongNumber);
     }
-    0
+    Ok(number)
 }
 
-// The same, with room for any half: what they open to then stands at its start.
-fn why_not_within(key: &[u8; 32], name: [u8; NAME], party: u32, h: &[u8], room: &mut [u8]) -> u32
+// Why whole blocks are turned down, with room for any half; where they are not, as many bytes at the start
+// of `room` are then what they open to.
+fn why_not_within(
+    key: &[u8; 32],
+    name: [u8; NAME],
+    party: u32,
+    number: u64,
+    h: &[u8],
+    room: &mut [u8; ROOM],
+) -> Result<usize, Refusal>
     requires { (3 ≤ length h.now / block_bytes) × (length h.now / block_bytes ≤ most_blocks)
-        × (length room.old ≡ room_bytes) }
-    ensures value { result ≡ why_not_opened key.now name party h.now }
-    ensures room_after { result ≡ 0 → take (text_bytes * (length h.now / block_bytes)) room.new
-        ≡ opened_content key.now h.now }
+        × (number ≡ set_number h.now) }
+    ensures value { why_of result ≡ why_not_opened key.now name party h.now }
+    ensures room_after { IfOk result (λ size. (size ≡ text_bytes * (length h.now / block_bytes))
+        × (take size room.new ≡ opened_content key.now h.now)) }
 {
-    let number = load_number(h);
     let size = TEXT * (h.len() / BLOCK);
-    why_not_opened(key, name, party, number, h, &mut room[..size])
+    why_not_opened(key, name, party, number, h, &mut room[..size])?;
+    Ok(size)
 }
 
 // Examines a half for a box of this key, padded name and party, where its number has to be above
-// `last`. Any bytes may be handed in, and nothing is committed. (Bytes that are turned down by length or
-// number need no room for their text.)
-pub fn examine(key: &[u8; 32], name: [u8; NAME], party: u32, last: u64, h: &[u8]) -> Examined
-    ensures { result ≡ examined key.now name party last h.now }
+// `last`: the set, or why it is turned down. Any bytes may be handed in, and nothing is committed. (Bytes
+// that are turned down by length or number need no room for their text.)
+pub fn examine(
+    key: &[u8; 32],
+    name: [u8; NAME],
+    party: u32,
+    last: u64,
+    h: &[u8],
+) -> Result<Set, Refusal>
+    ensures { as_examined result ≡ examined key.now name party last h.now }
 {
-    let early = why_not_numbered(last, h);
-    if early != 0 {
-        return refused(early);
-    }
+    let number = why_not_numbered(last, h)?;
     let mut room = [0u8; ROOM];
-    let why = why_not_within(key, name, party, h, &mut room);
-    if why != 0 {
-        return refused(why);
-    }
-    let size = TEXT * (h.len() / BLOCK);
-    Examined {
-        why,
-        set: half_reading::read_set(load_number(h), &room[..size]),
-    }
+    let size = why_not_within(key, name, party, number, h, &mut room)?;
+    Ok(half_reading::read_set(number, &room[..size]))
 }
 
 // The same with no set read: of a half that is taken, measure code and L alone.
-pub fn tell(key: &[u8; 32], name: [u8; NAME], party: u32, last: u64, h: &[u8]) -> Told
-    ensures { result ≡ told key.now name party last h.now }
+pub fn tell(
+    key: &[u8; 32],
+    name: [u8; NAME],
+    party: u32,
+    last: u64,
+    half: &[u8],
+) -> Result<Terms, Refusal>
+    ensures { as_told result ≡ told key.now name party last half.now }
 {
-    let early = why_not_numbered(last, h);
-    if early != 0 {
-        return nothing_told(early);
-    }
+    let number = why_not_numbered(last, half)?;
     let mut room = [0u8; ROOM];
-    let why = why_not_within(key, name, party, h, &mut room);
-    if why != 0 {
-        return nothing_told(why);
-    }
-    let size = TEXT * (h.len() / BLOCK);
-    Told {
-        why,
-        terms: half_reading::terms_in(&room[..size]),
-    }
+    let size = why_not_within(key, name, party, number, half, &mut room)?;
+    Ok(half_reading::terms_in(&room[..size]))
 }

@@ -10,7 +10,7 @@ use Rattle.half_open.proofs.open_blocks.Goals as goal
 
 pub loop-i-init : goal.loop-i-init
 unfolding over first_fit opened_blocks
-loop-i-init c = (search rules, refl, refl, λ _. refl)
+loop-i-init c = (refl, λ _. refl)
 
 pub open_block-this-requires : goal.open_block-this-requires
 open_block-this-requires c =
@@ -26,22 +26,20 @@ loop-i-preserved c =
     let i = c.loop-i.i in
     let block = c.open_block-this in
     let text = block.new.out in (
-      search rules,
-      search rules,
       fit_more key h c.args.out.now c.loop-i.out text c.args.number i
           (block_bytes * i + block_bytes - block_bytes * i) (text_bytes * i + text_bytes - text_bytes * i)
-          c.loop-i.fit block.result c.requires.3 (omega arith) c.loop-i.invariant.2
+          c.loop-i.fit block.result c.requires.3 (omega arith) c.loop-i.invariant.0
           block.ensures.value,
       opened_more key h c.args.out.now c.loop-i.out text c.args.number i
           (block_bytes * i + block_bytes - block_bytes * i) (text_bytes * i + text_bytes - text_bytes * i)
           c.loop-i.fit block.result c.requires.3 (omega arith) (omega arith) (omega arith) (omega arith)
-          (search rules) c.loop-i.invariant.3 block.ensures.out_after,
+          (search rules) c.loop-i.invariant.1 block.ensures.out_after,
     )
 
 pub returns : goal.returns
 returns c =
     let done : c.loop-i.i ≡ c.args.count = omega arith in
     record {
-      value = rw done at c.loop-i.invariant.2;
-      out_after = λ t. opened_all _ _ _ _ _ c.requires.1 c.requires.2 (rw done at (c.loop-i.invariant.3 t));
+      value = rw done at c.loop-i.invariant.0;
+      out_after = λ t. opened_all _ _ _ _ _ c.requires.1 c.requires.2 (rw done at (c.loop-i.invariant.1 t));
     }

@@ -1,14 +1,9 @@
 use Rattle.half_seal.specs.Half.{first_fit, opened_blocks}
 use Rattle.base_words.specs.List.{over}
-use lib.ListN.{length}
-use Prim.Native.Nat.{◌-◌, ◌≤◌}
 use mathlib.Core.Bool.{true}
 use mathlib.Core.Path.{◌≡◌}
 use Rattle.half_open.proofs.open_blocks.Given as goal
 
 abbrev pub invariant-loop-i : goal.invariant-loop-i
-invariant-loop-i l = (l.i ≤ l.count) × (length l.out ≡ length l.initial.out) × (l.fit ≡ first_fit l.key l.h l.i)
+invariant-loop-i l = (l.fit ≡ first_fit l.key l.h l.i)
     × (l.fit ≡ true → l.out ≡ over 0 (opened_blocks l.key l.h l.i) l.initial.out)
-
-abbrev pub decreases-loop-i : goal.decreases-loop-i
-decreases-loop-i l = l.count - l.i
