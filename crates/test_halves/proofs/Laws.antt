@@ -17,9 +17,8 @@ use Rattle.half_content.specs.Content.{no_set, flags_fit, content_fits, FlagByte
 use Rattle.half_content.specs.Laws.{fits_tells, width_tells}
 use Rattle.half_deal.specs.Dealing.{Deal, dealt_set}
 use Rattle.half_deal.proofs.DealtSet.{proper}
-use Rattle.half_open.specs.declared.Examined.{Examined}
 use Rattle.half_seal.specs.Half.{why_not, why_not_opened, opened_set}
-use Rattle.half_open.specs.Examined.{examined}
+use Rattle.half_open.specs.Examined.{Examined, examined}
 
 pub dealt_proper : (d : Deal) (party : ℕ) (s : Set) → s ≡ dealt_set d party → d.number < 2 ^ 64
     → is_code d.terms.code ≡ true → length_fits d.terms ≡ true → in_order d.rule ≡ true → party ≤ 1 → Proper s

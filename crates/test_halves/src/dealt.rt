@@ -113,8 +113,10 @@ pub fn sealed(key: [u8; 32], number: u64, blocks: usize, plain: [u8; ROOM]) -> [
 pub fn refusal(b: Holder, half: [u8; HALF], size: usize) -> u32 {
     let key = b.key;
     let name = b.name;
-    let e = half_open::examine(&key, name, b.party, b.last, test_script::first(&half, size));
-    e.why
+    match half_open::examine(&key, name, b.party, b.last, test_script::first(&half, size)) {
+        Ok(_) => 0,
+        Err(refusal) => refusal.number(),
+    }
 }
 
 // What a half is once its set is opened, laid out and sealed again, or why it is turned down.
@@ -131,20 +133,23 @@ pub fn reseal(d: Dealt) -> Resealed
     let key = b.key;
     let name = b.name;
     let half = d.half;
-    let e = half_open::examine(
+    match half_open::examine(
         &key,
         name,
         b.party,
         b.last,
         test_script::first(&half, BLOCK * d.blocks),
-    );
-    if e.why != 0 {
-        return Resealed { why: e.why, half };
-    }
-    let set = e.set;
-    let plain = half_layout::lay_out(name, b.party % 2, set);
-    Resealed {
-        why: 0,
-        half: sealed(key, set.number, d.blocks, plain),
+    ) {
+        Ok(set) => {
+            let plain = half_layout::lay_out(name, b.party % 2, set);
+            Resealed {
+                why: 0,
+                half: sealed(key, set.number, d.blocks, plain),
+            }
+        }
+        Err(refusal) => Resealed {
+            why: refusal.number(),
+            half,
+        },
     }
 }
