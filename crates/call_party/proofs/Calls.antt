@@ -24,10 +24,9 @@ use Rattle.base_messages.specs.Laws.{turned_down, goes_on, passed, fits_short}
 use Rattle.half_content.specs.declared.Set.{Set}
 use Rattle.half_content.specs.Content.{fill, no_terms, no_set}
 use Rattle.half_content.specs.Laws.{fill_over}
-use Rattle.half_open.specs.declared.Examined.{Examined}
-use Rattle.half_open.specs.declared.Told.{Told}
 use Rattle.half_seal.specs.Half.{why_not, opened_set, opened_name}
 use Rattle.half_open.specs.Examined as Half
+use Rattle.half_open.specs.Examined.{Examined, Told}
 use Rattle.call_party.specs.declared.Check.{Check}
 use Rattle.call_party.specs.declared.Party.{Party}
 use Rattle.call_party.specs.declared.PartyAnswer.{PartyAnswer}

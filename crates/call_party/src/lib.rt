@@ -368,17 +368,18 @@ impl Party {
             let who = self.who;
             let name = who.name;
             let above = high_water(phase, self.check.set.number, self.last);
-            let examined = half_open::examine(&who.key, name, who.party, above, h);
-            why = examined.why;
-            if why == 0 {
-                let set = examined.set;
-                next.last = set.number;
-                if phase == IDLE {
-                    next.check = opened(set);
-                    next.waiting = half_content::no_set();
-                } else {
-                    next.waiting = set;
+            match half_open::examine(&who.key, name, who.party, above, h) {
+                Ok(set) => {
+                    why = 0;
+                    next.last = set.number;
+                    if phase == IDLE {
+                        next.check = opened(set);
+                        next.waiting = half_content::no_set();
+                    } else {
+                        next.waiting = set;
+                    }
                 }
+                Err(refusal) => why = refusal.number(),
             }
         }
         PartyAnswer {
@@ -398,15 +399,13 @@ impl Party {
         let who = self.who;
         let name = who.name;
         let above = high_water(self.check.phase, self.check.set.number, self.last);
-        let told = half_open::tell(&who.key, name, who.party, above, h);
-        if told.why != 0 {
-            return not_taken(told.why);
-        }
-        let terms = told.terms;
-        TrialAnswer {
-            why: 0,
-            name,
-            terms,
+        match half_open::tell(&who.key, name, who.party, above, h) {
+            Ok(told) => TrialAnswer {
+                why: 0,
+                name,
+                terms: told,
+            },
+            Err(refusal) => not_taken(refusal.number()),
         }
     }
 
