@@ -1,5 +1,5 @@
 -- A refusal as code has it, and its number (Messages). Assumes nothing.
-use Rattle.std.specs.Prelude.{◌≡◌, ℕ, Bool, true, false, cond, Result, Ok, Err}
+use Rattle.std.specs.Prelude.{◌≡◌, ℕ, Bool, true, false, cond, eqb, Result, Ok, Err}
 use Rattle.std.proofs.Common.{refl}
 use Rattle.base_messages.specs.Messages.{unless, bad_name, bad_party_or_code, out_of_turn, wrong_length, short_buffer}
 use Rattle.base_messages.specs.Messages.{wrong_message, wrong_number, out_of_range, equal_keys, bad_block, bad_content}
@@ -32,6 +32,25 @@ number_of MoreRows = more_rows
 abbrev pub why_of : {A : Type 0} → Result A Refusal → ℕ
 why_of (Ok _) = 0
 why_of (Err refusal) = number_of refusal
+
+-- no refusal has the number of a call that nothing refuses
+pub numbered : (refusal : Refusal) → eqb (number_of refusal) 0 ≡ false
+numbered BadName = refl
+numbered BadPartyOrCode = refl
+numbered OutOfTurn = refl
+numbered WrongLength = refl
+numbered ShortBuffer = refl
+numbered WrongMessage = refl
+numbered WrongNumber = refl
+numbered OutOfRange = refl
+numbered EqualKeys = refl
+numbered BadBlock = refl
+numbered BadContent = refl
+numbered BadSum = refl
+numbered BadMarks = refl
+numbered BadRows = refl
+numbered NoRow = refl
+numbered MoreRows = refl
 
 -- goes on if the test holds, else e is why not: `unless`, where code has a result
 abbrev pub or_refuse : {E : Type 0} → Bool → E → Result (Unit {0}) E → Result (Unit {0}) E

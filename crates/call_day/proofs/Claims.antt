@@ -16,7 +16,7 @@ use Rattle.call_day.specs.Search.{count_two, none_count, single_count, two_count
 use Rattle.call_day.specs.Table.{Table, day, no_threshold, holds, bad_row, rows_with, bad_minute}
 use Rattle.call_day.specs.Table.{first_bad_row, first_bad_minute, row_at, shaped, fault, why_not_table, choose}
 use Rattle.call_day.specs.Laws as laws
-use Rattle.call_day.specs.declared.Fault.{Fault}
+use Rattle.call_day.specs.Table.{Fault}
 use Rattle.call_day.specs.Claims.{Shaped, GoodRow, InRow, OneRow, TwoRows, GoodRows, OneRowBelow, Good, Says, both_back}
 use Rattle.call_day.specs.Claims.{good, lists, row, none, more}
 use Rattle.call_day.specs.Claims.{shaped_of, good_row, in_row, of_in, all_rows, row_only, Chosen, whole_day}

@@ -13,7 +13,7 @@ use Rattle.base_messages.specs.Messages.{bad_rows, no_row, more_rows}
 use Rattle.call_day.specs.Search.{least, count, least_least, found}
 use Rattle.call_day.specs.Table.{Table, table_of, day, most_rows, holds, bad_row, rows_with, bad_minute}
 use Rattle.call_day.specs.Table.{first_bad_row, first_bad_minute, row_at, shaped, fault, why_not_table, choose}
-use Rattle.call_day.specs.declared.Choice.{Choice}
+use Rattle.call_day.specs.Table.{Choice}
 
 -- ---- what a table is, in 02's words, with no test and no search. Rows are counted from 0.
 

@@ -2,10 +2,13 @@
 -- a minute. Rows are counted from 0 here, and from 1 where a place is told. Assumes nothing.
 -- [SPEC 14.6, 23.14 to 23.16, 33.1 to 33.5]
 use Rattle.std.specs.Prelude.{Bool, not, cond, ◌&&◌, List, ℕ, suc, eqb, leb, ltb, length, get_or}
+use Rattle.std.specs.Prelude.{◌≡◌, ◌≤◌, ◌<◌, Option, Some, None, MatchOption, Result, Ok, Err}
 use Rattle.base_messages.specs.Messages.{bad_rows, no_row, more_rows}
+use Rattle.base_messages.specs.Refusals.{number_of}
 use Rattle.call_day.specs.Search.{least, count}
-use Rattle.call_day.specs.declared.Fault.{Fault}
-use Rattle.call_day.specs.declared.Choice.{Choice}
+use Rattle.call_day.specs.declared.Lists.{Lists}
+use Rattle.call_day.specs.declared.BadTable.{BadTable}
+use Rattle.call_day.specs.declared.Row.{Row}
 
 -- "A table of 1 to 32 rows holds first minute, last minute and threshold, handed in as three lists" [SPEC 33.1]
 pub record Table : Type 0 where
@@ -15,6 +18,10 @@ pub record Table : Type 0 where
 
 abbrev pub table_of : List ℕ → List ℕ → List ℕ → Table
 table_of firsts lasts thresholds = record { firsts = firsts; lasts = lasts; thresholds = thresholds }
+
+-- the same from the lists as code has them
+abbrev pub table_in : Lists → Table
+table_in l = table_of l.firsts.now l.lasts.now l.thresholds.now
 
 abbrev pub most_rows : ℕ
 most_rows = 32
@@ -60,12 +67,27 @@ module _ (firsts lasts : List ℕ) where
   unfoldable pub row_at : ℕ → ℕ
   row_at minute = least (holds minute) (length firsts)
 
+-- what a search below n finds, where k is what it looks for: k, if it is below n
+abbrev pub Finds : Option ℕ → ℕ → ℕ → Type 0
+Finds found n k = MatchOption found (n ≤ k) (λ i. (i ≡ k) × (i < n))
+
 -- three lists of one length, 1 to 32
 unfoldable pub shaped : Table → Bool
 shaped t =
     eqb (length t.lasts) (length t.firsts)
     && (eqb (length t.thresholds) (length t.firsts)
     && (leb 1 (length t.firsts) && leb (length t.firsts) most_rows))
+
+-- why a table is turned down, or 0; and the place beside it
+pub record Fault : Type 0 where
+  pub why : ℕ
+  pub place : ℕ
+
+-- the same, and for a good table the row that holds a minute: its place, counted from 1, and its threshold
+pub record Choice : Type 0 where
+  pub why : ℕ
+  pub place : ℕ
+  pub threshold : ℕ
 
 abbrev pub fault : ℕ → ℕ → Fault
 fault why place = record { why = why; place = place }
@@ -98,3 +120,14 @@ choose t minute =
       place = cond is_row (suc row) v.place;
       threshold = cond is_row (get_or t.thresholds row 0) no_threshold;
     }
+
+-- ---- the two as code tells them
+
+abbrev pub fault_of : Result (Unit {0}) BadTable → Fault
+fault_of (Ok _) = fault 0 0
+fault_of (Err b) = fault (number_of b.why) b.place
+
+abbrev pub choice_of : Result (Option Row) BadTable → Choice
+choice_of (Ok (Some r)) = record { why = 0; place = r.place; threshold = r.threshold }
+choice_of (Ok None) = record { why = 0; place = 0; threshold = no_threshold }
+choice_of (Err b) = record { why = number_of b.why; place = b.place; threshold = no_threshold }

@@ -3,9 +3,11 @@
 #![tactic(auto)]
 
 ghost use Rattle.std.specs.Prelude.{◌≡◌, ◌≤◌, length};
-ghost use Rattle.call_day.specs.Table.{in_row, row_fits, rows_with, first_bad_row, first_bad_minute, row_at, table_of};
-ghost use Rattle.call_day.specs.Table.{why_not_table, choose as choose_of};
+ghost use Rattle.call_day.specs.Table.{in_row, row_fits, rows_with, first_bad_row, first_bad_minute, row_at, shaped, Finds};
+ghost use Rattle.call_day.specs.Table.{table_in, why_not_table, fault_of, choose as choose_of, choice_of};
 ghost use Rattle.call_day.specs.Turns.{lower_of};
+
+use base_messages::Refusal;
 
 // The minutes of a day run from 0 to 1,439.
 pub const DAY: u32 = 1440;
@@ -13,22 +15,35 @@ pub const DAY: u32 = 1440;
 // The most rows of a table.
 pub const ROWS: usize = 32;
 
-// Where no row is chosen: no measure takes this threshold.
-const NO_THRESHOLD: u32 = 2147483648;
-
-// Why a table is turned down, or 0; and the place beside it.
+// A table as it is handed in: its rows' first minutes, last minutes and thresholds.
+// kept: the C interface; three lists, which can be of any lengths.
 #[derive(Clone, Copy)]
-pub struct Fault {
-    pub why: u32,
+pub struct Lists<'a> {
+    pub firsts: &'a [u32],
+    pub lasts: &'a [u32],
+    pub thresholds: &'a [u32],
+}
+
+impl Lists<'_> {
+    // Whether they are of one length, 1 to 32.
+    fn shaped(self) -> bool
+        ensures { result ≡ shaped (table_in self.entry) }
+    {
+        let n = self.firsts.len();
+        (self.lasts.len() == n) & ((self.thresholds.len() == n) & ((1 <= n) & (n <= ROWS)))
+    }
+}
+
+// Why a table is turned down, and the place beside it: a row, counted from 1, or a minute, or 0.
+#[derive(Clone, Copy)]
+pub struct BadTable {
+    pub why: Refusal,
     pub place: u32,
 }
 
-// The same, and for a good table the row that holds a minute: its place, counted from 1, and its
-// threshold. For a minute that is not of the day the place is 0. Where no row is chosen the threshold
-// is NO_THRESHOLD.
+// The row that holds a minute: its place, counted from 1, and its threshold.
 #[derive(Clone, Copy)]
-pub struct Choice {
-    pub why: u32,
+pub struct Row {
     pub place: u32,
     pub threshold: u32,
 }
@@ -45,134 +60,120 @@ fn row_fits(first: u32, last: u32) -> bool
     (first <= last) & (last < DAY)
 }
 
-// How many rows hold the minute.
-fn rows_with(firsts: &[u32], lasts: &[u32], minute: u32) -> usize
-    requires { length lasts.now ≡ length firsts.now }
-    ensures { result ≡ rows_with firsts.now lasts.now minute }
-{
-    let mut n: usize = 0;
-    let mut i: usize = 0;
-    while i < firsts.len() {
-        if in_row(firsts[i], lasts[i], minute) {
-            n += 1;
-        }
-        i += 1;
-    }
-    n
+// The rows of a table of the day: as many first minutes as last ones.
+#[derive(Clone, Copy)]
+struct Rows<'a> {
+    firsts: &'a [u32],
+    lasts: &'a [u32],
+    ghost same_length: { length lasts.now ≡ length firsts.now },
 }
 
-// The first row that runs backwards or past the day, counted from 0, or the row count.
-fn first_bad_row(firsts: &[u32], lasts: &[u32]) -> usize
-    requires { length lasts.now ≡ length firsts.now }
-    ensures { result ≡ first_bad_row firsts.now lasts.now }
-{
-    let mut i: usize = 0;
-    while i < firsts.len() {
-        if !row_fits(firsts[i], lasts[i]) {
-            return i;
-        }
-        i += 1;
+impl Rows<'_> {
+    // How many rows hold the minute.
+    fn with(self, minute: u32) -> usize
+        ensures { result ≡ rows_with self.entry.firsts.now self.entry.lasts.now minute }
+    {
+        let rows = self.firsts.iter().zip(self.lasts);
+        rows.filter(|(first, last)| in_row(**first, **last, minute))
+            .count()
     }
-    i
-}
 
-// The minute where it is below the lowest bad one so far and bad too, else that one.
-fn lower(firsts: &[u32], lasts: &[u32], lowest: u32, minute: u32) -> u32
-    requires { length lasts.now ≡ length firsts.now }
-    ensures { result ≡ lower_of firsts.now lasts.now lowest minute }
-{
-    if minute < lowest {
-        if rows_with(firsts, lasts, minute) != 1 {
-            return minute;
-        }
+    // The first row that runs backwards or past the day, counted from 0.
+    fn first_bad(self) -> Option<usize>
+        ensures { Finds result (length self.entry.firsts.now)
+            (first_bad_row self.entry.firsts.now self.entry.lasts.now) }
+    {
+        let mut rows = self.firsts.iter().zip(self.lasts);
+        rows.position(|(first, last)| !row_fits(*first, *last))
     }
-    lowest
-}
 
-// The lowest minute that does not lie in just one row, or 1,440. How many rows hold a minute changes
-// only where a row begins or has just ended, so no other minutes are tried.
-fn first_bad_minute(firsts: &[u32], lasts: &[u32]) -> u32
-    requires lasts_len { length lasts.now ≡ length firsts.now }
-    requires firsts_len_bound { length firsts.now ≤ first_bad_row firsts.now lasts.now }
-    ensures { result ≡ first_bad_minute firsts.now lasts.now }
-{
-    let mut lowest = lower(firsts, lasts, DAY, 0);
-    let mut i: usize = 0;
-    while i < firsts.len() {
-        lowest = lower(firsts, lasts, lowest, firsts[i]);
-        lowest = lower(firsts, lasts, lowest, lasts[i] + 1);
-        i += 1;
+    // The first row that holds the minute, counted from 0.
+    fn at(self, minute: u32) -> Option<usize>
+        ensures { Finds result (length self.entry.firsts.now)
+            (row_at self.entry.firsts.now self.entry.lasts.now minute) }
+    {
+        let mut rows = self.firsts.iter().zip(self.lasts);
+        rows.position(|(first, last)| in_row(*first, *last, minute))
     }
-    lowest
-}
 
-// The first row that holds the minute, counted from 0, or the row count.
-fn row_at(firsts: &[u32], lasts: &[u32], minute: u32) -> usize
-    requires { length lasts.now ≡ length firsts.now }
-    ensures { result ≡ row_at firsts.now lasts.now minute }
-{
-    let mut at: usize = 0;
-    while at < firsts.len() {
-        if in_row(firsts[at], lasts[at], minute) {
-            return at;
+    // The minute where it is below the lowest bad one so far and bad too, else that one.
+    fn lower(self, lowest: u32, minute: u32) -> u32
+        ensures { result ≡ lower_of self.entry.firsts.now self.entry.lasts.now lowest minute }
+    {
+        if minute < lowest {
+            if self.with(minute) != 1 {
+                return minute;
+            }
         }
-        at += 1;
+        lowest
     }
-    at
+
+    // The lowest minute that does not lie in just one row, or 1,440. How many rows hold a minute changes
+    // only where a row begins or has just ended, so no other minutes are tried.
+    fn first_bad_minute(self) -> u32
+        requires { length self.firsts.now ≤ first_bad_row self.firsts.now self.lasts.now }
+        ensures { result ≡ first_bad_minute self.entry.firsts.now self.entry.lasts.now }
+    {
+        let mut lowest = self.lower(DAY, 0);
+        for (first, last) in self.firsts.iter().zip(self.lasts) {
+            lowest = self.lower(lowest, *first);
+            lowest = self.lower(lowest, *last + 1);
+        }
+        lowest
+    }
 }
 
 // Why a table is turned down, if it is.
-pub fn why_not(firsts: &[u32], lasts: &[u32], thresholds: &[u32]) -> Fault
-    ensures { result
-        ≡ why_not_table (table_of firsts.now lasts.now thresholds.now) }
+pub fn why_not(table: Lists) -> Result<(), BadTable>
+    ensures { fault_of result ≡ why_not_table (table_in table.entry) }
 {
-    let n = firsts.len();
-    if !((lasts.len() == n) & ((thresholds.len() == n) & ((1 <= n) & (n <= ROWS)))) {
-        return Fault {
-            why: base_messages::BAD_ROWS,
+    if !table.shaped() {
+        return Err(BadTable {
+            why: Refusal::BadRows,
             place: 0,
-        };
+        });
     }
-    let row = first_bad_row(firsts, lasts);
-    if row < n {
-        return Fault {
-            why: base_messages::BAD_ROWS,
+    let rows = Rows {
+        firsts: table.firsts,
+        lasts: table.lasts,
+    };
+    if let Some(row) = rows.first_bad() {
+        return Err(BadTable {
+            why: Refusal::BadRows,
             place: row as u32 + 1,
-        };
+        });
     }
-    let minute = first_bad_minute(firsts, lasts);
-    if !(minute < DAY) {
-        return Fault { why: 0, place: 0 };
+    let lowest = rows.first_bad_minute();
+    if !(lowest < DAY) {
+        return Ok(());
     }
-    if rows_with(firsts, lasts, minute) == 0 {
-        return Fault {
-            why: base_messages::NO_ROW,
-            place: minute,
-        };
+    if rows.with(lowest) == 0 {
+        return Err(BadTable {
+            why: Refusal::NoRow,
+            place: lowest,
+        });
     }
-    Fault {
-        why: base_messages::MORE_ROWS,
-        place: minute,
-    }
+    Err(BadTable {
+        why: Refusal::MoreRows,
+        place: lowest,
+    })
 }
 
-// The row of a minute, where the table is good.
-pub fn choose(firsts: &[u32], lasts: &[u32], thresholds: &[u32], minute: u32) -> Choice
-    ensures { result
-        ≡ choose_of (table_of firsts.now lasts.now thresholds.now) minute }
+// The row of a minute, where the table is good: a minute that is not of the day has none.
+pub fn choose(table: Lists, minute: u32) -> Result<Option<Row>, BadTable>
+    ensures { choice_of result ≡ choose_of (table_in table.entry) minute }
 {
-    let fault = why_not(firsts, lasts, thresholds);
-    if (fault.why == 0) & (minute < DAY) {
-        let at = row_at(firsts, lasts, minute);
-        return Choice {
-            why: fault.why,
-            place: at as u32 + 1,
-            threshold: thresholds[at],
-        };
+    why_not(table)?;
+    if !(minute < DAY) {
+        return Ok(None);
     }
-    Choice {
-        why: fault.why,
-        place: fault.place,
-        threshold: NO_THRESHOLD,
-    }
+    let rows = Rows {
+        firsts: table.firsts,
+        lasts: table.lasts,
+    };
+    let at = rows.at(minute).unwrap();
+    Ok(Some(Row {
+        place: at as u32 + 1,
+        threshold: table.thresholds[at],
+    }))
 }

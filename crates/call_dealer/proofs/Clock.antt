@@ -6,7 +6,7 @@ use lib.ListN.{length}
 use Rattle.measure_table.specs.declared.Rule.TheVariants.{Threshold}
 use Rattle.base_messages.specs.Messages.{if_taken}
 use Rattle.base_messages.specs.Laws.{refused}
-use Rattle.call_day.specs.declared.Choice.{Choice}
+use Rattle.call_day.specs.Table.{Choice}
 use Rattle.call_day.specs.Table.{why_not_table, choose}
 use Rattle.call_day.specs.Claims.{Good, choose_why, bad_chosen}
 use Rattle.call_day.proofs.Claims.{taken_good, good_taken}

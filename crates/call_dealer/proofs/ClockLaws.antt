@@ -11,7 +11,7 @@ use Rattle.measure_table.specs.declared.Rule.TheVariants.{Threshold}
 use Rattle.measure_table.specs.Measure.{rule_fits, in_order, is_code, length_fits}
 use Rattle.base_messages.specs.Messages.{bad_party_or_code, wrong_length, short_buffer, wrong_number, out_of_range}
 use Rattle.base_messages.specs.Messages.{bad_rows, is_key, unless, if_taken}
-use Rattle.call_day.specs.declared.Choice.{Choice}
+use Rattle.call_day.specs.Table.{Choice}
 use Rattle.call_day.specs.Table.{day, why_not_table, choose}
 use Rattle.call_day.specs.Claims.{Good, Chosen}
 use Rattle.call_day.proofs.Claims.{taken_good, good_taken, chosen, past_day}

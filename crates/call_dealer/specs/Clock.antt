@@ -6,7 +6,7 @@ use Rattle.measure_table.specs.declared.Terms.{Terms}
 use Rattle.measure_table.specs.declared.Rule.TheVariants.{Threshold}
 use Rattle.measure_table.specs.Measure.{rule_fits}
 use Rattle.base_messages.specs.Messages.{out_of_range, unless, if_taken}
-use Rattle.call_day.specs.declared.Fault.{Fault}
+use Rattle.call_day.specs.Table.{Fault}
 use Rattle.call_day.specs.Table.{Table, day, why_not_table, choose}
 use Rattle.half_deal.specs.Dealing.{Deal, deal_from}
 use Rattle.call_dealer.specs.Dealer.{until_rule, next_dealer, out_buffer}

@@ -19,8 +19,8 @@ use Rattle.share_vectors.specs.Share.{plus, ideal_gate}
 use Rattle.base_messages.specs.Messages.{bad_rows, no_row, more_rows}
 use Rattle.half_content.specs.Content.{widths, sum_first, size, block_count}
 use Rattle.call_day.specs.Search.{least, count}
-use Rattle.call_day.specs.declared.Fault.{Fault}
-use Rattle.call_day.specs.declared.Choice.{Choice}
+use Rattle.call_day.specs.Table.{Fault}
+use Rattle.call_day.specs.Table.{Choice}
 use Rattle.call_day.specs.Table.{table_of, holds as in_row, bad_row, rows_with, bad_minute, first_bad_row}
 use Rattle.call_day.specs.Table.{first_bad_minute}
 use Rattle.call_day.specs.Table.{row_at, shaped, why_not_table, choose}

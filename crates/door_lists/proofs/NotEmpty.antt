@@ -25,7 +25,7 @@ use Rattle.base_messages.specs.Messages.{unless, name_fits, padded, printable, i
 use Rattle.call_party.specs.Party.{start_party, why_not_party}
 use Rattle.call_lock.specs.Lock.{start_lock, why_not_lock}
 use Rattle.half_deal.specs.Dealing.{Deal, deal_from}
-use Rattle.call_day.specs.declared.Fault.{Fault}
+use Rattle.call_day.specs.Table.{Fault}
 use Rattle.call_day.specs.Table.{day}
 use Rattle.call_day.specs.Claims.{InRow, whole_day, whole_day_lem}
 use Rattle.call_day.proofs.Claims.{taken_good}

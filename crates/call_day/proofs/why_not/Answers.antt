@@ -1,81 +1,43 @@
 use native.Mathlib.Omega.{arith}
-use mathlib.Core.Path.{ap}
-use mathlib.Core.Bool.{not}
-use Rattle.call_day.specs.Table.{table_of, shaped}
+use Rattle.call_day.specs.Table.{table_in}
 use Rattle.call_day.proofs.Told as told
 use Rattle.call_day.proofs.why_not.Goals as goal
 
-pub returns-then-not-lasts-n : goal.returns-then-not-lasts-n
-unfolding shaped
-returns-then-not-lasts-n c =
-    let a = c.args in
-    told.lists (table_of a.firsts.now a.lasts.now a.thresholds.now) (ap not c.if-not-lasts-n.true)
+pub returns-then-not-shaped : goal.returns-then-not-shaped
+returns-then-not-shaped c = told.lists (table_in c.args.table) c.shaped.ensures c.if-not-shaped.true
 
-pub first_bad_row-row-requires : goal.first_bad_row-row-requires
-unfolding shaped
-first_bad_row-row-requires c =
-    let a = c.args in
-    (told.is_shaped (table_of a.firsts.now a.lasts.now a.thresholds.now) (ap not c.if-not-lasts-n.false)).lasts_too
+pub invariant_of-rows : goal.invariant_of-rows
+invariant_of-rows c =
+    record { same_length = (told.is_shaped (table_in c.args.table) c.shaped.ensures c.if-not-shaped.false).lasts_too }
 
 pub overflow_cast-result : goal.overflow_cast-result
-unfolding shaped
 overflow_cast-result c =
-    let a = c.args in
-    let t = table_of a.firsts.now a.lasts.now a.thresholds.now in
-    record { fits = omega (arith, (told.is_shaped t (ap not c.if-not-lasts-n.false)).few) }
+    let few = (told.is_shaped (table_in c.args.table) c.shaped.ensures c.if-not-shaped.false).few in
+    record { fits = omega (arith, few, c.in-Some.ensures) }
 
 pub overflow_add-result : goal.overflow_add-result
-unfolding shaped
 overflow_add-result c =
-    let a = c.args in
-    let t = table_of a.firsts.now a.lasts.now a.thresholds.now in
-    record { fits = omega (arith, (told.is_shaped t (ap not c.if-not-lasts-n.false)).few) }
+    let few = (told.is_shaped (table_in c.args.table) c.shaped.ensures c.if-not-shaped.false).few in
+    record { fits = omega (arith, few, c.in-Some.ensures) }
 
-pub returns-then-row-n : goal.returns-then-row-n
-unfolding shaped
-returns-then-row-n c =
-    let a = c.args in
-    told.row (table_of a.firsts.now a.lasts.now a.thresholds.now) (ap not c.if-not-lasts-n.false)
-    _ c.first_bad_row-row.ensures c.if-row-n.true
+pub returns-in-Some : goal.returns-in-Some
+returns-in-Some c =
+    let found = c.in-Some.ensures in
+    told.row (table_in c.args.table) c.shaped.ensures c.if-not-shaped.false _ found.0 found.1
 
-pub first_bad_minute-minute-requires : goal.first_bad_minute-minute-requires
-unfolding shaped
-first_bad_minute-minute-requires c =
-    let a = c.args in
-    let t = table_of a.firsts.now a.lasts.now a.thresholds.now in
-    record {
-      lasts_len = (told.is_shaped t (ap not c.if-not-lasts-n.false)).lasts_too;
-      firsts_len_bound = omega (arith, c.first_bad_row-row.ensures, c.if-row-n.false);
-    }
+pub returns-then-not-lowest : goal.returns-then-not-lowest
+returns-then-not-lowest c =
+    told.good (table_in c.args.table) c.shaped.ensures c.if-not-shaped.false
+    c.in_default.ensures _ c.first_bad_minute-lowest.ensures c.if-not-lowest.true
 
-pub returns-then-not-minute : goal.returns-then-not-minute
-unfolding shaped
-returns-then-not-minute c =
-    let a = c.args in
-    told.good (table_of a.firsts.now a.lasts.now a.thresholds.now) (ap not c.if-not-lasts-n.false)
-    _ c.first_bad_row-row.ensures c.if-row-n.false
-    _ c.first_bad_minute-minute.ensures c.if-not-minute.true
-
-pub rows_with-requires : goal.rows_with-requires
-unfolding shaped
-rows_with-requires c =
-    let a = c.args in
-    (told.is_shaped (table_of a.firsts.now a.lasts.now a.thresholds.now) (ap not c.if-not-lasts-n.false)).lasts_too
-
-pub returns-then-rows_with-eq0 : goal.returns-then-rows_with-eq0
-unfolding shaped
-returns-then-rows_with-eq0 c =
-    let a = c.args in
-    told.none (table_of a.firsts.now a.lasts.now a.thresholds.now) (ap not c.if-not-lasts-n.false)
-    _ c.first_bad_row-row.ensures c.if-row-n.false
-    _ c.first_bad_minute-minute.ensures c.if-not-minute.false
-    _ c.rows_with.ensures c.if-rows_with-eq0.true
+pub returns-then-with-eq0 : goal.returns-then-with-eq0
+returns-then-with-eq0 c =
+    told.none (table_in c.args.table) c.shaped.ensures c.if-not-shaped.false
+    c.in_default.ensures _ c.first_bad_minute-lowest.ensures c.if-not-lowest.false
+    _ c.with.ensures c.if-with-eq0.true
 
 pub returns : goal.returns
-unfolding shaped
 returns c =
-    let a = c.args in
-    told.more (table_of a.firsts.now a.lasts.now a.thresholds.now) (ap not c.if-not-lasts-n.false)
-    _ c.first_bad_row-row.ensures c.if-row-n.false
-    _ c.first_bad_minute-minute.ensures c.if-not-minute.false
-    _ c.rows_with.ensures c.if-rows_with-eq0.false
+    told.more (table_in c.args.table) c.shaped.ensures c.if-not-shaped.false
+    c.in_default.ensures _ c.first_bad_minute-lowest.ensures c.if-not-lowest.false
+    _ c.with.ensures c.if-with-eq0.false
