@@ -1,6 +1,7 @@
 -- A refusal as code has it, and its number (Messages). Assumes nothing.
 use Rattle.std.specs.Prelude.{◌≡◌, ℕ, Bool, true, false, cond, eqb, Result, Ok, Err}
 use Rattle.std.proofs.Common.{refl}
+use Rattle.std.proofs.lemmas.Bool.{eqb-false}
 use Rattle.base_messages.specs.Messages.{unless, bad_name, bad_party_or_code, out_of_turn, wrong_length, short_buffer}
 use Rattle.base_messages.specs.Messages.{wrong_message, wrong_number, out_of_range, equal_keys, bad_block, bad_content}
 use Rattle.base_messages.specs.Messages.{bad_sum, bad_marks, bad_rows, no_row, more_rows}
@@ -51,6 +52,9 @@ numbered BadMarks = refl
 numbered BadRows = refl
 numbered NoRow = refl
 numbered MoreRows = refl
+
+pub not_0 : (refusal : Refusal) → number_of refusal ≡ 0 → ⊥
+not_0 refusal e = eqb-false _ 0 (numbered refusal) e
 
 -- goes on if the test holds, else e is why not: `unless`, where code has a result
 abbrev pub or_refuse : {E : Type 0} → Bool → E → Result (Unit {0}) E → Result (Unit {0}) E

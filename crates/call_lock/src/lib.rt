@@ -2,9 +2,11 @@
 #![tactic(auto)]
 
 ghost use Rattle.std.specs.Prelude.{◌≡◌};
+ghost use Rattle.base_messages.specs.Messages.{answer_kind, expected};
+ghost use Rattle.base_messages.specs.Refusals.{number_of, why_of};
 ghost use Rattle.call_lock.specs.Lock.{refused as refused_for, start_lock, why_not_join, join as join_of};
 
-use base_messages::{Label, NAME};
+use base_messages::{Label, NAME, Refusal};
 
 // The door's padded name and the last joined number.
 #[repr(C)]
@@ -15,6 +17,7 @@ pub struct Lock {
 }
 
 // Why a call was refused (0 if it was not), the next state, and what a join reports.
+// kept: the C interface; lock_start and door_join give it back.
 #[repr(C)]
 #[derive(Clone, Copy)]
 pub struct LockAnswer {
@@ -23,11 +26,32 @@ pub struct LockAnswer {
     pub bit: u32,
 }
 
+// A box's answer, with its message's label and name.
+#[derive(Clone, Copy)]
+pub struct Answer<'a> {
+    pub label: Label,
+    pub name: &'a [u8],
+    pub answer: u32,
+}
+
+impl Answer<'_> {
+    // Whether it is an answer under the door's name, from this sender.
+    fn expected(self, door: [u8; NAME], sender: u32) -> bool
+        ensures { result ≡ expected answer_kind door sender self.entry.label self.entry.name.now }
+    {
+        base_messages::expected(base_messages::ANSWER, door, sender, self.label, self.name)
+    }
+}
+
 // A refused call's answer: the state as it was.
-fn refused(why: u32, lock: Lock) -> LockAnswer
-    ensures { result ≡ refused_for why lock }
+fn refused(refusal: Refusal, lock: Lock) -> LockAnswer
+    ensures { result ≡ refused_for (number_of refusal) lock }
 {
-    LockAnswer { why, lock, bit: 0 }
+    LockAnswer {
+        why: refusal.number(),
+        lock,
+        bit: 0,
+    }
 }
 
 impl Lock {
@@ -36,7 +60,7 @@ impl Lock {
     {
         if !base_messages::name_fits(name) {
             return refused(
-                base_messages::BAD_NAME,
+                Refusal::BadName,
                 Lock {
                     name: [0; NAME],
                     last: 0,
@@ -53,72 +77,45 @@ impl Lock {
         }
     }
 
-    // Party 0's answer comes first.
-    pub fn join(
-        self,
-        label0: Label,
-        name0: &[u8],
-        answer0: u32,
-        label1: Label,
-        name1: &[u8],
-        answer1: u32,
-    ) -> LockAnswer
-        ensures { result ≡ join_of self label0 name0.now answer0 label1 name1.now answer1 }
+    pub fn join(self, camera: Answer, office: Answer) -> LockAnswer
+        ensures { result ≡ join_of self
+            camera.entry.label camera.entry.name.now camera.entry.answer
+            office.entry.label office.entry.name.now office.entry.answer }
     {
-        let why = why_not_join(self, label0, name0, answer0, label1, name1, answer1);
-        if why != 0 {
-            return refused(why, self);
+        if let Err(refusal) = why_not_join(self, camera, office) {
+            return refused(refusal, self);
         }
-        let name = self.name;
         LockAnswer {
-            why,
+            why: 0,
             lock: Lock {
-                name,
-                last: label0.number,
+                last: camera.label.number,
+                ..self
             },
-            bit: base_words::add(answer0, answer1),
+            bit: base_words::add(camera.answer, office.answer),
         }
     }
 }
 
-fn why_not_join(
-    lock: Lock,
-    label0: Label,
-    name0: &[u8],
-    answer0: u32,
-    label1: Label,
-    name1: &[u8],
-    answer1: u32,
-) -> u32
-    ensures { result ≡ why_not_join lock label0 name0.now answer0 label1 name1.now answer1 }
+fn why_not_join(lock: Lock, camera: Answer, office: Answer) -> Result<(), Refusal>
+    ensures { why_of result ≡ why_not_join lock
+        camera.entry.label camera.entry.name.now camera.entry.answer
+        office.entry.label office.entry.name.now office.entry.answer }
 {
-    let door = lock.name;
-    let first = base_messages::expected(
-        base_messages::ANSWER,
-        door,
-        base_messages::CAMERA,
-        label0,
-        name0,
-    );
-    let second = base_messages::expected(
-        base_messages::ANSWER,
-        door,
-        base_messages::OFFICE,
-        label1,
-        name1,
-    );
-    let sum = base_words::add(answer0, answer1);
-    let lengths = (name0.len() == NAME) & (name1.len() == NAME);
-    let labels = first & second;
-    let numbers = (lock.last < label0.number) & (label1.number == label0.number);
-    base_messages::first_refusal(
-        lengths,
-        base_messages::WRONG_LENGTH,
-        labels,
-        base_messages::WRONG_MESSAGE,
-        numbers,
-        base_messages::WRONG_NUMBER,
-        sum <= 1,
-        base_messages::BAD_SUM,
-    )
+    if !((camera.name.len() == NAME) & (office.name.len() == NAME)) {
+        return Err(Refusal::WrongLength);
+    }
+    let first = camera.expected(lock.name, base_messages::CAMERA);
+    let second = office.expected(lock.name, base_messages::OFFICE);
+    if !(first & second) {
+        return Err(Refusal::WrongMessage);
+    }
+    let last = lock.last;
+    if !((last < camera.label.number) & (office.label.number == camera.label.number)) {
+        return Err(Refusal::WrongNumber);
+    }
+    let sum = base_words::add(camera.answer, office.answer);
+    if !(sum <= 1) {
+        return Err(Refusal::BadSum);
+    }
+    Ok(())
 }
