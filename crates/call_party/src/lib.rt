@@ -11,6 +11,7 @@ ghost use Rattle.measure_table.specs.Measure.{most_elements, all_in_range};
 ghost use Rattle.share_vectors.specs.Share.{plus};
 ghost use Rattle.base_messages.specs.Messages.{out_of_turn, wrong_length, short_buffer, wrong_message, wrong_number};
 ghost use Rattle.base_messages.specs.Messages.{out_of_range, office_party, unless, expected};
+ghost use Rattle.base_messages.specs.Refusals.{number_of, why_of};
 ghost use Rattle.half_content.specs.Content.{fill, no_terms, no_set};
 ghost use Rattle.call_party.specs.Party.{no_check, opened as opened_check, idle as idle_of, why_not_party, start_party};
 ghost use Rattle.call_party.specs.Party.{next_check, high_water, state_fits, waiting_fits, sound as sound_of, in_turn};
@@ -18,11 +19,12 @@ ghost use Rattle.call_party.specs.Party.{load_turn, load as load_of, no_name, tr
 ghost use Rattle.call_party.specs.Party.{mask_out, take_vector as take_of, box_share, finish as finish_of};
 ghost use Rattle.call_party.specs.Party.{drop_set as drop_of};
 
-use base_messages::{Identity, KEY, Label, NAME};
+use base_messages::{Identity, KEY, Label, NAME, Refusal};
 use half_content::Set;
 use measure_table::{MOST_ELEMENTS, Terms};
 
 // A check's phase: with no set open, and after calls 1, 2 and 3.
+// kept: the C interface; a host hands states in, and one of another phase is refused with 3.
 pub const IDLE: u32 = 0;
 
 pub const LOADED: u32 = 1;
@@ -55,6 +57,7 @@ pub struct Party {
 }
 
 // Why a call was refused (0 if it was not), the next state, and the word or answer that is sent.
+// kept: the C interface; box_start to box_drop give it back.
 #[repr(C)]
 #[derive(Clone, Copy)]
 pub struct PartyAnswer {
@@ -65,6 +68,7 @@ pub struct PartyAnswer {
 
 // What a trial says: why a load would be refused (0 if it would not), and of a half that it would take
 // the door's name, and measure code and L, as they stand in the half. Else these are zero.
+// kept: the C interface; box_trial gives it back.
 #[repr(C)]
 #[derive(Clone, Copy)]
 pub struct TrialAnswer {
@@ -195,11 +199,11 @@ fn closed(who: Identity, last: u64, waiting: Set) -> Party
 }
 
 // A refused call's answer: the state as it was.
-fn refused(why: u32, party: Party) -> PartyAnswer
-    ensures { result ≡ record { why = why; party = party; word = 0 } }
+fn refused(refusal: Refusal, party: Party) -> PartyAnswer
+    ensures { result ≡ record { why = number_of refusal; party = party; word = 0 } }
 {
     PartyAnswer {
-        why,
+        why: refusal.number(),
         party,
         word: 0,
     }
@@ -216,40 +220,40 @@ fn not_taken(why: u32) -> TrialAnswer
     }
 }
 
-fn why_not_start(name: &[u8], party: u32, key: &[u8]) -> u32
-    ensures { result ≡ why_not_party name.now party key.now }
+fn why_not_start(name: &[u8], party: u32, key: &[u8]) -> Result<(), Refusal>
+    ensures { why_of result ≡ why_not_party name.now party key.now }
 {
     if !base_messages::name_fits(name) {
-        return base_messages::BAD_NAME;
+        return Err(Refusal::BadName);
     }
     if !(party <= base_messages::OFFICE) {
-        return base_messages::BAD_PARTY_OR_CODE;
+        return Err(Refusal::BadPartyOrCode);
     }
     if !(key.len() == KEY) {
-        return base_messages::WRONG_LENGTH;
+        return Err(Refusal::WrongLength);
     }
-    0
+    Ok(())
 }
 
 // Call 2's refusals, from what decides them: whether the state and the turn fit, the set's terms, the
 // vector, and the room in the buffer.
-fn why_not_mask(turn: bool, terms: Terms, v: &[u32], room: usize) -> u32
-    ensures { result ≡ unless turn out_of_turn (unless (eqb (length v.now) terms.n) wrong_length
+fn why_not_mask(turn: bool, terms: Terms, v: &[u32], room: usize) -> Result<(), Refusal>
+    ensures { why_of result ≡ unless turn out_of_turn (unless (eqb (length v.now) terms.n) wrong_length
         (unless (leb terms.n room) short_buffer (unless (all_in_range terms v.now) out_of_range 0))) }
 {
     if !turn {
-        return base_messages::OUT_OF_TURN;
+        return Err(Refusal::OutOfTurn);
     }
     if !(v.len() == terms.n) {
-        return base_messages::WRONG_LENGTH;
+        return Err(Refusal::WrongLength);
     }
     if !(terms.n <= room) {
-        return base_messages::SHORT_BUFFER;
+        return Err(Refusal::ShortBuffer);
     }
     if !measure_table::all_in_range(terms, v) {
-        return base_messages::OUT_OF_RANGE;
+        return Err(Refusal::OutOfRange);
     }
-    0
+    Ok(())
 }
 
 // The other party.
@@ -264,51 +268,63 @@ fn other(party: u32) -> u32
 }
 
 // The refusals of calls 3 and 4, from what decides them: whether the state and the turn fit, whether
-// all that came is as long as it should be, the kind of message that the call takes, the door, this
-// box's party and its open set's number, and the message's label and name.
+// all that came is as long as it should be, the kind of message that the call takes, who this box is and
+// its open set's number, and the message's label and name.
 fn why_not_message(
     turn: bool,
     lengths: bool,
     kind: u32,
-    door: [u8; NAME],
-    party: u32,
+    who: Identity,
     number: u64,
     label: Label,
     name: &[u8],
-) -> u32
-    ensures { result ≡ unless turn out_of_turn (unless lengths wrong_length (unless (expected kind door (office_party
-        - party) label name.now) wrong_message (unless (eqb label.number number) wrong_number 0))) }
+) -> Result<(), Refusal>
+    ensures { why_of result ≡ unless turn out_of_turn (unless lengths wrong_length (unless (expected kind who.name
+        (office_party - who.party) label name.now) wrong_message (unless (eqb label.number number) wrong_number 0))) }
 {
-    let fits = base_messages::expected(kind, door, other(party), label, name);
-    base_messages::first_refusal(
-        turn,
-        base_messages::OUT_OF_TURN,
-        lengths,
-        base_messages::WRONG_LENGTH,
-        fits,
-        base_messages::WRONG_MESSAGE,
-        label.number == number,
-        base_messages::WRONG_NUMBER,
-    )
+    if !turn {
+        return Err(Refusal::OutOfTurn);
+    }
+    if !lengths {
+        return Err(Refusal::WrongLength);
+    }
+    let sender = other(who.party);
+    if !base_messages::expected(kind, who.name, sender, label, name) {
+        return Err(Refusal::WrongMessage);
+    }
+    if !(label.number == number) {
+        return Err(Refusal::WrongNumber);
+    }
+    Ok(())
 }
 
 // A box's share of the product: MX is party 0's masked vector, MY party 1's.
-fn box_share(
-    party: u32,
-    n: usize,
-    c: u32,
-    masked: [u32; MOST_ELEMENTS],
-    other: &[u32],
-    x: [u32; MOST_ELEMENTS],
-    y: [u32; MOST_ELEMENTS],
-) -> u32
-    requires { (n ≤ most_elements) × (n ≤ length other.now) }
-    ensures { result ≡ box_share party n c masked other.now x y }
+fn box_share(party: u32, check: &Check, other: &[u32]) -> u32
+    requires { (check.now.set.terms.n ≤ most_elements) × (check.now.set.terms.n ≤ length other.now) }
+    ensures { result ≡ box_share party check.now.set.terms.n check.now.set.c check.now.masked other.now
+        check.now.set.x check.now.set.y }
 {
+    let n = check.set.terms.n;
     if party == base_messages::CAMERA {
-        return share_vectors::share_of(party, n, c, &masked, other, &x, &y);
+        return share_vectors::share_of(
+            party,
+            n,
+            check.set.c,
+            &check.masked,
+            other,
+            &check.set.x,
+            &check.set.y,
+        );
     }
-    share_vectors::share_of(party, n, c, other, &masked, &x, &y)
+    share_vectors::share_of(
+        party,
+        n,
+        check.set.c,
+        other,
+        &check.masked,
+        &check.set.x,
+        &check.set.y,
+    )
 }
 
 // A vector's array: v and the mask, added over the first n places.
@@ -334,14 +350,13 @@ impl Party {
     pub fn start(name: &[u8], party: u32, key: &[u8], floor: u64) -> PartyAnswer
         ensures { result ≡ start_party name.now party key.now floor }
     {
-        let why = why_not_start(name, party, key);
-        if why != 0 {
+        if let Err(refusal) = why_not_start(name, party, key) {
             let nobody = Identity {
                 name: [0; NAME],
                 party: 0,
                 key: [0; KEY],
             };
-            return refused(why, idle(nobody, 0));
+            return refused(refusal, idle(nobody, 0));
         }
         let who = Identity {
             name: base_messages::padded(name),
@@ -349,7 +364,7 @@ impl Party {
             key: base_slices::bytes_32(key),
         };
         PartyAnswer {
-            why,
+            why: 0,
             party: idle(who, floor),
             word: 0,
         }
@@ -416,7 +431,7 @@ impl Party {
     {
         let terms = self.check.set.terms;
         let turn = in_turn(LOADED, self);
-        let refusal = why_not_mask(turn, terms, v, out.len());
+        let refusal = base_messages::why(why_not_mask(turn, terms, v, out.len()));
         let who = self.who;
         let waiting = self.waiting;
         let mut check = self.check;
@@ -446,35 +461,21 @@ impl Party {
         ensures { result ≡ take_of self label name.now v.now }
     {
         let terms = self.check.set.terms;
-        let party = self.who.party;
+        let number = self.check.set.number;
         let turn = in_turn(MASKED, self);
         let lengths = (name.len() == NAME) & (v.len() == terms.n);
-        let door = self.who.name;
-        let number = self.check.set.number;
-        let why = why_not_message(
-            turn,
-            lengths,
-            base_messages::VECTOR,
-            door,
-            party,
-            number,
-            label,
-            name,
-        );
-        if why != 0 {
-            return refused(why, self);
+        let kind = base_messages::VECTOR;
+        if let Err(refusal) = why_not_message(turn, lengths, kind, self.who, number, label, name) {
+            return refused(refusal, self);
         }
-        let masked = self.check.masked;
-        let x = self.check.set.x;
-        let y = self.check.set.y;
-        let share = box_share(party, terms.n, self.check.set.c, masked, v, x, y);
+        let share = box_share(self.who.party, &self.check, v);
         let mark = self.check.set.mark;
         let word = share_answers::word(terms, mark, share, self.check.own, self.check.set.r);
         let mut next = self;
         next.check.phase = TAKEN;
         next.check.word = word;
         PartyAnswer {
-            why,
+            why: 0,
             party: next,
             word,
         }
@@ -484,31 +485,21 @@ impl Party {
     pub fn finish(self, label: Label, name: &[u8], word: u32) -> PartyAnswer
         ensures { result ≡ finish_of self label name.now word }
     {
-        let party = self.who.party;
+        let number = self.check.set.number;
         let turn = in_turn(TAKEN, self);
         let lengths = name.len() == NAME;
-        let door = self.who.name;
-        let number = self.check.set.number;
-        let why = why_not_message(
-            turn,
-            lengths,
-            base_messages::WORD,
-            door,
-            party,
-            number,
-            label,
-            name,
-        );
-        if why != 0 {
-            return refused(why, self);
+        let kind = base_messages::WORD;
+        if let Err(refusal) = why_not_message(turn, lengths, kind, self.who, number, label, name) {
+            return refused(refusal, self);
         }
+        let party = self.who.party;
         let key = self.check.set.key;
         let seed = self.check.set.seed;
         let z = base_words::add(self.check.word, word);
         let answer = share_answers::answer(self.check.set.width, party, key, seed, z);
         let next = closed(self.who, self.last, self.waiting);
         PartyAnswer {
-            why,
+            why: 0,
             party: next,
             word: answer,
         }
@@ -521,7 +512,7 @@ impl Party {
         let phase = self.check.phase;
         let sound = sound(self);
         if !((phase != IDLE) & sound) {
-            return refused(base_messages::OUT_OF_TURN, self);
+            return refused(Refusal::OutOfTurn, self);
         }
         PartyAnswer {
             why: 0,
