@@ -1,12 +1,15 @@
 -- The deal by the clock, from what the table's look-up and the plain deal say. Assumes nothing.
-use mathlib.Core.Path.{◌≡◌, sym, ap, ◌∙◌}
+use mathlib.Core.Path.{◌≡◌, refl, sym, ap, ◌∙◌}
+use Rattle.std.specs.Prelude.{Option, Some, None, Ok}
+use Rattle.std.specs.Option.{unwrap_or}
+use Rattle.call_day.specs.declared.Row.{Row}
 use mathlib.Core.List.{List}
 use Prim.Native.Nat.{ℕ}
 use lib.ListN.{length}
 use Rattle.measure_table.specs.declared.Rule.TheVariants.{Threshold}
 use Rattle.base_messages.specs.Messages.{if_taken}
 use Rattle.base_messages.specs.Laws.{refused}
-use Rattle.call_day.specs.Table.{Choice}
+use Rattle.call_day.specs.Table.{Choice, no_threshold, choice_of}
 use Rattle.call_day.specs.Table.{why_not_table, choose}
 use Rattle.call_day.specs.Claims.{Good, choose_why, bad_chosen}
 use Rattle.call_day.proofs.Claims.{taken_good, good_taken}
@@ -18,6 +21,10 @@ use Rattle.call_dealer.proofs.ClockLaws.{as_deal, clock_state, clock_bytes}
 use Rattle.call_dealer.specs.declared.Dealer.{Dealer}
 use Rattle.call_dealer.specs.declared.DealerAnswer.{DealerAnswer}
 use Rattle.call_dealer.specs.declared.ClockAnswer.{ClockAnswer}
+
+-- no row
+abbrev pub nobody_row : Row
+nobody_row = record { place = 0; threshold = no_threshold }
 
 alike : {w w' p p' : ℕ} {s s' : Dealer} → w ≡ w' → p ≡ p' → s ≡ s'
     → ◌≡◌ {A = ClockAnswer} (record { why = w; place = p; dealer = s }) (record { why = w'; place = p'; dealer = s' })
@@ -80,3 +87,9 @@ module _ (s : Dealer) (k : ClockDeal) (out0 out1 : List ℕ)
             e1 ∙ ap (λ d. deal_out s d out0 out1 1) is_made ∙ sym (clock_bytes s k out0 out1 1 good_table),
           ),
         )
+
+-- the row that is dealt by, where a minute may have none
+pub told_row : (o : Option Row) → choice_of (Ok o)
+    ≡ record { why = 0; place = (unwrap_or o nobody_row).place; threshold = (unwrap_or o nobody_row).threshold }
+told_row (Some r) = refl
+told_row None = refl

@@ -7,11 +7,12 @@ use Rattle.measure_table.specs.declared.Rule.TheVariants.{Threshold}
 use Rattle.measure_table.specs.Measure.{rule_fits}
 use Rattle.base_messages.specs.Messages.{out_of_range, unless, if_taken}
 use Rattle.call_day.specs.Table.{Fault}
-use Rattle.call_day.specs.Table.{Table, day, why_not_table, choose}
+use Rattle.call_day.specs.Table.{Table, table_in, day, why_not_table, choose}
 use Rattle.half_deal.specs.Dealing.{Deal, deal_from}
 use Rattle.call_dealer.specs.Dealer.{until_rule, next_dealer, out_buffer}
 use Rattle.call_dealer.specs.declared.Dealer.{Dealer}
 use Rattle.call_dealer.specs.declared.ClockAnswer.{ClockAnswer}
+use Rattle.call_dealer.specs.declared.ClockOrder.{ClockOrder}
 
 -- what is dealt by the clock
 pub record ClockDeal : Type 0 where
@@ -24,6 +25,10 @@ pub record ClockDeal : Type 0 where
 abbrev pub clock_from : ℕ → List ℕ → Terms → Table → ℕ → ClockDeal
 clock_from number seed terms table minute =
     record { number = number; seed = seed; terms = terms; table = table; minute = minute }
+
+-- the same from what code has of it
+abbrev pub clock_in : ClockOrder → ClockDeal
+clock_in o = clock_from o.number o.seed.now o.terms (table_in o.table) o.minute
 
 -- the plain deal by row i of its table, counted from 0
 abbrev pub row_deal : ClockDeal → ℕ → Deal

@@ -12,10 +12,11 @@ use Rattle.base_messages.specs.Messages.{out_of_range}
 use Rattle.base_messages.specs.Messages.{equal_keys, bad_marks, camera_party, unless, if_taken, name_fits, padded}
 use Rattle.base_messages.specs.Messages.{is_key}
 use Rattle.half_content.specs.Content.{block_bytes, block_count}
-use Rattle.half_deal.specs.Dealing.{Deal, dealt_set}
+use Rattle.half_deal.specs.Dealing.{Deal, deal_from, dealt_set}
 use Rattle.half_seal.specs.Half.{half}
 use Rattle.call_dealer.specs.declared.Dealer.{Dealer}
 use Rattle.call_dealer.specs.declared.DealerAnswer.{DealerAnswer}
+use Rattle.call_dealer.specs.declared.Order.{Order}
 
 unfoldable pub no_dealer : Dealer
 no_dealer = record { name = replicate 16 0; key0 = replicate 32 0; key1 = replicate 32 0; last = 0 }
@@ -34,6 +35,10 @@ start_dealer name key0 key1 floor =
     answered (why_not_dealer name key0 key1)
     (record { name = padded name; key0 = key0; key1 = key1; last = floor })
     no_dealer
+
+-- a deal from what code has of it
+abbrev pub deal_in : Order → Deal
+deal_in o = deal_from o.number o.seed.now o.terms o.rule
 
 -- how many bytes a half has
 unfoldable pub half_size : ℕ → ℕ

@@ -1,17 +1,16 @@
 // The dealer: deals a numbered set of masks to the two boxes as sealed halves.
 #![tactic(auto)]
 
-ghost use Rattle.std.specs.Prelude.{◌≡◌, List, ℕ, length};
+ghost use Rattle.std.specs.Prelude.{◌≡◌, length};
 ghost use Rattle.base_words.specs.List.{over};
-ghost use Rattle.half_deal.specs.Dealing.{deal_from};
-ghost use Rattle.call_dealer.specs.Dealer.{why_not_dealer, start_dealer, why_not_deal, half_for, deal as deal_of};
-ghost use Rattle.call_dealer.specs.Dealer.{deal_out};
 ghost use Rattle.base_messages.specs.Messages.{if_taken};
-ghost use Rattle.call_day.specs.Table.{table_of};
-ghost use Rattle.call_dealer.specs.Clock.{clock_from, deal_by_clock, clock_out};
-ghost use Rattle.call_dealer.specs.declared.Dealer.{Dealer};
+ghost use Rattle.base_messages.specs.Refusals.{why_of};
+ghost use Rattle.call_dealer.specs.Dealer.{why_not_dealer, start_dealer, why_not_deal, half_for, deal as deal_of};
+ghost use Rattle.call_dealer.specs.Dealer.{deal_out, deal_in};
+ghost use Rattle.call_dealer.specs.Clock.{clock_in, deal_by_clock, clock_out};
 
-use base_messages::{KEY, NAME};
+use base_messages::{KEY, NAME, Refusal};
+use call_day::{Lists, Row};
 use half_content::BLOCK;
 use measure_table::{Rule, Terms};
 
@@ -26,6 +25,7 @@ pub struct Dealer {
 }
 
 // Why a call was refused (0 if it was not), and the next state.
+// kept: the C interface; dealer_start and door_deal give it back.
 #[repr(C)]
 #[derive(Clone, Copy)]
 pub struct DealerAnswer {
@@ -35,6 +35,7 @@ pub struct DealerAnswer {
 
 // The same of a deal by the clock, and a place: the row that was used, counted from 1; with 14 to 16
 // the row or the minute that they name; else 0.
+// kept: the C interface; door_deal_by_clock gives it back.
 #[repr(C)]
 #[derive(Clone, Copy)]
 pub struct ClockAnswer {
@@ -43,15 +44,40 @@ pub struct ClockAnswer {
     pub dealer: Dealer,
 }
 
+// What is to be dealt: a set's number, what it is drawn from, and how it answers.
+#[derive(Clone, Copy)]
+pub struct Order<'a> {
+    pub number: u64,
+    pub seed: &'a [u8],
+    pub terms: Terms,
+    pub rule: Rule,
+}
+
+// The same by the clock: a table of the day and a minute stand in place of the rule.
+#[derive(Clone, Copy)]
+pub struct ClockOrder<'a> {
+    pub number: u64,
+    pub seed: &'a [u8],
+    pub terms: Terms,
+    pub table: Lists<'a>,
+    pub minute: u32,
+}
+
+// What a minute that is not of the day is dealt by. No measure takes this threshold: such a minute is
+// refused in its turn, behind all that comes before 8.
+const NOBODY: Row = Row {
+    place: 0,
+    threshold: 2147483648,
+};
+
 impl Dealer {
     // key0 is the camera box's, key1 the office box's.
     pub fn start(name: &[u8], key0: &[u8], key1: &[u8], floor: u64) -> DealerAnswer
         ensures { result ≡ start_dealer name.now key0.now key1.now floor }
     {
-        let why = why_not_start(name, key0, key1);
-        if why != 0 {
+        if let Err(refusal) = why_not_start(name, key0, key1) {
             return DealerAnswer {
-                why,
+                why: refusal.number(),
                 dealer: Dealer {
                     name: [0; NAME],
                     key0: [0; KEY],
@@ -61,7 +87,7 @@ impl Dealer {
             };
         }
         DealerAnswer {
-            why,
+            why: 0,
             dealer: Dealer {
                 name: base_messages::padded(name),
                 key0: base_slices::bytes_32(key0),
@@ -73,88 +99,98 @@ impl Dealer {
 
     // Deals a set that answers by a threshold, or between two marks. Party 0's half is written to out0,
     // party 1's to out1.
-    pub fn deal(
-        self,
-        number: u64,
-        seed: &[u8],
-        terms: Terms,
-        rule: Rule,
-        out0: &mut [u8],
-        out1: &mut [u8],
-    ) -> DealerAnswer
-        ensures value { result ≡ deal_of self (deal_from number seed.now terms rule)
-            (length out0.old) (length out1.old) }
-        ensures out0_after { out0.new ≡ deal_out self (deal_from number seed.now terms rule)
-            out0.old out1.old 0 }
-        ensures out1_after { out1.new ≡ deal_out self (deal_from number seed.now terms rule)
-            out0.old out1.old 1 }
+    pub fn deal(self, order: Order, out0: &mut [u8], out1: &mut [u8]) -> DealerAnswer
+        ensures value { result ≡ deal_of self (deal_in order.entry) (length out0.old) (length out1.old) }
+        ensures out0_after { out0.new ≡ deal_out self (deal_in order.entry) out0.old out1.old 0 }
+        ensures out1_after { out1.new ≡ deal_out self (deal_in order.entry) out0.old out1.old 1 }
     {
-        let why = why_not_deal(
-            self.last,
-            number,
-            seed.len(),
-            terms,
-            rule,
-            out0.len(),
-            out1.len(),
-        );
-        if why != 0 {
-            return DealerAnswer { why, dealer: self };
+        if let Err(refusal) = self.why_not_deal(order, out0.len(), out1.len()) {
+            return DealerAnswer {
+                why: refusal.number(),
+                dealer: self,
+            };
         }
-        write_halves(self, number, seed, terms, rule, out0, out1);
-        let name = self.name;
-        let key0 = self.key0;
-        let key1 = self.key1;
+        self.write_halves(order, out0, out1);
         DealerAnswer {
-            why,
+            why: 0,
             dealer: Dealer {
-                name,
-                key0,
-                key1,
-                last: number,
+                last: order.number,
+                ..self
             },
         }
     }
 
     // Deals by the threshold of the table's row in which the minute lies.
-    pub fn deal_by_clock(
-        self,
-        number: u64,
-        seed: &[u8],
-        terms: Terms,
-        firsts: &[u32],
-        lasts: &[u32],
-        thresholds: &[u32],
-        minute: u32,
-        out0: &mut [u8],
-        out1: &mut [u8],
-    ) -> ClockAnswer
-        ensures value { result ≡ deal_by_clock self (clock_from number seed.now terms
-            (table_of firsts.now lasts.now thresholds.now) minute)
-            (length out0.old) (length out1.old) }
-        ensures out0_after { out0.new ≡ clock_out self (clock_from number seed.now terms
-            (table_of firsts.now lasts.now thresholds.now) minute)
-            out0.old out1.old 0 }
-        ensures out1_after { out1.new ≡ clock_out self (clock_from number seed.now terms
-            (table_of firsts.now lasts.now thresholds.now) minute)
-            out0.old out1.old 1 }
+    pub fn deal_by_clock(self, order: ClockOrder, out0: &mut [u8], out1: &mut [u8]) -> ClockAnswer
+        ensures value { result ≡ deal_by_clock self (clock_in order.entry) (length out0.old) (length out1.old) }
+        ensures out0_after { out0.new ≡ clock_out self (clock_in order.entry) out0.old out1.old 0 }
+        ensures out1_after { out1.new ≡ clock_out self (clock_in order.entry) out0.old out1.old 1 }
     {
-        let chosen = call_day::choose(firsts, lasts, thresholds, minute);
-        if chosen.why != 0 {
-            return ClockAnswer {
-                why: chosen.why,
-                place: chosen.place,
-                dealer: self,
-            };
-        }
-        let rule = Rule::Threshold(chosen.threshold);
-        let a = self.deal(number, seed, terms, rule, out0, out1);
-        let dealer = a.dealer;
+        let chosen = match call_day::choose(order.table, order.minute) {
+            Ok(chosen) => chosen,
+            Err(bad) => {
+                return ClockAnswer {
+                    why: bad.why.number(),
+                    place: bad.place,
+                    dealer: self,
+                };
+            }
+        };
+        let row = chosen.unwrap_or(NOBODY);
+        let plain = Order {
+            number: order.number,
+            seed: order.seed,
+            terms: order.terms,
+            rule: Rule::Threshold(row.threshold),
+        };
+        let a = self.deal(plain, out0, out1);
         ClockAnswer {
             why: a.why,
-            place: place_told(a.why, chosen.place),
-            dealer,
+            place: place_told(a.why, row.place),
+            dealer: a.dealer,
         }
+    }
+
+    // The length is tested before blocks are counted: any can be handed in.
+    fn why_not_deal(self, order: Order, room0: usize, room1: usize) -> Result<(), Refusal>
+        ensures { why_of result ≡ why_not_deal self (deal_in order.entry) room0 room1 }
+    {
+        let terms = order.terms;
+        if !measure_table::is_code(terms.code) {
+            return Err(Refusal::BadPartyOrCode);
+        }
+        let long = order.seed.len();
+        if !((long == KEY) & measure_table::length_fits(terms)) {
+            return Err(Refusal::WrongLength);
+        }
+        let size = BLOCK * half_content::blocks_of(terms.n as u16);
+        if !((size <= room0) & (size <= room1)) {
+            return Err(Refusal::ShortBuffer);
+        }
+        let last = self.last;
+        let number = order.number;
+        if !(last < number) {
+            return Err(Refusal::WrongNumber);
+        }
+        if !measure_table::rule_fits(terms, order.rule) {
+            return Err(Refusal::OutOfRange);
+        }
+        if !measure_table::in_order(order.rule) {
+            return Err(Refusal::BadMarks);
+        }
+        Ok(())
+    }
+
+    // Both halves of an accepted deal, from the starts of the two buffers.
+    fn write_halves(self, order: Order, out0: &mut [u8], out1: &mut [u8])
+        requires { why_not_deal self (deal_in order) (length out0.old) (length out1.old) ≡ 0 }
+        ensures out0_after { out0.new ≡ over 0 (half_for self (deal_in order.entry) 0) out0.old }
+        ensures out1_after { out1.new ≡ over 0 (half_for self (deal_in order.entry) 1) out1.old }
+    {
+        let seed = base_slices::bytes_32(order.seed);
+        let dealt = half_deal::sets(&seed, order.number, order.terms, order.rule);
+        half_seal::write_half(&self.key0, self.name, 0, dealt.camera, out0);
+        half_seal::write_half(&self.key1, self.name, 1, dealt.office, out1);
     }
 }
 
@@ -168,78 +204,17 @@ fn place_told(why: u32, place: u32) -> u32
     place
 }
 
-fn why_not_start(name: &[u8], key0: &[u8], key1: &[u8]) -> u32
-    ensures { result ≡ why_not_dealer name.now key0.now key1.now }
+fn why_not_start(name: &[u8], key0: &[u8], key1: &[u8]) -> Result<(), Refusal>
+    ensures { why_of result ≡ why_not_dealer name.now key0.now key1.now }
 {
     if !base_messages::name_fits(name) {
-        return base_messages::BAD_NAME;
+        return Err(Refusal::BadName);
     }
     if !((key0.len() == KEY) & (key1.len() == KEY)) {
-        return base_messages::WRONG_LENGTH;
+        return Err(Refusal::WrongLength);
     }
     if base_slices::equal(key0, key1) {
-        return base_messages::EQUAL_KEYS;
+        return Err(Refusal::EqualKeys);
     }
-    0
-}
-
-// The length is tested before blocks are counted: any can be handed in. `long` is the seed's.
-fn why_not_deal(
-    last: u64,
-    number: u64,
-    long: usize,
-    terms: Terms,
-    rule: Rule,
-    room0: usize,
-    room1: usize,
-) -> u32
-    ensures { (s : Dealer) (seed : List ℕ) → s.last ≡ last → length seed ≡ long
-        → result ≡ why_not_deal s (deal_from number seed terms rule) room0 room1 }
-{
-    if !measure_table::is_code(terms.code) {
-        return base_messages::BAD_PARTY_OR_CODE;
-    }
-    if !((long == KEY) & measure_table::length_fits(terms)) {
-        return base_messages::WRONG_LENGTH;
-    }
-    let size = BLOCK * half_content::blocks_of(terms.n as u16);
-    if !((size <= room0) & (size <= room1)) {
-        return base_messages::SHORT_BUFFER;
-    }
-    if !(last < number) {
-        return base_messages::WRONG_NUMBER;
-    }
-    if !measure_table::rule_fits(terms, rule) {
-        return base_messages::OUT_OF_RANGE;
-    }
-    if !measure_table::in_order(rule) {
-        return base_messages::BAD_MARKS;
-    }
-    0
-}
-
-// Both halves of an accepted deal, from the starts of the two buffers.
-fn write_halves(
-    dealer: Dealer,
-    number: u64,
-    seed: &[u8],
-    terms: Terms,
-    rule: Rule,
-    out0: &mut [u8],
-    out1: &mut [u8],
-)
-    requires { why_not_deal dealer (deal_from number seed.now terms rule)
-        (length out0.old) (length out1.old) ≡ 0 }
-    ensures out0_after { out0.new
-        ≡ over 0 (half_for dealer (deal_from number seed.now terms rule) 0) out0.old }
-    ensures out1_after { out1.new
-        ≡ over 0 (half_for dealer (deal_from number seed.now terms rule) 1) out1.old }
-{
-    let seed = base_slices::bytes_32(seed);
-    let dealt = half_deal::sets(&seed, number, terms, rule);
-    let name = dealer.name;
-    let key0 = dealer.key0;
-    let key1 = dealer.key1;
-    half_seal::write_half(&key0, name, 0, dealt.camera, out0);
-    half_seal::write_half(&key1, name, 1, dealt.office, out1);
+    Ok(())
 }

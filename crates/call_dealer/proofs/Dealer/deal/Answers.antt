@@ -1,29 +1,27 @@
-use mathlib.Core.Path.{refl}
-use Rattle.half_deal.specs.Dealing.{deal_from}
-use Rattle.call_dealer.proofs.Laws.{none, deal_refused, dealt}
+use mathlib.Core.Path.{refl, sym, ◌∙◌}
+use Rattle.base_messages.specs.Refusals.{not_0}
+use Rattle.call_dealer.specs.Dealer.{deal_in}
+use Rattle.call_dealer.proofs.Laws.{deal_refused, dealt}
 use Rattle.call_dealer.proofs.Dealer.deal.Goals as goal
 
 -- It is refused: the state is as it was,
 -- and so are both buffers.
-pub returns-then-why-ne0 : goal.returns-then-why-ne0
-returns-then-why-ne0 c =
+pub returns-in-Err : goal.returns-in-Err
+returns-in-Err c =
     let a = c.args in
-    let d = deal_from a.number a.seed.now a.terms a.rule in
-    let why = c.why_not_deal-why.ensures a.self a.seed.now refl refl in
-    let r = deal_refused a.self d a.out0.now a.out1.now _ why c.if-why-ne0.true in
+    let r =
+    deal_refused a.self (deal_in a.order) a.out0.now a.out1.now _ (c.number.ensures ∙ c.in-Err.ensures)
+    (λ z. not_0 c.in-Err.refusal (sym c.number.ensures ∙ z)) in
     record { value = r.0; out0_after = r.1.0; out1_after = r.1.1 }
 
 pub write_halves-requires : goal.write_halves-requires
-write_halves-requires c =
-    none (c.why_not_deal-why.ensures c.args.self c.args.seed.now refl refl)
-    c.if-why-ne0.false
+write_halves-requires c = sym c.in_default.ensures
 
 pub returns : goal.returns
 returns c =
     let a = c.args in
-    let d = deal_from a.number a.seed.now a.terms a.rule in
-    let why = c.why_not_deal-why.ensures a.self a.seed.now refl refl in
     let written = c.write_halves.ensures in
     let r =
-    dealt a.self d a.out0.now a.out1.now _ why _ _ c.if-why-ne0.false written.out0_after written.out1_after in
+    dealt a.self (deal_in a.order) a.out0.now a.out1.now _ c.in_default.ensures _ _ refl
+    written.out0_after written.out1_after in
     record { value = r.0; out0_after = r.1.0; out1_after = r.1.1 }
