@@ -1,6 +1,7 @@
 // Every call of dealer, box and lock, those on iris codes, and the margin, for the hosts: c_door_c has them
 // as C functions. A state is handed over and comes back by value, but for a trial's, which does not come
 // back. No function asks anything of its caller.
+// kept: the C interface; a deal, a table and a message come in parts, and each is put together here.
 #![tactic(auto)]
 
 ghost use Rattle.std.specs.Prelude.{◌≡◌, length};
@@ -15,8 +16,9 @@ ghost use Rattle.measure_iris.specs.Iris.{why_not_code, why_not_vector, buffer_a
 ghost use Rattle.measure_margin.specs.Margin.{Answered};
 
 use base_messages::Label;
-use call_dealer::{ClockAnswer, Dealer, DealerAnswer};
-use call_lock::{Lock, LockAnswer};
+use call_day::Lists;
+use call_dealer::{ClockAnswer, ClockOrder, Dealer, DealerAnswer, Order};
+use call_lock::{Answer, Lock, LockAnswer};
 use call_party::{Party, PartyAnswer, TrialAnswer};
 use measure_iris::HammingAnswer;
 use measure_margin::MarginAnswer;
@@ -46,7 +48,13 @@ pub fn door_deal(
     ensures out1_after { out1.new ≡ deal_out dealer (deal_from number seed.now terms (Rule.Threshold t))
         out0.old out1.old 1 }
 {
-    dealer.deal(number, seed, terms, Rule::Threshold(t), out0, out1)
+    let by_threshold = Order {
+        number,
+        seed,
+        terms,
+        rule: Rule::Threshold(t),
+    };
+    dealer.deal(by_threshold, out0, out1)
 }
 
 // The same for a set that answers yes from p to q.
@@ -67,7 +75,13 @@ pub fn door_deal_between(
     ensures out1_after { out1.new ≡ deal_out dealer (deal_from number seed.now terms (Rule.Between p q))
         out0.old out1.old 1 }
 {
-    dealer.deal(number, seed, terms, Rule::Between(p, q), out0, out1)
+    let between = Order {
+        number,
+        seed,
+        terms,
+        rule: Rule::Between(p, q),
+    };
+    dealer.deal(between, out0, out1)
 }
 
 // The same by the clock: the threshold is that of the table's row in which the minute lies.
@@ -93,9 +107,18 @@ pub fn door_deal_by_clock(
         (table_of firsts.now lasts.now thresholds.now) minute)
         out0.old out1.old 1 }
 {
-    dealer.deal_by_clock(
-        number, seed, terms, firsts, lasts, thresholds, minute, out0, out1,
-    )
+    let by_clock = ClockOrder {
+        number,
+        seed,
+        terms,
+        table: Lists {
+            firsts,
+            lasts,
+            thresholds,
+        },
+        minute,
+    };
+    dealer.deal_by_clock(by_clock, out0, out1)
 }
 
 // Party 0 is the camera box, party 1 the office box.
@@ -205,20 +228,24 @@ pub fn door_join(
         answer0 (record { kind = kind1; sender = sender1; number = number1 }) name1.now answer1 }
 {
     lock.join(
-        Label {
-            kind: kind0,
-            sender: sender0,
-            number: number0,
+        Answer {
+            label: Label {
+                kind: kind0,
+                sender: sender0,
+                number: number0,
+            },
+            name: name0,
+            answer: answer0,
         },
-        name0,
-        answer0,
-        Label {
-            kind: kind1,
-            sender: sender1,
-            number: number1,
+        Answer {
+            label: Label {
+                kind: kind1,
+                sender: sender1,
+                number: number1,
+            },
+            name: name1,
+            answer: answer1,
         },
-        name1,
-        answer1,
     )
 }
 

@@ -25,7 +25,7 @@ pub struct Dealer {
 }
 
 // Why a call was refused (0 if it was not), and the next state.
-// kept: the C interface; dealer_start and door_deal give it back.
+// kept: the C interface; door_start_dealer and door_deal give it back.
 #[repr(C)]
 #[derive(Clone, Copy)]
 pub struct DealerAnswer {

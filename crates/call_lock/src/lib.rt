@@ -17,7 +17,7 @@ pub struct Lock {
 }
 
 // Why a call was refused (0 if it was not), the next state, and what a join reports.
-// kept: the C interface; lock_start and door_join give it back.
+// kept: the C interface; door_start_lock and door_join give it back.
 #[repr(C)]
 #[derive(Clone, Copy)]
 pub struct LockAnswer {

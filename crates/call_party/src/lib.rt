@@ -57,7 +57,7 @@ pub struct Party {
 }
 
 // Why a call was refused (0 if it was not), the next state, and the word or answer that is sent.
-// kept: the C interface; box_start to box_drop give it back.
+// kept: the C interface; door_start_party to door_drop give it back.
 #[repr(C)]
 #[derive(Clone, Copy)]
 pub struct PartyAnswer {
@@ -68,7 +68,7 @@ pub struct PartyAnswer {
 
 // What a trial says: why a load would be refused (0 if it would not), and of a half that it would take
 // the door's name, and measure code and L, as they stand in the half. Else these are zero.
-// kept: the C interface; box_trial gives it back.
+// kept: the C interface; door_trial gives it back.
 #[repr(C)]
 #[derive(Clone, Copy)]
 pub struct TrialAnswer {

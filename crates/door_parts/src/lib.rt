@@ -4,19 +4,17 @@
 #![tactic(auto)]
 
 ghost use Rattle.std.specs.Prelude.{◌≡◌};
-ghost use Rattle.half_deal.specs.Dealing.{deal_from};
-ghost use Rattle.call_day.specs.Table.{table_of};
-ghost use Rattle.call_dealer.specs.Dealer.{deal_out};
-ghost use Rattle.call_dealer.specs.Clock.{clock_from, clock_out};
+ghost use Rattle.call_dealer.specs.Dealer.{deal_in, deal_out};
+ghost use Rattle.call_dealer.specs.Clock.{clock_in, clock_out};
 ghost use Rattle.call_party.specs.Party.{mask_out};
 ghost use Rattle.door_lists.specs.Lists.{deal, load, mask, take, finish, drop, join};
 ghost use Rattle.door_parts.specs.Door.{box_of, boxes, with_box, box_answer, call, clock_call, trial_call};
 
 use base_messages::{Label, NAME};
-use call_dealer::Dealer;
-use call_lock::Lock;
+use call_dealer::{ClockOrder, Dealer, Order};
+use call_lock::{Answer, Lock};
 use call_party::{Party, PartyAnswer};
-use measure_table::{Rule, Terms};
+use measure_table::Terms;
 
 // Which box is called.
 #[derive(Clone, Copy)]
@@ -75,89 +73,60 @@ impl Door {
     fn with(self, side: Side, party: Party) -> Door
         ensures { result ≡ with_box self side party }
     {
-        let mut next = self;
         match side {
-            Side::Camera => next.camera = party,
-            Side::Office => next.office = party,
+            Side::Camera => Door {
+                camera: party,
+                ..self
+            },
+            Side::Office => Door {
+                office: party,
+                ..self
+            },
         }
-        next
     }
 
     // What the door answers where a box answers `a`.
     fn on_box(self, side: Side, a: PartyAnswer) -> DoorAnswer
         ensures { result ≡ box_answer self side a }
     {
-        let party = a.party;
         DoorAnswer {
             why: a.why,
             word: a.word,
-            door: self.with(side, party),
+            door: self.with(side, a.party),
         }
     }
 
     // By a threshold, or between two marks. Party 0's half is written to out0, party 1's to out1.
-    pub fn deal(
-        self,
-        number: u64,
-        seed: &[u8],
-        terms: Terms,
-        rule: Rule,
-        out0: &mut [u8],
-        out1: &mut [u8],
-    ) -> DoorAnswer
-        ensures value { result ≡ call self
-            (deal (deal_from number seed.now terms rule) out0.old out1.old) }
-        ensures out0_after { out0.new ≡ deal_out self.dealer (deal_from number seed.now terms rule)
-            out0.old out1.old 0 }
-        ensures out1_after { out1.new ≡ deal_out self.dealer (deal_from number seed.now terms rule)
-            out0.old out1.old 1 }
+    pub fn deal(self, order: Order, out0: &mut [u8], out1: &mut [u8]) -> DoorAnswer
+        ensures value { result ≡ call self (deal (deal_in order.entry) out0.old out1.old) }
+        ensures out0_after { out0.new ≡ deal_out self.dealer (deal_in order.entry) out0.old out1.old 0 }
+        ensures out1_after { out1.new ≡ deal_out self.dealer (deal_in order.entry) out0.old out1.old 1 }
     {
-        let dealer = self.dealer;
-        let a = dealer.deal(number, seed, terms, rule, out0, out1);
-        let next = a.dealer;
-        let mut door = self;
-        door.dealer = next;
+        let a = self.dealer.deal(order, out0, out1);
         DoorAnswer {
             why: a.why,
             word: 0,
-            door,
+            door: Door {
+                dealer: a.dealer,
+                ..self
+            },
         }
     }
 
     // By the threshold of the table's row in which the minute lies.
-    pub fn deal_by_clock(
-        self,
-        number: u64,
-        seed: &[u8],
-        terms: Terms,
-        firsts: &[u32],
-        lasts: &[u32],
-        thresholds: &[u32],
-        minute: u32,
-        out0: &mut [u8],
-        out1: &mut [u8],
-    ) -> PlacedAnswer
-        ensures value { result ≡ clock_call self (clock_from number seed.now terms
-            (table_of firsts.now lasts.now thresholds.now) minute)
-            out0.old out1.old }
-        ensures out0_after { out0.new ≡ clock_out self.dealer (clock_from number seed.now terms
-            (table_of firsts.now lasts.now thresholds.now) minute)
-            out0.old out1.old 0 }
-        ensures out1_after { out1.new ≡ clock_out self.dealer (clock_from number seed.now terms
-            (table_of firsts.now lasts.now thresholds.now) minute)
-            out0.old out1.old 1 }
+    pub fn deal_by_clock(self, order: ClockOrder, out0: &mut [u8], out1: &mut [u8]) -> PlacedAnswer
+        ensures value { result ≡ clock_call self (clock_in order.entry) out0.old out1.old }
+        ensures out0_after { out0.new ≡ clock_out self.dealer (clock_in order.entry) out0.old out1.old 0 }
+        ensures out1_after { out1.new ≡ clock_out self.dealer (clock_in order.entry) out0.old out1.old 1 }
     {
-        let dealer = self.dealer;
-        let a = dealer.deal_by_clock(
-            number, seed, terms, firsts, lasts, thresholds, minute, out0, out1,
-        );
-        let dealt = a.dealer;
-        let mut door = self;
-        door.dealer = dealt;
+        let dealt = self.dealer.deal_by_clock(order, out0, out1);
         PlacedAnswer {
-            why: a.why,
-            place: a.place,
-            door,
+            why: dealt.why,
+            place: dealt.place,
+            door: Door {
+                dealer: dealt.dealer,
+                ..self
+            },
         }
     }
 
@@ -175,12 +144,10 @@ impl Door {
     {
         let party = self.at(side);
         let a = party.trial(half);
-        let name = a.name;
-        let terms = a.terms;
         TriedAnswer {
             why: a.why,
-            name,
-            terms,
+            name: a.name,
+            terms: a.terms,
             door: self,
         }
     }
@@ -220,29 +187,19 @@ impl Door {
         self.on_box(side, party.drop())
     }
 
-    // Party 0's answer comes first.
-    pub fn join(
-        self,
-        label0: Label,
-        name0: &[u8],
-        answer0: u32,
-        label1: Label,
-        name1: &[u8],
-        answer1: u32,
-    ) -> DoorAnswer
-        ensures { result ≡ call self
-            (join (record { label = label0; name = name0.now; content = answer0 })
-            (record { label = label1; name = name1.now; content = answer1 })) }
+    pub fn join(self, camera: Answer, office: Answer) -> DoorAnswer
+        ensures { result ≡ call self (join
+            (record { label = camera.entry.label; name = camera.entry.name.now; content = camera.entry.answer })
+            (record { label = office.entry.label; name = office.entry.name.now; content = office.entry.answer })) }
     {
-        let lock = self.lock;
-        let a = lock.join(label0, name0, answer0, label1, name1, answer1);
-        let next = a.lock;
-        let mut door = self;
-        door.lock = next;
+        let a = self.lock.join(camera, office);
         DoorAnswer {
             why: a.why,
             word: a.bit,
-            door,
+            door: Door {
+                lock: a.lock,
+                ..self
+            },
         }
     }
 }

@@ -1,4 +1,5 @@
 // The row of a minute in a table of the day, or why the table is turned down.
+use call_day::Lists;
 use test_script::{Line, Output};
 
 // The most words of a list.
@@ -10,13 +11,15 @@ pub fn choose(line: Line<'_>, out: &mut Output) -> Option<()> {
     let mut firsts: [u32; LIST] = test_script::zeros();
     let mut lasts: [u32; LIST] = test_script::zeros();
     let mut thresholds: [u32; LIST] = test_script::zeros();
-    let c = call_day::choose(
-        line.vector(1, &mut firsts)?,
-        line.vector(2, &mut lasts)?,
-        line.vector(3, &mut thresholds)?,
-        line.word(4)?,
-    );
-    let told = (c.why == 0) & (0 < c.place);
-    out.put_numbers(&[c.why, c.place, if told { c.threshold } else { 0 }]);
+    let table = Lists {
+        firsts: line.vector(1, &mut firsts)?,
+        lasts: line.vector(2, &mut lasts)?,
+        thresholds: line.vector(3, &mut thresholds)?,
+    };
+    out.put_numbers(&match call_day::choose(table, line.word(4)?) {
+        Ok(Some(row)) => [0, row.place, row.threshold],
+        Ok(None) => [0; 3],
+        Err(bad) => [bad.why.number(), bad.place, 0],
+    });
     Some(())
 }

@@ -1,5 +1,8 @@
 // The calls of a door's list, each by the door's own.
 use base_messages::Label;
+use call_day::Lists;
+use call_dealer::{ClockOrder, Order};
+use call_lock::Answer;
 use door_parts::{Door, DoorAnswer, PlacedAnswer, Side};
 use measure_table::{Rule, Terms};
 use test_replay_lines::lines::Line;
@@ -62,13 +65,15 @@ pub fn deal(door: Door, b: &mut [u8; BYTES], l: Line) -> DoorAnswer {
     let mut out0 = no_half();
     let mut out1 = no_half();
     let a = door.deal(
-        l.f1,
-        memory::first(b, 2, l.f2),
-        Terms {
-            code: memory::low(l.f3),
-            n: memory::size(l.f4),
+        Order {
+            number: l.f1,
+            seed: memory::first(b, 2, l.f2),
+            terms: Terms {
+                code: memory::low(l.f3),
+                n: memory::size(l.f4),
+            },
+            rule: rule(l),
         },
-        rule(l),
         test_script::first_mut(&mut out0, memory::size(l.f6)),
         test_script::first_mut(&mut out1, memory::size(l.f7)),
     );
@@ -93,16 +98,20 @@ fn by_clock(
     let lasts = vector(b, 6);
     let thresholds = vector(b, 7);
     door.deal_by_clock(
-        l.f1,
-        memory::first(b, 2, l.f2),
-        Terms {
-            code: memory::low(l.f3),
-            n: memory::size(l.f4),
+        ClockOrder {
+            number: l.f1,
+            seed: memory::first(b, 2, l.f2),
+            terms: Terms {
+                code: memory::low(l.f3),
+                n: memory::size(l.f4),
+            },
+            table: Lists {
+                firsts: list(&firsts, l.f5),
+                lasts: list(&lasts, l.f6),
+                thresholds: list(&thresholds, l.f7),
+            },
+            minute: memory::low(l.f8),
         },
-        list(&firsts, l.f5),
-        list(&lasts, l.f6),
-        list(&thresholds, l.f7),
-        memory::low(l.f8),
         out0,
         out1,
     )
@@ -200,11 +209,15 @@ pub fn drop(door: Door, l: Line) -> DoorAnswer {
 // join KIND0 NAME0 SENDER0 NUMBER0 ANSWER0 KIND1 NAME1 SENDER1 NUMBER1 ANSWER1
 pub fn join(door: Door, b: &[u8; BYTES], l: Line) -> DoorAnswer {
     door.join(
-        label(l.f1, l.f3, l.f4),
-        memory::first(b, 2, l.f2),
-        memory::low(l.f5),
-        label(l.f6, l.f8, l.f9),
-        memory::first(b, 7, l.f7),
-        memory::low(l.f10),
+        Answer {
+            label: label(l.f1, l.f3, l.f4),
+            name: memory::first(b, 2, l.f2),
+            answer: memory::low(l.f5),
+        },
+        Answer {
+            label: label(l.f6, l.f8, l.f9),
+            name: memory::first(b, 7, l.f7),
+            answer: memory::low(l.f10),
+        },
     )
 }

@@ -21,7 +21,8 @@ on-padded name last l0 name0 answer0 l1 name1 answer1 h ep er =
     (ep ∙ padded_whole name h) ∙ on_lock_lem name last l0 name0 answer0 l1 name1 answer1 h
 
 pub returns-then-name-ne-NAME : goal.returns-then-name-ne-NAME
-returns-then-name-ne-NAME c = off_lock _ _ _ _ _ _ _ _ c.if-name-ne-NAME.true
+returns-then-name-ne-NAME c =
+    rw c.number.ensures (off_lock _ _ _ _ _ _ _ _ c.if-name-ne-NAME.true)
 
 pub returns : goal.returns
 returns c = on-padded _ _ _ _ _ _ _ _ c.if-name-ne-NAME.false c.padded.ensures c.join.ensures
