@@ -69,9 +69,10 @@ pub fn keys_to(key: &[u8; 32], a: u32, b: u32, count: usize) -> [u8; 512]
 }
 
 // Key i of such keys.
-// kept: (a) bytes, not an array of keys: `KeysTo` is over bytes, and so is half_seal's `KeysFor`.
-pub fn key_at(keys: &[u8; 512], i: usize) -> [u8; 32]
-    requires { i < 16 }
+// kept: (a) bytes, not an array of keys: `KeysTo` is over bytes, and so is half_seal's `KeysFor`; and a slice, since
+// an array of 512 would ask more of callers.
+pub fn key_at(keys: &[u8], i: usize) -> [u8; 32]
+    requires { (i < 16) × (32 * i + 32 ≤ length keys.now) }
     ensures { result ≡ take 32 (drop (32 * i) keys.now) }
 {
     base_slices::bytes_32(&keys[32 * i..32 * i + 32])
