@@ -1,5 +1,5 @@
 use mathlib.Core.Path.{◌≡◌}
-use Prim.Native.Nat.{◌*◌, ◌-◌, ◌≤◌}
+use Prim.Native.Nat.{◌*◌}
 use lib.ListN.{length}
 use Rattle.base_words.specs.List.{over, tab}
 use lib.ListN.{get_or}
@@ -8,9 +8,5 @@ use Rattle.measure_iris.proofs.gather.Given as goal
 
 abbrev pub invariant-loop-j : goal.invariant-loop-j
 invariant-loop-j l =
-    (l.j ≤ 64)
-    × (l.out ≡ over 0 (tab (λ m. from_bits (λ i. get_or l.v i 0) (8 * m) 8) l.j) l.initial.out)
+    (l.out ≡ over 0 (tab (λ m. from_bits (λ i. get_or l.v i 0) (8 * m) 8) l.j) l.initial.out)
     × (length l.out ≡ length l.initial.out)
-
-abbrev pub decreases-loop-j : goal.decreases-loop-j
-decreases-loop-j l = 64 - l.j

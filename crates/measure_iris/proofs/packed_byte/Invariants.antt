@@ -1,11 +1,8 @@
 use mathlib.Core.Path.{◌≡◌}
-use Prim.Native.Nat.{◌+◌, ◌*◌, ◌-◌, ◌<◌, ◌≤◌}
+use Prim.Native.Nat.{◌+◌, ◌*◌, ◌-◌, ◌<◌}
 use lib.ListN.{get_or}
 use Rattle.measure_iris.specs.Iris.{from_bits}
 use Rattle.measure_iris.proofs.packed_byte.Given as goal
 
 abbrev pub invariant-loop-k : goal.invariant-loop-k
-invariant-loop-k l = (l.k ≤ 8) × (l.byte ≡ from_bits (λ i. get_or l.v i 0) (8 * l.j + l.k) (8 - l.k)) × (l.byte < 256)
-
-abbrev pub decreases-loop-k : goal.decreases-loop-k
-decreases-loop-k l = l.k
+invariant-loop-k l = (l.byte ≡ from_bits (λ i. get_or l.v i 0) (8 * l.j + l.k) (8 - l.k)) × (l.byte < 256)

@@ -1,5 +1,4 @@
 use mathlib.Core.Path.{◌≡◌}
-use Prim.Native.Nat.{◌-◌, ◌≤◌}
 use lib.ListN.{length}
 use Rattle.base_words.specs.List.{over, tab}
 use Rattle.measure_iris.specs.Iris.{bit}
@@ -7,9 +6,5 @@ use Rattle.measure_iris.proofs.spread.Given as goal
 
 abbrev pub invariant-loop-i : goal.invariant-loop-i
 invariant-loop-i l =
-    (l.i ≤ 512)
-    × (l.out ≡ over 0 (tab (bit l.code) l.i) l.initial.out)
+    (l.out ≡ over 0 (tab (bit l.code) l.i) l.initial.out)
     × (length l.out ≡ length l.initial.out)
-
-abbrev pub decreases-loop-i : goal.decreases-loop-i
-decreases-loop-i l = 512 - l.i

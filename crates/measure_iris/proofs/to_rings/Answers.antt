@@ -2,6 +2,6 @@ use Rattle.measure_iris.specs.Iris.{to_rings}
 use Rattle.measure_iris.specs.Laws.{place_for}
 use Rattle.measure_iris.proofs.to_rings.Goals as goal
 
-pub returns : goal.returns
+pub returns-clause-out_after : goal.returns-clause-out_after
 unfolding to_rings place_for
-returns c = c.rearrange.ensures
+returns-clause-out_after c = c.rearrange.ensures.out_after
