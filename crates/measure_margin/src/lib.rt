@@ -6,17 +6,19 @@
 
 ghost use Rattle.std.specs.Prelude.{◌≡◌, ℕ, ◌≤◌, nat_abs, length};
 ghost use Rattle.base_algebra.specs.Word.{signed};
+ghost use Rattle.base_messages.specs.Refusals.{why_of};
 ghost use Rattle.measure_table.specs.Measure.{element};
 ghost use Rattle.measure_margin.specs.Margin.{absolute_sum, why_not_margin, Answered};
 ghost use Rattle.measure_margin.specs.Claims.{quotient as quotient_of};
 
-use base_messages::{OUT_OF_RANGE, WRONG_LENGTH};
+use base_messages::Refusal;
 use measure_table::Terms;
 
 // The most that is told: two elements in range are at most so far apart.
 pub const MOST_MARGIN: u32 = 2047;
 
 // The code of the scalar product in the table of measures.
+// kept: the C interface: a code is a number in `Terms`.
 const SCALAR: u32 = 0;
 
 // The lowest word that stands for a negative number, 2^31, and the highest, which is -1.
@@ -26,6 +28,7 @@ const MINUS_1: u32 = 4294967295;
 
 // Why not, as 01's number, or 0; the answer for X, 1 if T is reached; and the margin. Both are 0 where
 // the call is refused.
+// kept: the C interface.
 #[repr(C)]
 #[derive(Clone, Copy)]
 pub struct MarginAnswer {
@@ -38,7 +41,7 @@ pub struct MarginAnswer {
 fn magnitude(w: u32) -> u32
     ensures { result ≡ nat_abs (signed w) }
 {
-    if w < LOWEST { w } else { base_words::sub(0, w) }
+    w.cast_signed().unsigned_abs()
 }
 
 // The sum of the absolute elements of a vector in range: at most 512 times 1024.
@@ -47,10 +50,8 @@ fn absolute_sum(y: &[u32]) -> u32
     ensures { result ≡ absolute_sum y.now }
 {
     let mut total: u32 = 0;
-    let mut i: usize = 0;
-    while i < y.len() {
-        total += magnitude(y[i]);
-        i += 1;
+    for w in y {
+        total += magnitude(*w);
     }
     total
 }
@@ -62,14 +63,13 @@ fn quotient(g: u32, s: u32) -> u32
     if s == 0 {
         return MOST_MARGIN;
     }
-    let e = g / s;
-    if e < MOST_MARGIN { e } else { MOST_MARGIN }
+    MOST_MARGIN.min(g / s)
 }
 
 // Why not: the lengths, then the elements and the threshold. Of vectors of a wrong length the elements
 // are not looked at.
-fn why_not(x: &[u32], y: &[u32], t: u32) -> u32
-    ensures { result ≡ why_not_margin x.now y.now t }
+fn why_not(x: &[u32], y: &[u32], t: u32) -> Result<(), Refusal>
+    ensures { why_of result ≡ why_not_margin x.now y.now t }
 {
     let terms = Terms {
         code: SCALAR,
@@ -77,14 +77,14 @@ fn why_not(x: &[u32], y: &[u32], t: u32) -> u32
     };
     let long = measure_table::length_fits(terms) & (y.len() == x.len());
     if !long {
-        return WRONG_LENGTH;
+        return Err(Refusal::WrongLength);
     }
     let ranges = measure_table::all_in_range(terms, x)
         & (measure_table::all_in_range(terms, y) & measure_table::threshold_fits(terms, t));
     if !ranges {
-        return OUT_OF_RANGE;
+        return Err(Refusal::OutOfRange);
     }
-    0
+    Ok(())
 }
 
 // The product less T is a word, `over`, whose sign is the answer. How far it may move before it has the
@@ -92,10 +92,9 @@ fn why_not(x: &[u32], y: &[u32], t: u32) -> u32
 pub fn margin(x: &[u32], y: &[u32], t: u32) -> MarginAnswer
     ensures { Answered x.now y.now t result }
 {
-    let why = why_not(x, y, t);
-    if why != 0 {
+    if let Err(refusal) = why_not(x, y, t) {
         return MarginAnswer {
-            why,
+            why: refusal.number(),
             bit: 0,
             margin: 0,
         };
@@ -104,13 +103,13 @@ pub fn margin(x: &[u32], y: &[u32], t: u32) -> MarginAnswer
     let s = absolute_sum(y);
     if over < LOWEST {
         MarginAnswer {
-            why,
+            why: 0,
             bit: 1,
             margin: quotient(over, s),
         }
     } else {
         MarginAnswer {
-            why,
+            why: 0,
             bit: 0,
             margin: quotient(base_words::sub(MINUS_1, over), s),
         }

@@ -1,5 +1,5 @@
 use mathlib.Core.Path.{refl}
-use Rattle.measure_iris.proofs.Refused.{above_0}
+use Rattle.base_messages.specs.Refusals.{not_0}
 use Rattle.measure_iris.specs.Laws.{stays, written}
 use Rattle.measure_iris.proofs.unpack.Goals as goal
 
@@ -9,4 +9,4 @@ returns-in-Ok-clause-out_after c =
     written _ _ _ c.in-Ok.ensures.why refl (rw same at c.spread.ensures)
 
 pub returns-in-Err-clause-out_after : goal.returns-in-Err-clause-out_after
-returns-in-Err-clause-out_after c = stays _ _ _ c.in-Err.ensures.why (above_0 c.in-Err.refusal)
+returns-in-Err-clause-out_after c = stays _ _ _ c.in-Err.ensures.why (not_0 c.in-Err.refusal)

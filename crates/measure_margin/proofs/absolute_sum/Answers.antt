@@ -9,24 +9,24 @@ use Rattle.measure_margin.specs.Margin.{absolute_sum}
 use Rattle.std.proofs.Common.{rules}
 use Rattle.measure_margin.proofs.absolute_sum.Goals as goal
 
-pub loop-i-init : goal.loop-i-init
+pub loop-w-init : goal.loop-w-init
 unfolding sumℕ
-loop-i-init c = (refl, search rules, search rules)
+loop-w-init c = (refl, search rules)
 
 pub overflow_add-total : goal.overflow_add-total
 unfolding element
 overflow_add-total c =
-    record { fits = omega (arith, c.magnitude-total.ensures, c.requires.1 c.loop-i.i, c.requires.0) }
+    record { fits = omega (arith, c.magnitude-total.ensures, c.requires.1 c.loop-w.w-index, c.requires.0) }
 
-pub loop-i-preserved : goal.loop-i-preserved
+pub loop-w-preserved : goal.loop-w-preserved
 unfolding element
-loop-i-preserved c =
+loop-w-preserved c =
     let size : ℕ → ℕ = λ j. nat_abs (element c.args.y.now j) in
-    let more = ap₂ ◌+◌ c.loop-i.invariant.0 c.magnitude-total.ensures ∙ sym (sumℕ_more size c.loop-i.i) in
-    (more, search rules, omega (arith, c.magnitude-total.ensures, c.requires.1 c.loop-i.i, c.loop-i.invariant.2))
+    let more = ap₂ ◌+◌ c.loop-w.invariant.0 c.magnitude-total.ensures ∙ sym (sumℕ_more size c.loop-w.w-index) in
+    (more, omega (arith, c.magnitude-total.ensures, c.requires.1 c.loop-w.w-index, c.loop-w.invariant.1))
 
 pub returns : goal.returns
 unfolding absolute_sum
 returns c =
-    let all : c.loop-i.i ≡ length c.args.y.now = omega arith in
-    rw all at c.loop-i.invariant.0
+    let all : c.loop-w.w-index ≡ length c.args.y.now = omega arith in
+    rw all at c.loop-w.invariant.0
