@@ -23,6 +23,7 @@ pub struct Child {
 }
 
 // Key making before a level: both parties' seeds and flags, and V.
+// kept: s0 and s1, t0 and t1, as `Making` of dcf_function names them.
 #[derive(Clone, Copy)]
 pub struct Making {
     pub s0: [u32; 8],
@@ -33,6 +34,7 @@ pub struct Making {
 }
 
 // The children of both seeds, which are of this level: left and right of s0, left and right of s1.
+// kept: four calls: a loop over the lanes would pick seed and counter by the lane's number, in more lines.
 fn open_both(x: &mut [u32; 64], level: u32, s0: [u32; 8], s1: [u32; 8])
     ensures { rows 4 x.new ≡ both_opened level s0 s1 }
 {
@@ -50,7 +52,7 @@ fn child_at(x: &[u32; 64], l: usize) -> Child
 {
     let s = chacha20_lanes::lane(x, l);
     Child {
-        seed: [s.x0, s.x1, s.x2, s.x3, s.x4, s.x5, s.x6, s.x7],
+        seed: dcf_node::seed_of(s),
         word: s.x8,
         flag: s.x9,
     }
@@ -153,8 +155,7 @@ pub fn make(k0: [u32; 8], k1: [u32; 8], point: u32) -> Key
         t1: 1,
         v: 0,
     };
-    let mut i: usize = 0;
-    while i < 32 {
+    for i in 0..32 {
         let b = dcf_node::level_bit(point, i);
         let level = i as u32 + 1;
         let s0 = g.s0;
@@ -163,7 +164,6 @@ pub fn make(k0: [u32; 8], k1: [u32; 8], point: u32) -> Key
         let c = correction(g, b, &x);
         corrections[i] = c;
         g = kept(g, c, b, &x);
-        i += 1;
     }
     let last = final_word(g);
     Key { corrections, last }

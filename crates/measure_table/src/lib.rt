@@ -14,6 +14,7 @@ ghost use Rattle.measure_table.specs.Measure.{width_of, mark_of};
 pub const MOST_ELEMENTS: usize = 512;
 
 // What a set's measure is of: its code, and how many elements a vector has (01's L).
+// kept: the C interface: the code is a number.
 #[repr(C)]
 #[derive(Clone, Copy)]
 pub struct Terms {
@@ -31,6 +32,7 @@ pub enum Rule {
 }
 
 // The mark of a set that was dealt by a threshold, and of one between two marks.
+// kept: the C interface: a half holds the mark as a byte; inside, `Rule` says which it is.
 pub const ORDINARY_MARK: u32 = 0;
 
 pub const BETWEEN_MARK: u32 = 1;
@@ -65,6 +67,7 @@ pub struct Row {
 
 impl Row {
     // The columns in the order of 01's table, then the length's and the sign's. [SPEC 3.3]
+    // kept: with it `row_of` reads as that table, a row to a line; three literals would take thirty lines.
     fn new(
         squares: bool,
         k: u32,

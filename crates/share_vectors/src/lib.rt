@@ -1,6 +1,8 @@
 // What a box computes of vectors in one check (01, "One check at a box"; 02, §6), and what the dealer
 // computes for it: the own term, the masked vector and the share of the product. `share_answers` has the
 // word and the answer. [SPEC 3.4, 3.8, 5.5 to 5.8, 16.2, 17.3]
+// kept: n beside the vectors, in each function: an array of words has places for the longest vector, and the
+// definitions (`plus`, `inner`, `share`) take n; slices cut to n would put `take n` in every clause.
 #![tactic(auto)]
 
 ghost use Rattle.std.specs.Prelude.{◌≡◌, length, ◌≤◌};

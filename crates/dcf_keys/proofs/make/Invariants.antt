@@ -1,9 +1,5 @@
 use Rattle.dcf_keys.proofs.Levels.{Made}
-use Prim.Native.Nat.{◌-◌}
 use Rattle.dcf_keys.proofs.make.Given as goal
 
 abbrev pub invariant-loop-i : goal.invariant-loop-i
 invariant-loop-i l = Made l.initial.g.s0 l.initial.g.s1 l.point l.initial.corrections l.corrections l.g l.i
-
-abbrev pub decreases-loop-i : goal.decreases-loop-i
-decreases-loop-i l = 32 - l.i
