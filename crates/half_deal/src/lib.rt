@@ -23,6 +23,9 @@ pub struct Dealt {
     pub office: Set,
 }
 
+// kept: `n ≤ most_elements` stands in four contracts: each also says how far it reads past its own `at`, so that
+// a struct of w and n would take no line from any of them.
+
 // The words of a set of length n: 4 n + 19 of them, from the start of an array with room for the
 // longest.
 fn draw(seed: &[u8; 32], n: usize) -> [u32; MOST_WORDS]

@@ -76,6 +76,7 @@ fn tail(s: &Set) -> [u8; TAIL]
 }
 
 // A head, the used words of the set's three vectors and a tail, and zeros up to the most blocks.
+// kept: no method of the library joins bytes and words in a fixed array.
 fn joined(h: &[u8; HEAD], s: &Set, t: &[u8; TAIL]) -> [u8; ROOM]
     requires { s.now.terms.n ≤ most_elements }
     ensures { let n = s.now.terms.n in

@@ -26,6 +26,7 @@ fn joined(low: u32, high: u32) -> u64
 }
 
 // The set number in a block's first eight bytes.
+// kept: two loads, where `from_le_bytes` would list eight bytes.
 fn load_number(b: &[u8]) -> u64
     requires { 8 ≤ length b.now }
     ensures { result ≡ set_number b.now }
@@ -122,17 +123,16 @@ fn why_not_opened(
     key: &[u8; 32],
     name: [u8; NAME],
     party: u32,
-    number: u64,
     h: &[u8],
     text: &mut [u8],
 ) -> Result<(), Refusal>
     requires { (3 ≤ length h.now / block_bytes) × (length h.now / block_bytes ≤ most_blocks)
-        × (number ≡ set_number h.now) × (length text.old ≡ text_bytes * (length h.now / block_bytes)) }
+        × (length text.old ≡ text_bytes * (length h.now / block_bytes)) }
     ensures value { why_of result ≡ why_not_opened key.now name party h.now }
     ensures text_after { OnOk result (text.new ≡ opened_content key.now h.now) }
 {
     let count = h.len() / BLOCK;
-    if !open_blocks(key, number, count, h, text) {
+    if !open_blocks(key, load_number(h), count, h, text) {
         return Err(Refusal::BadBlock);
     }
     if !half_reading::content_fits(name, party, count, text) {
@@ -163,18 +163,16 @@ fn why_not_within(
     key: &[u8; 32],
     name: [u8; NAME],
     party: u32,
-    number: u64,
     h: &[u8],
     room: &mut [u8; ROOM],
 ) -> Result<usize, Refusal>
-    requires { (3 ≤ length h.now / block_bytes) × (length h.now / block_bytes ≤ most_blocks)
-        × (number ≡ set_number h.now) }
+    requires { (3 ≤ length h.now / block_bytes) × (length h.now / block_bytes ≤ most_blocks) }
     ensures value { why_of result ≡ why_not_opened key.now name party h.now }
     ensures room_after { IfOk result (λ size. (size ≡ text_bytes * (length h.now / block_bytes))
         × (take size room.new ≡ opened_content key.now h.now)) }
 {
     let size = TEXT * (h.len() / BLOCK);
-    why_not_opened(key, name, party, number, h, &mut room[..size])?;
+    why_not_opened(key, name, party, h, &mut room[..size])?;
     Ok(size)
 }
 
@@ -192,7 +190,7 @@ pub fn examine(
 {
     let number = why_not_numbered(last, h)?;
     let mut room = [0u8; ROOM];
-    let size = why_not_within(key, name, party, number, h, &mut room)?;
+    let size = why_not_within(key, name, party, h, &mut room)?;
     Ok(half_reading::read_set(number, &room[..size]))
 }
 
@@ -206,8 +204,8 @@ pub fn tell(
 ) -> Result<Terms, Refusal>
     ensures { as_told result ≡ told key.now name party last half.now }
 {
-    let number = why_not_numbered(last, half)?;
+    why_not_numbered(last, half)?;
     let mut room = [0u8; ROOM];
-    let size = why_not_within(key, name, party, number, half, &mut room)?;
+    let size = why_not_within(key, name, party, half, &mut room)?;
     Ok(half_reading::terms_in(&room[..size]))
 }

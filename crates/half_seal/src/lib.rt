@@ -17,6 +17,7 @@ fn low(number: u64) -> u32
     (number % 4294967296) as u32
 }
 
+// kept: as `low`.
 fn high(number: u64) -> u32
     ensures { result ≡ number / 2 ^ 32 }
 {

@@ -14,7 +14,7 @@ returns-in_err-number c =
 pub why_not_within-requires : goal.why_not_within-requires
 why_not_within-requires c =
     let blocks = its_blocks _ _ _ c.in_ok-number.ensures.value refl in
-    (blocks.0, blocks.1, c.in_ok-number.ensures.its_number)
+    (blocks.0, blocks.1)
 
 pub returns-in_err-size : goal.returns-in_err-size
 returns-in_err-size c =

@@ -10,7 +10,7 @@ slice_bounds-why_not_opened-end c = omega arith
 
 pub why_not_opened-requires : goal.why_not_opened-requires
 why_not_opened-requires c =
-    (c.requires.0, c.requires.1, c.requires.2, length-take-le _ _ (search rules))
+    (c.requires.0, c.requires.1, length-take-le _ _ (search rules))
 
 pub returns-clause-room_after : goal.returns-clause-room_after
 returns-clause-room_after c = (refl, at_front _ _ _ _ c.in_ok-why_not_opened.ensures.text_after)
