@@ -210,11 +210,11 @@ fn refused(refusal: Refusal, party: Party) -> PartyAnswer
 }
 
 // What a trial says of a half that would be turned down: the number alone.
-fn not_taken(why: u32) -> TrialAnswer
-    ensures { result ≡ record { why = why; name = no_name; terms = no_terms } }
+fn not_taken(refusal: Refusal) -> TrialAnswer
+    ensures { result ≡ record { why = number_of refusal; name = no_name; terms = no_terms } }
 {
     TrialAnswer {
-        why,
+        why: refusal.number(),
         name: [0; NAME],
         terms: Terms { code: 0, n: 0 },
     }
@@ -378,7 +378,8 @@ impl Party {
         let phase = self.check.phase;
         let turn = load_turn(self);
         let mut next = self;
-        let mut why = base_messages::OUT_OF_TURN;
+        let out_of_turn = Refusal::OutOfTurn.number();
+        let mut why = out_of_turn;
         if turn {
             let who = self.who;
             let name = who.name;
@@ -409,7 +410,7 @@ impl Party {
         ensures { result ≡ trial_of self h.now }
     {
         if !load_turn(self) {
-            return not_taken(base_messages::OUT_OF_TURN);
+            return not_taken(Refusal::OutOfTurn);
         }
         let who = self.who;
         let name = who.name;
@@ -420,7 +421,7 @@ impl Party {
                 name,
                 terms: told,
             },
-            Err(refusal) => not_taken(refusal.number()),
+            Err(refusal) => not_taken(refusal),
         }
     }
 

@@ -25,4 +25,5 @@ returns-in-Err c =
 
 -- out of turn
 pub returns-else-turn : goal.returns-else-turn
-returns-else-turn c = load_3 _ _ c.load_turn-turn.ensures _ c.if-turn.false
+returns-else-turn c =
+    rw c.number-out_of_turn.ensures (load_3 _ _ c.load_turn-turn.ensures _ c.if-turn.false)

@@ -11,7 +11,7 @@ returns-then-not-load_turn c =
 pub returns-in-Err : goal.returns-in-Err
 returns-in-Err c =
     trial_refused _ _ c.load_turn.ensures _ (ap not c.if-not-load_turn.false) _ c.high_water-above.ensures _
-    c.in-Err.ensures _ (refuses c.in-Err.refusal) (rw c.number.ensures at c.not_taken-in-Err.ensures)
+    c.in-Err.ensures _ (refuses c.in-Err.refusal) c.not_taken-in-Err.ensures
 
 pub returns-in-Ok : goal.returns-in-Ok
 returns-in-Ok c =
