@@ -34,7 +34,8 @@ module _ (t : Table) where
         → fault bad_rows (i + 1) ≡ why_not_table t
     row i e l = ap (fault bad_rows) (add-one i ∙ ap suc e) ∙ sym (laws.row t s (omega arith))
 
-    module _ (r : length t.firsts ≤ first_bad_row t.firsts t.lasts) (m : ℕ) (f : m ≡ first_bad_minute t.firsts t.lasts) where
+    module _ (r : length t.firsts ≤ first_bad_row t.firsts t.lasts) (m : ℕ)
+        (f : m ≡ first_bad_minute t.firsts t.lasts) where
       pub good : day ≤ m → fault 0 0 ≡ why_not_table t
       good l = sym (laws.good t s (omega arith) (omega arith))
 

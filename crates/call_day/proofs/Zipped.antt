@@ -1,6 +1,7 @@
 -- A search and a count over two lists side by side, as an iterator makes them and as `specs/Search.antt` defines them.
 -- Assumes nothing.
-use Rattle.std.proofs.Common.{◌≡◌, refl, sym, ap, subst, ◌∙◌, ℕ, zero, suc, ◌+◌, ◌≤◌, ◌<◌, Bool, true, false, not, cond, List, []}
+use Rattle.std.proofs.Common.{◌≡◌, refl, sym, ap, subst, ◌∙◌, ℕ, zero, suc, ◌+◌, ◌≤◌, ◌<◌}
+use Rattle.std.proofs.Common.{Bool, true, false, not, cond, List, []}
 use Rattle.std.proofs.Common.{◌∷◌, length, get_or, Option, Some, None, arith, ltb, ltb-true, ltb-false}
 use Rattle.std.specs.List.{zip, position_or_len, count_by}
 use Rattle.std.specs.Option.{MatchOption}

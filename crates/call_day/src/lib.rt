@@ -3,8 +3,9 @@
 #![tactic(auto)]
 
 ghost use Rattle.std.specs.Prelude.{◌≡◌, ◌≤◌, length};
-ghost use Rattle.call_day.specs.Table.{in_row, row_fits, rows_with, first_bad_row, first_bad_minute, row_at, shaped, Finds};
-ghost use Rattle.call_day.specs.Table.{table_in, why_not_table, fault_of, choose as choose_of, choice_of};
+ghost use Rattle.call_day.specs.Table.{in_row, row_fits, rows_with, first_bad_row, first_bad_minute, row_at};
+ghost use Rattle.call_day.specs.Table.{shaped, Finds, table_in, why_not_table, fault_of};
+ghost use Rattle.call_day.specs.Table.{choose as choose_of, choice_of};
 ghost use Rattle.call_day.specs.Turns.{lower_of};
 
 use base_messages::Refusal;

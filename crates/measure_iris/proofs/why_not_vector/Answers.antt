@@ -39,4 +39,5 @@ returns-clause-why c =
     (unless_true _ _ _ (sym tested ∙ held _ _ c.require-2.ensures c.in_ok-require-2.was) refl))
 
 pub returns-clause-taken : goal.returns-clause-taken
-returns-clause-taken c = (c.in-Some.ensures.cases.same, vector_fits _ _ (λ i. search rules) (sym (returns-clause-why c)))
+returns-clause-taken c =
+    (c.in-Some.ensures.cases.same, vector_fits _ _ (λ i. search rules) (sym (returns-clause-why c)))

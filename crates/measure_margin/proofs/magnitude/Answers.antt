@@ -16,4 +16,6 @@ cast w l = go (ltb w (2 ^ 31)) refl
     go false e = rw (e, signed_high w (ltb-false w (2 ^ 31) e) l) refl
 
 pub returns : goal.returns
-returns c = c.unsigned_abs.ensures.value ∙ ap nat_abs (to_z-of_z {w = w32} (search rules) ∙ c.cast_signed.ensures ∙ cast _ (search rules))
+returns c =
+    c.unsigned_abs.ensures.value
+    ∙ ap nat_abs (to_z-of_z {w = w32} (search rules) ∙ c.cast_signed.ensures ∙ cast _ (search rules))

@@ -8,7 +8,8 @@ use Rattle.measure_margin.proofs.margin.Goals as goal
 
 pub returns-in-Err : goal.returns-in-Err
 returns-in-Err c =
-    refused_answer _ _ _ _ (c.number.ensures ∙ c.in-Err.ensures) (λ e. not_0 c.in-Err.refusal (sym c.number.ensures ∙ e))
+    refused_answer _ _ _ _ (c.number.ensures ∙ c.in-Err.ensures)
+    (λ e. not_0 c.in-Err.refusal (sym c.number.ensures ∙ e))
 
 pub inner-requires : goal.inner-requires
 inner-requires c =

@@ -13,7 +13,8 @@ returns c =
     let q = λ (f l : ℕ). in_row f l a.minute in
     count_from_yields_List c.filter.result _ c.count.ensures.ran
     (YieldsList-from_filter _ (of_pair q) (YieldsList-at c.filter.ensures.source
-    (YieldsList-from_zip (YieldsList-from_slice a.self.firsts.now cc) (YieldsList-from_slice a.self.lasts.now cc))) c.filter.ensures.closure
+    (YieldsList-from_zip (YieldsList-from_slice a.self.firsts.now cc) (YieldsList-from_slice a.self.lasts.now cc)))
+    c.filter.ensures.closure
     (λ x r q k. search (rules, tests)))
     ∙ length-filter (of_pair q) _
     ∙ count-zip q _ _ a.self.same_length
