@@ -64,6 +64,7 @@ fn place(stored: bool, i: usize) -> usize
 }
 
 // Byte j of a rearranged code, from its highest bit down.
+// kept: `stored`, as at `place`.
 fn rearranged_byte(stored: bool, code: &[u8; CODE_BYTES], j: usize) -> u8
     requires { j < code_bytes }
     ensures { result ≡ from_bits (λ i. bit_of code.now (place_for stored i)) (8 * j) 8 }
@@ -76,6 +77,7 @@ fn rearranged_byte(stored: bool, code: &[u8; CODE_BYTES], j: usize) -> u8
 }
 
 // The bytes of a code rearranged, to the start of out: as we store it, or as the scanner sends it.
+// kept: `stored`, as at `place`.
 fn rearrange_bytes(stored: bool, code: &[u8; CODE_BYTES], out: &mut [u8])
     requires { code_bytes ≤ length out.old }
     ensures { out.new ≡ over 0 (code_of_bits (λ i. bit_of code.now (place_for stored i)))
@@ -161,6 +163,7 @@ fn why_not_vector(v: &[u32], room: usize) -> Result<&[u32; CODE_BITS], Refusal>
 }
 
 // A code rearranged, if it is one and there is room.
+// kept: `stored`, as at `place`.
 fn rearrange(stored: bool, code: &[u8], out: &mut [u8]) -> Result<(), Refusal>
     ensures value { why_of result ≡ why_not_code code.now code_bytes (length out.old) }
     ensures out_after { out.new ≡ buffer_after

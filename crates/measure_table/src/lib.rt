@@ -35,6 +35,7 @@ pub enum Rule {
 // kept: the C interface: a half holds the mark as a byte; inside, `Rule` says which it is.
 pub const ORDINARY_MARK: u32 = 0;
 
+// kept: the C interface, as above.
 pub const BETWEEN_MARK: u32 = 1;
 
 // The width of an ordinary set (2^31 - 1): what its boxes open, less r, lies from 0 to this if the
