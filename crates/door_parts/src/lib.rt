@@ -144,9 +144,11 @@ impl Door {
     {
         let party = self.at(side);
         let a = party.trial(half);
+        // kept: an array field that goes straight from one struct to another isn't covered by the check.
+        let name = a.name;
         TriedAnswer {
             why: a.why,
-            name: a.name,
+            name,
             terms: a.terms,
             door: self,
         }
