@@ -3,6 +3,7 @@
 ghost use Rattle.std.specs.Prelude.{◌≤◌};
 
 use measure_table::{Rule, Terms};
+use test_script::{Line, OneOrTwo};
 
 // half HALF
 // tag HALF
@@ -15,7 +16,7 @@ use measure_table::{Rule, Terms};
 // spread HALF LAST FROM TO BYTE
 // before HALF LAST FROM TO
 // where HALF is PARTY CODE L RULE NUMBER SEED KEY NAME, and RULE is T or P:Q.
-#[derive(Clone, Copy)]
+#[derive(Clone, Copy, PartialEq, Eq)]
 pub enum Command {
     Half,
     Tag,
@@ -27,65 +28,48 @@ pub enum Command {
     Content,
     Spread,
     Before,
-    None,
 }
 
-// The first letter tells, but for two of which one has more fields.
-fn command_from(letter: u8, fields: usize) -> Command {
-    match letter {
-        b'h' => Command::Half,
-        b't' => Command::Tag,
-        b'a' => Command::Again,
-        b'e' => Command::Examine,
-        b'f' => Command::Flip,
-        b'm' => Command::Mixed,
-        b's' => Command::Spread,
-        b'b' => Command::Before,
-        b'c' => {
-            if fields == 11 {
-                Command::Cut
-            } else {
-                Command::Content
-            }
+impl Command {
+    // The first letter tells, but for two of which one has more fields.
+    pub fn of(line: Line<'_>) -> Option<Command> {
+        match *line.text.first()? {
+            b'h' => Some(Command::Half),
+            b't' => Some(Command::Tag),
+            b'a' => Some(Command::Again),
+            b'e' => Some(Command::Examine),
+            b'f' => Some(Command::Flip),
+            b'm' => Some(Command::Mixed),
+            b's' => Some(Command::Spread),
+            b'b' => Some(Command::Before),
+            b'c' if line.count() == 11 => Some(Command::Cut),
+            b'c' => Some(Command::Content),
+            _ => None,
         }
-        _ => Command::None,
     }
 }
 
-pub fn command_of(line: &[u8]) -> Command {
-    command_from(
-        test_script::first_byte(line),
-        test_script::part_count(line, b' '),
-    )
+pub fn word(line: Line<'_>, place: usize) -> u32 {
+    line.word(place).unwrap_or(u32::MAX)
 }
 
-pub fn word(line: &[u8], place: usize) -> u32 {
-    let w = test_script::word_at(line, place);
-    if w.ok { w.value } else { 4294967295 }
-}
-
-pub fn number(line: &[u8], place: usize) -> usize {
+pub fn number(line: Line<'_>, place: usize) -> usize {
     word(line, place) as usize
 }
 
-pub fn byte(line: &[u8], place: usize) -> u8 {
-    (word(line, place) % 256) as u8
+pub fn byte(line: Line<'_>, place: usize) -> u8 {
+    let [low, _, _, _] = word(line, place).to_le_bytes();
+    low
 }
 
-fn set_number(line: &[u8], place: usize) -> u64 {
-    let n = test_script::read_number(test_script::field(line, place));
-    if n.ok { n.value } else { 18446744073709551615 }
+fn set_number(line: Line<'_>, place: usize) -> u64 {
+    line.number(place).unwrap_or(u64::MAX)
 }
 
-fn bytes_32(line: &[u8], place: usize) -> [u8; 32] {
-    let mut b = [0u8; 32];
-    test_script::fill(test_script::field(line, place), &mut b);
-    b
-}
-
-fn bytes_16(line: &[u8], place: usize) -> [u8; 16] {
-    let mut b = [0u8; 16];
-    test_script::fill(test_script::field(line, place), &mut b);
+// kept: (a) what may not change: of bytes that can't be read, `fill` leaves those that it read.
+fn bytes<const N: usize>(line: Line<'_>, place: usize) -> [u8; N] {
+    let mut b = [0u8; N];
+    test_script::fill(line.field(place), &mut b);
     b
 }
 
@@ -99,11 +83,11 @@ pub struct Holder {
 }
 
 // The box whose party, key, name and last number stand at these places of a line.
-pub fn read_holder(line: &[u8], party: usize, key: usize, name: usize, last: usize) -> Holder {
+pub fn read_holder(line: Line<'_>, party: usize, key: usize, name: usize, last: usize) -> Holder {
     Holder {
         party: word(line, party),
-        key: bytes_32(line, key),
-        name: bytes_16(line, name),
+        key: bytes(line, key),
+        name: bytes(line, name),
         last: set_number(line, last),
     }
 }
@@ -118,27 +102,26 @@ pub struct Half {
     pub holder: Holder,
 }
 
-fn rule(line: &[u8], place: usize) -> Rule {
-    let w = test_script::read_one_or_two(test_script::field(line, place));
-    if w.two {
-        return Rule::Between(w.first, w.second);
+fn rule(line: Line<'_>, place: usize) -> Rule {
+    match line.one_or_two(place) {
+        Some(OneOrTwo::Two(first, second)) => Rule::Between(first, second),
+        Some(OneOrTwo::One(threshold)) => Rule::Threshold(threshold),
+        None => Rule::Threshold(u32::MAX),
     }
-    Rule::Threshold(word(line, place))
 }
 
 // PARTY CODE L RULE NUMBER SEED KEY NAME LAST, of which PARTY is field `at`.
-pub fn read_half(line: &[u8], at: usize) -> Half
+pub fn read_half(line: Line<'_>, at: usize) -> Half
     requires { at ≤ 10 }
 {
-    let terms = Terms {
-        code: word(line, at + 1),
-        n: number(line, at + 2),
-    };
     Half {
-        terms,
+        terms: Terms {
+            code: word(line, at + 1),
+            n: number(line, at + 2),
+        },
         rule: rule(line, at + 3),
         number: set_number(line, at + 4),
-        seed: bytes_32(line, at + 5),
+        seed: bytes(line, at + 5),
         holder: read_holder(line, at, at + 6, at + 7, at + 8),
     }
 }

@@ -25,6 +25,6 @@ pub overflow_cast-set : goal.overflow_cast-set
 overflow_cast-set c =
     omega (arith, length_fits_lem _ c.requires.proper.length_fits_lem)
 
-pub returns : goal.returns
-returns c =
+pub invariant_of-result : goal.invariant_of-result
+invariant_of-result c =
     omega (arith, c.blocks_of.ensures, few_blocks _ c.requires.proper)
