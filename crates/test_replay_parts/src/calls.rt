@@ -97,24 +97,34 @@ fn by_clock(
     let firsts = vector(b, 5);
     let lasts = vector(b, 6);
     let thresholds = vector(b, 7);
-    door.deal_by_clock(
-        ClockOrder {
-            number: l.f1,
-            seed: memory::first(b, 2, l.f2),
-            terms: Terms {
-                code: memory::low(l.f3),
-                n: memory::size(l.f4),
-            },
-            table: Lists {
-                firsts: list(&firsts, l.f5),
-                lasts: list(&lasts, l.f6),
-                thresholds: list(&thresholds, l.f7),
-            },
-            minute: memory::low(l.f8),
+    let table = Lists {
+        firsts: list(&firsts, l.f5),
+        lasts: list(&lasts, l.f6),
+        thresholds: list(&thresholds, l.f7),
+    };
+    ordered(door, memory::first(b, 2, l.f2), l, table, out0, out1)
+}
+
+// The same of a table.
+fn ordered<'a>(
+    door: Door,
+    seed: &'a [u8],
+    l: Line,
+    table: Lists<'a>,
+    out0: &mut [u8],
+    out1: &mut [u8],
+) -> PlacedAnswer {
+    let order = ClockOrder {
+        number: l.f1,
+        seed,
+        terms: Terms {
+            code: memory::low(l.f3),
+            n: memory::size(l.f4),
         },
-        out0,
-        out1,
-    )
+        table,
+        minute: memory::low(l.f8),
+    };
+    door.deal_by_clock(order, out0, out1)
 }
 
 // clock NUMBER SEED CODE L FIRSTS LASTS THRESHOLDS MINUTE ROOM0 ROOM1. It answers the place as its word.
