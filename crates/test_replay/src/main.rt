@@ -2,63 +2,42 @@
 // host's log can be run again. The output is compared with a second implementation's.
 #![tactic(auto)]
 
-use test_replay_lines::lines::Line;
-use test_replay_lines::memory::{BYTES, NUMBERS};
-use test_replay_lines::{kept, lines, put};
-use test_script::ROOM;
-
-// From a function, as `test_script::no_text`.
-fn no_bytes() -> [u8; BYTES] {
-    [0; BYTES]
-}
-
-fn read(line: &[u8], b: &mut [u8; BYTES], n: [u64; NUMBERS]) -> Line {
-    kept::gather(lines::read(line, b, n), b, n)
-}
+use test_replay_lines::memory::Memory;
+use test_replay_lines::request::Request;
+use test_replay_lines::{kept, put};
+use test_script::{Lines, Output};
 
 // Writes the answer of a line that was run, and keeps what its call sent.
-fn finish(
-    l: Line,
-    why: u32,
-    word: u32,
-    place: u64,
-    b: &mut [u8; BYTES],
-    n: &mut [u64; NUMBERS],
-    out: &mut [u8; ROOM],
-    at: usize,
-) -> usize {
-    if why != 0 {
-        return put::refused(l, why, word, out, at);
+fn finish(r: Request, why: u32, word: u32, m: &mut Memory, out: &mut Output) {
+    if why == 0 {
+        kept::keep(r, word, m);
+        put::answer(r, word, m, out);
+    } else {
+        put::refused(r, why, word, out);
     }
-    kept::keep(l, word, b, n);
-    put::answer(l, word, place, b, out, at)
 }
 
-fn answers(text: &[u8]) {
-    let mut out = test_script::no_output();
-    let mut b = no_bytes();
-    let mut n = [0u64; NUMBERS];
+fn answers(lines: Lines<'_>) {
+    let mut out = Output::new();
+    let mut m = Memory::new();
     let mut door = test_replay_parts::closed();
-    let mut at: usize = 0;
-    let mut from: usize = 0;
     let mut place: u64 = 0;
-    while from < text.len() {
-        place += 1;
-        let line = test_script::next_line(text, from);
-        let start = line.start;
-        let end = line.end;
-        let l = read(&text[start..end], &mut b, n);
-        let step = test_replay_parts::call(door, &mut b, l);
-        at = finish(l, step.why, step.word, place, &mut b, &mut n, &mut out, at);
-        at = test_script::put_byte(&mut out, at, b'\n');
-        door = step.door;
-        from = line.next;
+    for line in lines {
+        place = place.saturating_add(1);
+        match kept::read(line, &mut m) {
+            Some(r) => {
+                let step = test_replay_parts::call(door, &mut m, r);
+                finish(r, step.why, step.word, &mut m, &mut out);
+                door = step.door;
+            }
+            None => put::bad_line(place, &mut out),
+        }
+        out.put_byte(b'\n');
     }
-    test_script::flush(&out, at);
+    out.flush();
 }
 
 fn main() {
     let mut text = test_script::no_text();
-    let n = test_script::read_script(&mut text);
-    answers(test_script::script_of(&text, n));
+    answers(test_script::read_lines(&mut text));
 }

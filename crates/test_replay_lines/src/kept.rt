@@ -1,105 +1,92 @@
 // What earlier calls wrote or sent: the halves of the last four deals, masked vectors, words and
 // answers; and the loads of these halves.
-ghost use Rattle.std.specs.Prelude.{◌<◌};
+use crate::command::Command;
+use crate::memory::{Buffer, Halves, Memory};
+use crate::request;
+use crate::request::Request;
+use half_content::BLOCK;
+use test_script::Line;
 
-use crate::lines::Line;
-use crate::memory::{ANSWERS, BYTES, HALVES, MASKED, NEWEST, NUMBERS, OTHER, WORDS};
-use crate::{lines, memory};
-
-// The slot of the half that the k-th deal before the newest wrote for a box.
-fn half_slot(newest: u64, k: u64, place: u64) -> usize
-    ensures { result < 21 }
-{
-    let deal = memory::size(newest % 4 + 4 - k % 4);
-    HALVES + 2 * (deal % 4) + memory::size(place) % 2
+// The first bytes of a buffer, or all if there are fewer.
+fn first(b: Buffer, n: usize) -> Buffer {
+    let mut kept = b;
+    kept.truncate(n);
+    kept
 }
+
+// The longest L that a deal takes.
+const MOST: usize = 512;
 
 // Both halves of an accepted deal of length `length` are kept in place of the oldest.
-fn keep_halves(length: u64, b: &mut [u8; BYTES], n: &mut [u64; NUMBERS]) {
-    let blocks = half_content::blocks_of(base_slices::least(memory::size(length), 512) as u16);
-    let size = memory::wide(512 * (blocks % 17));
-    n[NEWEST] = n[NEWEST] % 4 + 1;
-    let slot = half_slot(n[NEWEST], 0, 0);
-    memory::copy_slot(b, 0, slot);
-    memory::copy_slot(b, OTHER, slot + 1);
-    n[slot] = size;
-    n[slot + 1] = size;
-}
-
-fn wide(w: u32) -> u64 {
-    w as u64
+fn keep_halves(length: usize, m: &mut Memory) {
+    let size = BLOCK * (half_content::blocks_of(length.min(MOST) as u16) % 17);
+    m.keep_halves(Halves {
+        camera: first(m.first, size),
+        office: first(m.second, size),
+    });
 }
 
 // What an accepted call wrote or sent is kept for later lines.
-pub fn keep(l: Line, word: u32, b: &mut [u8; BYTES], n: &mut [u64; NUMBERS]) {
-    let place = memory::size(l.f1) % 2;
-    let command = l.command;
-    match command {
-        lines::DEAL | lines::BETWEEN | lines::CLOCK => keep_halves(l.f4, b, n),
-        lines::MASK => {
-            memory::copy_slot(b, 0, MASKED + place);
-            n[MASKED + place] = l.f2;
-        }
-        lines::TAKE => n[WORDS + place] = wide(word),
-        lines::FINISH => n[ANSWERS + place] = wide(word),
+pub fn keep(r: Request, word: u32, m: &mut Memory) {
+    let place = r.place();
+    match r.command {
+        Command::Deal | Command::Clock => keep_halves(r.size(4), m),
+        // call 2 writes as many words as it is handed
+        Command::Mask => m.sent[place].masked = first(m.first, m.field(2).len()),
+        Command::Take => m.sent[place].word = word,
+        Command::Finish => m.sent[place].answer = word,
         _ => {}
     }
 }
 
-// 1 is xored into a byte of slot 0.
-fn flip(b: &mut [u8; BYTES], i: usize) {
-    if i < BYTES {
-        b[i] = b[i] ^ 1;
-    }
-}
-
-// A line with other bytes to load, or one that asks for bytes that are not there.
-fn loading(l: Line, ok: bool, count: u64) -> Line {
-    let mut next = l;
-    next.f4 = count;
-    if !ok {
-        next.command = lines::BAD_LINE;
-        next.part = lines::NO_PART;
-    }
-    next
-}
-
 // load or trial BOX FROM K BYTES AT. Behind the half its first block stands again.
-fn load(l: Line, b: &mut [u8; BYTES], n: [u64; NUMBERS]) -> Line {
-    let from = half_slot(n[NEWEST], l.f3, l.f2);
-    let size = n[from] % 65536;
-    memory::copy_slot(b, from, 0);
-    memory::copy_block(b, from, 0, 0, memory::size(size / 512));
-    if l.f5 < l.f4 {
-        flip(b, memory::size(l.f5));
+fn load(r: Request, m: &mut Memory) -> Option<()> {
+    let half = m.half(r.size(3), r.from);
+    let block = first(half, BLOCK);
+    let mut bytes = half;
+    bytes.put(block.as_slice());
+    let n = r.size(4);
+    if !half.has_block(0) || bytes.as_slice().len() < n {
+        return None;
     }
-    loading(l, (0 < size) & (l.f4 <= size + 512), l.f4)
+    bytes.truncate(n);
+    bytes.flip(r.size(5));
+    m.first = bytes;
+    Some(())
 }
 
 // mixed BOX I K J
-fn mixed(l: Line, b: &mut [u8; BYTES], n: [u64; NUMBERS]) -> Line {
-    let own = half_slot(n[NEWEST], 0, l.f1);
-    let other = half_slot(n[NEWEST], l.f3, l.f1);
-    memory::copy_slot(b, own, 0);
-    memory::copy_block(b, other, memory::size(l.f4), 0, memory::size(l.f2));
-    loading(
-        l,
-        (512 * (l.f2 % 16) < n[own]) & (512 * (l.f4 % 16) < n[other]),
-        n[own],
-    )
+fn mixed(r: Request, m: &mut Memory) -> Option<()> {
+    let part = r.part?;
+    let mut half = m.half(0, part);
+    let other = m.half(r.size(3), part);
+    let i = r.size(2) % 16;
+    let j = r.size(4) % 16;
+    if !half.has_block(i) || !other.has_block(j) {
+        return None;
+    }
+    half.set_block(i, &other, j);
+    m.first = half;
+    Some(())
 }
 
-// The bytes of a load or a trial into slot 0.
-pub fn gather(l: Line, b: &mut [u8; BYTES], n: [u64; NUMBERS]) -> Line {
-    let command = l.command;
-    match command {
-        lines::LOAD | lines::TRIAL => load(l, b, n),
-        lines::MIXED | lines::TRIAL_MIXED => mixed(l, b, n),
+// The bytes of a load or a trial, if they are there.
+fn gather(r: Request, m: &mut Memory) -> Option<()> {
+    match r.command {
+        Command::Load | Command::Trial => load(r, m),
+        Command::Mixed | Command::TrialMixed => mixed(r, m),
         // bytes BOX BYTES
-        lines::LOAD_BYTES | lines::TRIAL_BYTES => {
-            memory::copy_slot(b, 2, 0);
-            loading(l, true, l.f2)
+        Command::Bytes | Command::TrialBytes => {
+            m.first = m.fields[2];
+            Some(())
         }
-        _ => l,
+        _ => Some(()),
     }
+}
+
+// Reads a line, with the bytes that it is to load.
+pub fn read(line: Line<'_>, m: &mut Memory) -> Option<Request> {
+    let r = request::read(line, m)?;
+    gather(r, m)?;
+    Some(r)
 }

@@ -2,8 +2,8 @@
 // of earlier calls, and what answers them. `test_replay_parts` makes the calls, and `test_replay` runs it all.
 #![tactic(auto)]
 
+pub mod command;
 pub mod kept;
-pub mod lines;
 pub mod memory;
 pub mod put;
-pub mod shown;
+pub mod request;

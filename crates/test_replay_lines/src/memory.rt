@@ -1,94 +1,173 @@
-// What the lines of a script share: slots of bytes, all in one array, and numbers. Arrays can be
-// lent, while a reference to a struct is not covered by the borrow checker.
-ghost use Rattle.std.specs.Prelude.{◌+◌, ◌≤◌};
+// What the lines of a script share: what the fields of a line say, what its call is handed and writes,
+// and what earlier calls wrote or sent.
+ghost use Rattle.std.specs.Prelude.{◌≤◌, ◌<◌, length};
 
-// The size of a slot, 19 blocks: the most bytes of a field.
-pub const SLOT: usize = 9728;
+use crate::command::Part;
+use base_messages::NAME;
+use half_content::BLOCK;
+use measure_table::Terms;
 
-// Slots 1 to 12 hold what the fields of a line say. Slot 0 holds what a call is handed, or the bytes
-// whose tag answers it, and OTHER the second such bytes. A box's state goes on into slot 1: the field
-// of `show` names a part and has no bytes there.
+// The most bytes that a field stands for, 19 blocks.
+pub const LONGEST: usize = 9728;
+
+// The fields of a line, its command's name included.
 pub const FIELDS: usize = 13;
 
-pub const OTHER: usize = 12;
+// The bytes of a box's state: nothing else in a buffer is longer.
+const ROOM: usize = 17112;
 
-// Slots 13 to 20 hold the halves of the last four deals, the camera box's before the office box's.
-pub const HALVES: usize = 13;
-
-// Slots 21 and 22 hold the last masked vectors that the boxes sent.
-pub const MASKED: usize = 21;
-
-// The bytes of 23 slots.
-pub const BYTES: usize = 223744;
-
-// The numbers at HALVES and MASKED are the counts of those slots' bytes, 0 before the first. Behind
-// them stand the last words and the last answers that the boxes sent, and which of the four deals is
-// the newest.
-pub const WORDS: usize = 23;
-
-pub const ANSWERS: usize = 25;
-
-pub const NEWEST: usize = 27;
-
-pub const NUMBERS: usize = 28;
-
-pub fn size(n: u64) -> usize {
-    n as usize
+// Some bytes, of which the first `len` count.
+// kept: (d) an array with a length: a Vec brings an allocator and an error to all that reads or keeps a line.
+#[derive(Clone, Copy)]
+pub struct Buffer {
+    bytes: [u8; ROOM],
+    len: usize,
+    ghost within: { len ≤ length bytes },
 }
 
-pub fn wide(n: usize) -> u64 {
-    n as u64
-}
+impl Buffer {
+    pub fn new() -> Self {
+        Buffer {
+            bytes: test_script::zeros(),
+            len: 0,
+        }
+    }
 
-// The lowest 32 bits of a number: all of one that was read as a word.
-pub fn low(n: u64) -> u32 {
-    (n % 4294967296) as u32
-}
+    pub fn of(bytes: &[u8]) -> Self {
+        let mut b = Buffer::new();
+        b.put(bytes);
+        b
+    }
 
-// The n bytes from a place on, or as many as there are.
-fn part(b: &[u8], at: usize, n: usize) -> &[u8] {
-    let start = base_slices::least(at, b.len());
-    let end = start + base_slices::least(n, b.len() - start);
-    &b[start..end]
-}
+    pub fn as_slice(&self) -> &[u8] {
+        &self.bytes[..self.len]
+    }
 
-// The first n bytes of a slot.
-pub fn first(b: &[u8; BYTES], slot: usize, n: u64) -> &[u8] {
-    part(b, SLOT * (slot % 23), size(n))
-}
+    // Those bytes that there is room for go behind those that stand there.
+    pub fn put(&mut self, bytes: &[u8]) {
+        let end = self.len + bytes.len().min(ROOM - self.len);
+        self.bytes[self.len..end].copy_from_slice(&bytes[..end - self.len]);
+        self.len = end;
+    }
 
-fn copy_within(b: &mut [u8; BYTES], from: usize, to: usize, n: usize)
-    requires { (from + n ≤ 223744) × (to + n ≤ 223744) }
-{
-    let mut i: usize = 0;
-    while i < n {
-        b[to + i] = b[from + i];
-        i += 1;
+    // Words, little-endian.
+    pub fn put_words(&mut self, words: &[u32]) {
+        for w in words {
+            self.put(&w.to_le_bytes());
+        }
+    }
+
+    // The first n bytes stay.
+    pub fn truncate(&mut self, n: usize) {
+        self.len = self.len.min(n);
+    }
+
+    // 1 is xored into byte i, if there is one.
+    pub fn flip(&mut self, i: usize) {
+        if i < self.len {
+            self.bytes[i] ^= 1;
+        }
+    }
+
+    // Whether there is a block i.
+    pub fn has_block(&self, i: usize) -> bool {
+        i < self.len / BLOCK
+    }
+
+    // Block j of another half over block i.
+    pub fn set_block(&mut self, i: usize, other: &Buffer, j: usize)
+        requires { (i < 16) × (j < 16) }
+    {
+        let block = &other.bytes[BLOCK * j..BLOCK * j + BLOCK];
+        self.bytes[BLOCK * i..BLOCK * i + BLOCK].copy_from_slice(block);
     }
 }
 
-// As many bytes as fit over those of a slot.
-pub fn lay(b: &mut [u8; BYTES], slot: usize, src: &[u8]) {
-    let from = SLOT * (slot % 23);
-    let n = base_slices::least(src.len(), SLOT);
-    let mut i: usize = 0;
-    while i < n {
-        b[from + i] = src[i];
-        i += 1;
+// What a box sent last: no words and zeros before the first.
+#[derive(Clone, Copy)]
+pub struct Sent {
+    pub masked: Buffer,
+    pub word: u32,
+    pub answer: u32,
+}
+
+// The halves of a deal.
+#[derive(Clone, Copy)]
+pub struct Halves {
+    pub camera: Buffer,
+    pub office: Buffer,
+}
+
+#[derive(Clone, Copy)]
+pub struct Memory {
+    // The bytes of a line's fields, each in its field's place.
+    pub fields: [Buffer; FIELDS],
+    // What a call is handed or writes, or a state that is shown.
+    pub first: Buffer,
+    // The second half of a deal.
+    pub second: Buffer,
+    // The name and the terms that a trial tells.
+    pub name: [u8; NAME],
+    pub terms: Terms,
+    // What the last four deals wrote, the newest first.
+    pub deals: [Halves; 4],
+    // What the boxes sent, the camera box first.
+    pub sent: [Sent; 2],
+}
+
+impl Memory {
+    pub fn new() -> Self {
+        let none = Buffer::new();
+        let sent = Sent {
+            masked: none,
+            word: 0,
+            answer: 0,
+        };
+        let halves = Halves {
+            camera: none,
+            office: none,
+        };
+        Memory {
+            fields: [none; FIELDS],
+            first: none,
+            second: none,
+            name: [0; NAME],
+            terms: Terms { code: 0, n: 0 },
+            deals: [halves; 4],
+            sent: [sent; 2],
+        }
     }
-}
 
-// All of a slot over another.
-pub fn copy_slot(b: &mut [u8; BYTES], from: usize, to: usize) {
-    copy_within(b, SLOT * (from % 23), SLOT * (to % 23), SLOT);
-}
+    // The bytes that a field of the line says.
+    pub fn field(&self, i: usize) -> &[u8]
+        requires { i < 13 }
+    {
+        let fields = &self.fields;
+        let field = &fields[i];
+        field.as_slice()
+    }
 
-// A slot's block j over block i of another.
-pub fn copy_block(b: &mut [u8; BYTES], from: usize, j: usize, to: usize, i: usize) {
-    copy_within(
-        b,
-        SLOT * (from % 23) + 512 * (j % 19),
-        SLOT * (to % 23) + 512 * (i % 19),
-        512,
-    );
+    // What a box sent last, if the word names one.
+    pub fn sent_by(&self, word: &[u8]) -> Option<Sent> {
+        match Part::of(word) {
+            Some(Part::Camera) => Some(self.sent[0]),
+            Some(Part::Office) => Some(self.sent[1]),
+            _ => None,
+        }
+    }
+
+    // The half that the k-th deal before the newest wrote for a box; no bytes if there is none.
+    pub fn half(&self, k: usize, part: Part) -> Buffer {
+        let deal = self.deals[k % 4];
+        match part {
+            Part::Office => deal.office,
+            _ => deal.camera,
+        }
+    }
+
+    // The halves of an accepted deal are kept in place of the oldest.
+    pub fn keep_halves(&mut self, halves: Halves) {
+        let d = self.deals;
+        self.deals = [halves, d[0], d[1], d[2]];
+    }
 }

@@ -1,162 +1,119 @@
 // Writes what answers a line.
-use crate::lines::Line;
-use crate::memory::{BYTES, OTHER};
-use crate::{lines, memory, shown};
-use test_script::ROOM;
+use crate::command::Command;
+use crate::memory::Memory;
+use crate::request::Request;
+use test_script::Output;
 
 // Poly1305's key for a tag that stands for long bytes: the bytes 0 to 31.
-fn key() -> [u8; 32] {
-    let mut k = [0u8; 32];
-    let mut i: usize = 0;
-    while i < 32 {
-        k[i] = i as u8;
-        i += 1;
-    }
-    k
+const KEY: [u8; 32] = [
+    0, 1, 2, 3, 4, 5, 6, 7, 8, 9, 10, 11, 12, 13, 14, 15, 16, 17, 18, 19, 20, 21, 22, 23, 24, 25,
+    26, 27, 28, 29, 30, 31,
+];
+
+fn put_tag(bytes: &[u8], out: &mut Output) {
+    out.put_hex(&poly1305_mac::mac(&KEY, bytes));
 }
 
-// The tag of the first n bytes of a slot.
-fn tag(b: &[u8; BYTES], slot: usize, n: u64, out: &mut [u8; ROOM], at: usize) -> usize {
-    let k = key();
-    test_script::put_hex(out, at, &poly1305_mac::mac(&k, memory::first(b, slot, n)))
+// The tags of a deal's two buffers.
+fn put_two_tags(m: &Memory, out: &mut Output) {
+    put_tag(m.first.as_slice(), out);
+    out.put_byte(b' ');
+    put_tag(m.second.as_slice(), out);
 }
 
-pub fn number(n: u32, out: &mut [u8; ROOM], at: usize) -> usize {
-    test_script::put_numbers(out, at, &[n])
-}
-
-// 0 and a space.
-fn accepted(out: &mut [u8; ROOM], at: usize) -> usize {
-    test_script::put_text(out, at, b"0 ")
-}
-
-// The tags of a deal's two buffers, which have so many bytes.
-fn two_tags(b: &[u8; BYTES], room0: u64, room1: u64, out: &mut [u8; ROOM], at: usize) -> usize {
-    let next = tag(b, 0, room0, out, at);
-    let next = test_script::put_byte(out, next, b' ');
-    tag(b, OTHER, room1, out, next)
-}
-
-fn dealt(b: &[u8; BYTES], l: Line, out: &mut [u8; ROOM], at: usize) -> usize {
-    let next = accepted(out, at);
-    two_tags(b, l.f6, l.f7, out, next)
-}
-
-// A deal by the clock, with its row.
-fn clocked(b: &[u8; BYTES], l: Line, row: u32, out: &mut [u8; ROOM], at: usize) -> usize {
-    let next = accepted(out, at);
-    let next = number(row, out, next);
-    let next = test_script::put_byte(out, next, b' ');
-    two_tags(b, l.f9, l.f10, out, next)
-}
-
-// A trial: the name, the code and L that it told, which stand in slot 0 in this order, the two numbers
-// as words.
-fn told(b: &[u8; BYTES], out: &mut [u8; ROOM], at: usize) -> usize {
-    let next = accepted(out, at);
-    let next = test_script::put_hex(out, next, memory::first(b, 0, 16));
-    let next = test_script::put_byte(out, next, b' ');
-    test_script::put_numbers(
-        out,
-        next,
-        &[base_slices::load(b, 16), base_slices::load(b, 20)],
-    )
-}
-
+// kept: (a) a refusal's number, and the word beside it, are what `door_parts::DoorAnswer` holds.
 // What answers a line whose call was refused: for a deal by the clock the place too.
-pub fn refused(l: Line, why: u32, place: u32, out: &mut [u8; ROOM], at: usize) -> usize {
-    if l.command != lines::CLOCK {
-        return number(why, out, at);
+pub fn refused(r: Request, why: u32, place: u32, out: &mut Output) {
+    match r.command {
+        Command::Clock => out.put_numbers(&[why, place]),
+        _ => out.put_numbers(&[why]),
     }
-    let next = number(why, out, at);
-    let next = test_script::put_byte(out, next, b' ');
-    number(place, out, next)
 }
 
-// host NAME LAST and the ten fields of join: the first C function.
-fn host_join(b: &[u8; BYTES], l: Line) -> u32 {
+// A trial: the name, the code and L that it told.
+fn put_told(m: &Memory, out: &mut Output) {
+    out.put_hex(&m.name);
+    out.put_byte(b' ');
+    out.put_number(u64::from(m.terms.code));
+    out.put_byte(b' ');
+    out.put_number(m.terms.n as u64);
+}
+
+// host NAME LAST and the ten fields of join: what the first C function answers.
+// kept: (d) one function for both would take a function of twelve parameters.
+fn host_join(r: Request, m: &Memory) -> u32 {
     c_lock::lock_join(
-        memory::first(b, 1, l.f1),
-        l.f2,
-        memory::low(l.f3),
-        memory::first(b, 4, l.f4),
-        memory::low(l.f5),
-        l.f6,
-        memory::low(l.f7),
-        memory::low(l.f8),
-        memory::first(b, 9, l.f9),
-        memory::low(l.f10),
-        l.f11,
-        memory::low(l.f12),
+        m.field(1),
+        r.number(2),
+        r.word(3),
+        m.field(4),
+        r.word(5),
+        r.number(6),
+        r.word(7),
+        r.word(8),
+        m.field(9),
+        r.word(10),
+        r.number(11),
+        r.word(12),
     )
 }
 
 // The second one.
-fn host_last(b: &[u8; BYTES], l: Line) -> u64 {
+fn host_last(r: Request, m: &Memory) -> u64 {
     c_lock::lock_last(
-        memory::first(b, 1, l.f1),
-        l.f2,
-        memory::low(l.f3),
-        memory::first(b, 4, l.f4),
-        memory::low(l.f5),
-        l.f6,
-        memory::low(l.f7),
-        memory::low(l.f8),
-        memory::first(b, 9, l.f9),
-        memory::low(l.f10),
-        l.f11,
-        memory::low(l.f12),
+        m.field(1),
+        r.number(2),
+        r.word(3),
+        m.field(4),
+        r.word(5),
+        r.number(6),
+        r.word(7),
+        r.word(8),
+        m.field(9),
+        r.word(10),
+        r.number(11),
+        r.word(12),
     )
 }
 
-fn hosted(b: &[u8; BYTES], l: Line, out: &mut [u8; ROOM], at: usize) -> usize {
-    let next = number(host_join(b, l), out, at);
-    let next = test_script::put_byte(out, next, b' ');
-    test_script::put_number(out, next, host_last(b, l))
-}
-
-// How many bytes a part's state has.
-fn state_size(part: u64) -> usize {
-    match part {
-        lines::THE_DEALER => shown::DEALER,
-        lines::THE_LOCK => shown::LOCK,
-        _ => shown::BOX,
-    }
+fn put_host(r: Request, m: &Memory, out: &mut Output) {
+    out.put_numbers(&[host_join(r, m)]);
+    out.put_byte(b' ');
+    out.put_number(host_last(r, m));
 }
 
 // So that a mistake shows as a difference in the output.
-fn bad_line(place: u64, out: &mut [u8; ROOM], at: usize) -> usize {
-    let next = test_script::put_text(out, at, b"bad line ");
-    test_script::put_number(out, next, place)
+pub fn bad_line(place: u64, out: &mut Output) {
+    out.put_text(b"bad line ");
+    out.put_number(place);
 }
 
 // What answers a line that no call refused: `word` is the number that its call answered.
-pub fn answer(
-    l: Line,
-    word: u32,
-    place: u64,
-    b: &[u8; BYTES],
-    out: &mut [u8; ROOM],
-    at: usize,
-) -> usize {
-    let command = l.command;
-    match command {
-        lines::COMMENT => at,
-        lines::BAD_LINE => bad_line(place, out, at),
-        lines::PUT | lines::WAITING | lines::WIDTH => test_script::put_text(out, at, b"put"),
-        lines::HOST => hosted(b, l, out, at),
-        lines::DEAL | lines::BETWEEN => dealt(b, l, out, at),
-        lines::CLOCK => clocked(b, l, word, out, at),
-        lines::TRIAL | lines::TRIAL_MIXED | lines::TRIAL_BYTES => told(b, out, at),
-        lines::SHOW => tag(b, 0, memory::wide(state_size(l.part)), out, at),
-        lines::MASK => {
-            let next = accepted(out, at);
-            tag(b, 0, 4 * (l.f3 % 1024), out, next)
+pub fn answer(r: Request, word: u32, m: &Memory, out: &mut Output) {
+    match r.command {
+        Command::Comment => {}
+        Command::Put | Command::Waiting | Command::Width => out.put_text(b"put"),
+        Command::Host => put_host(r, m, out),
+        Command::Show => put_tag(m.first.as_slice(), out),
+        Command::Deal => {
+            out.put_text(b"0 ");
+            put_two_tags(m, out);
         }
-        lines::TAKE | lines::FINISH | lines::JOIN => {
-            let next = accepted(out, at);
-            number(word, out, next)
+        Command::Clock => {
+            out.put_text(b"0 ");
+            out.put_number(u64::from(word));
+            out.put_byte(b' ');
+            put_two_tags(m, out);
         }
-        _ => number(0, out, at),
+        Command::Trial | Command::TrialMixed | Command::TrialBytes => {
+            out.put_text(b"0 ");
+            put_told(m, out);
+        }
+        Command::Mask => {
+            out.put_text(b"0 ");
+            put_tag(m.first.as_slice(), out);
+        }
+        Command::Take | Command::Finish | Command::Join => out.put_numbers(&[0, word]),
+        _ => out.put_numbers(&[0]),
     }
 }

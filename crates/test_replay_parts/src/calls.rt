@@ -1,19 +1,21 @@
 // The calls of a door's list, each by the door's own.
+ghost use Rattle.std.specs.Prelude.{◌≤◌, length};
+
 use base_messages::Label;
 use call_day::Lists;
 use call_dealer::{ClockOrder, Order};
 use call_lock::Answer;
 use door_parts::{Door, DoorAnswer, PlacedAnswer, Side};
-use measure_table::{Rule, Terms};
-use test_replay_lines::lines::Line;
-use test_replay_lines::memory::{BYTES, OTHER};
-use test_replay_lines::{lines, memory};
+use measure_table::Terms;
+use test_replay_lines::command::Part;
+use test_replay_lines::memory::{Buffer, LONGEST, Memory};
+use test_replay_lines::request::Request;
 
 // The longest buffer of a deal.
 const HALF_ROOM: usize = 8704;
 
 // The most words of a vector, and of call 2's buffer.
-const LONGEST: usize = 2432;
+const MOST_WORDS: usize = LONGEST / 4;
 
 const ROOM: usize = 520;
 
@@ -27,207 +29,183 @@ fn no_masked() -> [u32; ROOM] {
     [2863311530; ROOM]
 }
 
-// All words of a slot.
-fn vector(b: &[u8; BYTES], slot: usize) -> [u32; LONGEST] {
-    let mut w = [0u32; LONGEST];
-    test_script::load_words(memory::first(b, slot, 9728), &mut w);
-    w
+// The words of a field, little-endian, of which the first `len` count.
+// kept: (d) an array with a length, as `Buffer`.
+#[derive(Clone, Copy)]
+struct Vector {
+    words: [u32; MOST_WORDS],
+    len: usize,
 }
 
-fn label(kind: u64, sender: u64, number: u64) -> Label {
+impl Vector {
+    fn of(bytes: &[u8]) -> Vector {
+        let mut words: [u32; MOST_WORDS] = test_script::zeros();
+        let (chunks, _) = bytes.as_chunks::<4>();
+        for (w, chunk) in words.iter_mut().zip(chunks) {
+            *w = u32::from_le_bytes(*chunk);
+        }
+        Vector {
+            words,
+            len: chunks.len().min(MOST_WORDS),
+        }
+    }
+
+    fn as_slice(&self) -> &[u32] {
+        &self.words[..self.len.min(MOST_WORDS)]
+    }
+}
+
+// The label whose kind is field `at`: behind it come the name, the sender and the number.
+fn label(r: Request, at: usize) -> Label
+    requires { at ≤ 9 }
+{
     Label {
-        kind: memory::low(kind),
-        sender: memory::low(sender),
-        number,
+        kind: r.word(at),
+        sender: r.word(at + 2),
+        number: r.number(at + 3),
     }
 }
 
 // The box that a line asks.
-fn side(l: Line) -> Side {
-    if l.part == lines::CAMERA {
-        Side::Camera
-    } else {
-        Side::Office
+fn side(r: Request) -> Side {
+    match r.part {
+        Some(Part::Camera) => Side::Camera,
+        _ => Side::Office,
     }
 }
 
-// A threshold, or two marks.
-fn rule(l: Line) -> Rule {
-    let first = memory::low(l.f5);
-    if l.command == lines::BETWEEN {
-        return Rule::Between(first, memory::low(l.f5 / 4294967296));
+fn terms(r: Request) -> Terms {
+    Terms {
+        code: r.word(3),
+        n: r.size(4),
     }
-    Rule::Threshold(first)
 }
 
-// deal NUMBER SEED CODE L RULE ROOM0 ROOM1. The buffers go to slots 0 and OTHER.
-pub fn deal(door: Door, b: &mut [u8; BYTES], l: Line) -> DoorAnswer {
-    let mut out0 = no_half();
-    let mut out1 = no_half();
-    let a = door.deal(
-        Order {
-            number: l.f1,
-            seed: memory::first(b, 2, l.f2),
-            terms: Terms {
-                code: memory::low(l.f3),
-                n: memory::size(l.f4),
-            },
-            rule: rule(l),
-        },
-        test_script::first_mut(&mut out0, memory::size(l.f6)),
-        test_script::first_mut(&mut out1, memory::size(l.f7)),
-    );
-    memory::lay(b, 0, &out0);
-    memory::lay(b, OTHER, &out1);
+// deal NUMBER SEED CODE L RULE ROOM0 ROOM1
+pub fn deal(door: Door, m: &mut Memory, r: Request) -> DoorAnswer {
+    let mut half0 = no_half();
+    let mut half1 = no_half();
+    let out0 = &mut half0[..r.size(6).min(HALF_ROOM)];
+    let out1 = &mut half1[..r.size(7).min(HALF_ROOM)];
+    let order = Order {
+        number: r.number(1),
+        seed: m.field(2),
+        terms: terms(r),
+        rule: r.rule,
+    };
+    let a = door.deal(order, out0, out1);
+    m.first = Buffer::of(out0);
+    m.second = Buffer::of(out1);
     a
 }
 
-// The words of a table's list, which has so many bytes.
-fn list(words: &[u32; LONGEST], bytes: u64) -> &[u32] {
-    test_script::first_words(words, memory::size(bytes / 4))
-}
-
-fn by_clock(
-    door: Door,
-    b: &[u8; BYTES],
-    l: Line,
-    out0: &mut [u8],
-    out1: &mut [u8],
-) -> PlacedAnswer {
-    let firsts = vector(b, 5);
-    let lasts = vector(b, 6);
-    let thresholds = vector(b, 7);
-    let table = Lists {
-        firsts: list(&firsts, l.f5),
-        lasts: list(&lasts, l.f6),
-        thresholds: list(&thresholds, l.f7),
-    };
-    ordered(door, memory::first(b, 2, l.f2), l, table, out0, out1)
-}
-
-// The same of a table.
-fn ordered<'a>(
-    door: Door,
+// Its parts have one lifetime here, so that the borrow checker covers the table in it.
+fn clock_order<'a>(
+    r: Request,
     seed: &'a [u8],
-    l: Line,
-    table: Lists<'a>,
-    out0: &mut [u8],
-    out1: &mut [u8],
-) -> PlacedAnswer {
-    let order = ClockOrder {
-        number: l.f1,
+    firsts: &'a [u32],
+    lasts: &'a [u32],
+    thresholds: &'a [u32],
+) -> ClockOrder<'a> {
+    ClockOrder {
+        number: r.number(1),
         seed,
-        terms: Terms {
-            code: memory::low(l.f3),
-            n: memory::size(l.f4),
+        terms: terms(r),
+        table: Lists {
+            firsts,
+            lasts,
+            thresholds,
         },
-        table,
-        minute: memory::low(l.f8),
-    };
+        minute: r.word(8),
+    }
+}
+
+fn by_clock(door: Door, m: &Memory, r: Request, out0: &mut [u8], out1: &mut [u8]) -> PlacedAnswer {
+    let firsts = Vector::of(m.field(5));
+    let lasts = Vector::of(m.field(6));
+    let thresholds = Vector::of(m.field(7));
+    let order = clock_order(
+        r,
+        m.field(2),
+        firsts.as_slice(),
+        lasts.as_slice(),
+        thresholds.as_slice(),
+    );
     door.deal_by_clock(order, out0, out1)
 }
 
 // clock NUMBER SEED CODE L FIRSTS LASTS THRESHOLDS MINUTE ROOM0 ROOM1. It answers the place as its word.
-pub fn clock(door: Door, b: &mut [u8; BYTES], l: Line) -> DoorAnswer {
-    let mut out0 = no_half();
-    let mut out1 = no_half();
-    let a = by_clock(
-        door,
-        b,
-        l,
-        test_script::first_mut(&mut out0, memory::size(l.f9)),
-        test_script::first_mut(&mut out1, memory::size(l.f10)),
-    );
-    memory::lay(b, 0, &out0);
-    memory::lay(b, OTHER, &out1);
-    let next = a.door;
+pub fn clock(door: Door, m: &mut Memory, r: Request) -> DoorAnswer {
+    let mut half0 = no_half();
+    let mut half1 = no_half();
+    let out0 = &mut half0[..r.size(9).min(HALF_ROOM)];
+    let out1 = &mut half1[..r.size(10).min(HALF_ROOM)];
+    let a = by_clock(door, m, r, out0, out1);
+    m.first = Buffer::of(out0);
+    m.second = Buffer::of(out1);
     DoorAnswer {
         why: a.why,
         word: a.place,
-        door: next,
+        door: a.door,
     }
 }
 
-// The bytes of a load stand in slot 0, and f4 counts them.
-pub fn load(door: Door, b: &[u8; BYTES], l: Line) -> DoorAnswer {
-    door.load(side(l), memory::first(b, 0, l.f4))
+// The bytes of a load stand in `first`.
+pub fn load(door: Door, m: &Memory, r: Request) -> DoorAnswer {
+    door.load(side(r), m.first.as_slice())
 }
 
-// As `put::told` reads it.
-fn lay_told(b: &mut [u8; BYTES], name: [u8; 16], terms: Terms) {
-    memory::lay(b, 0, &name);
-    let l = memory::low(memory::wide(terms.n));
-    base_slices::store_all(b, 16, &[terms.code, l]);
-}
-
-// The bytes of a trial stand there too, and what it tells takes their place.
-pub fn trial(door: Door, b: &mut [u8; BYTES], l: Line) -> DoorAnswer {
-    let a = door.trial(side(l), memory::first(b, 0, l.f4));
+// The bytes of a trial stand there too.
+pub fn trial(door: Door, m: &mut Memory, r: Request) -> DoorAnswer {
+    let a = door.trial(side(r), m.first.as_slice());
     let name = a.name;
-    let terms = a.terms;
-    lay_told(b, name, terms);
-    let next = a.door;
+    m.name = name;
+    m.terms = a.terms;
     DoorAnswer {
         why: a.why,
         word: 0,
-        door: next,
+        door: a.door,
     }
 }
 
-fn lay_masked(b: &mut [u8; BYTES], masked: [u32; ROOM]) {
-    base_slices::store_all(b, 0, &masked);
-}
-
-// mask BOX VECTOR ROOM. The buffer goes to slot 0.
-pub fn mask(door: Door, b: &mut [u8; BYTES], l: Line) -> DoorAnswer {
-    let w = vector(b, 2);
+// mask BOX VECTOR ROOM
+pub fn mask(door: Door, m: &mut Memory, r: Request) -> DoorAnswer {
+    let vector = Vector::of(m.field(2));
     let mut masked = no_masked();
-    let a = door.mask(
-        side(l),
-        test_script::first_words(&w, memory::size(l.f2 / 4)),
-        test_script::first_words_mut(&mut masked, memory::size(l.f3)),
-    );
-    lay_masked(b, masked);
+    let out = &mut masked[..r.size(3).min(ROOM)];
+    let a = door.mask(side(r), vector.as_slice(), out);
+    let mut first = Buffer::new();
+    first.put_words(out);
+    m.first = first;
     a
 }
 
 // take BOX KIND NAME SENDER NUMBER VECTOR
-pub fn take(door: Door, b: &[u8; BYTES], l: Line) -> DoorAnswer {
-    let w = vector(b, 6);
-    door.take(
-        side(l),
-        label(l.f2, l.f4, l.f5),
-        memory::first(b, 3, l.f3),
-        test_script::first_words(&w, memory::size(l.f6 / 4)),
-    )
+pub fn take(door: Door, m: &Memory, r: Request) -> DoorAnswer {
+    let vector = Vector::of(m.field(6));
+    door.take(side(r), label(r, 2), m.field(3), vector.as_slice())
 }
 
 // finish BOX KIND NAME SENDER NUMBER WORD
-pub fn finish(door: Door, b: &[u8; BYTES], l: Line) -> DoorAnswer {
-    door.finish(
-        side(l),
-        label(l.f2, l.f4, l.f5),
-        memory::first(b, 3, l.f3),
-        memory::low(l.f6),
-    )
+pub fn finish(door: Door, m: &Memory, r: Request) -> DoorAnswer {
+    door.finish(side(r), label(r, 2), m.field(3), r.word(6))
 }
 
-pub fn drop(door: Door, l: Line) -> DoorAnswer {
-    door.drop(side(l))
+pub fn drop(door: Door, r: Request) -> DoorAnswer {
+    door.drop(side(r))
 }
 
 // join KIND0 NAME0 SENDER0 NUMBER0 ANSWER0 KIND1 NAME1 SENDER1 NUMBER1 ANSWER1
-pub fn join(door: Door, b: &[u8; BYTES], l: Line) -> DoorAnswer {
-    door.join(
-        Answer {
-            label: label(l.f1, l.f3, l.f4),
-            name: memory::first(b, 2, l.f2),
-            answer: memory::low(l.f5),
-        },
-        Answer {
-            label: label(l.f6, l.f8, l.f9),
-            name: memory::first(b, 7, l.f7),
-            answer: memory::low(l.f10),
-        },
-    )
+pub fn join(door: Door, m: &Memory, r: Request) -> DoorAnswer {
+    let camera = Answer {
+        label: label(r, 1),
+        name: m.field(2),
+        answer: r.word(5),
+    };
+    let office = Answer {
+        label: label(r, 6),
+        name: m.field(7),
+        answer: r.word(10),
+    };
+    door.join(camera, office)
 }

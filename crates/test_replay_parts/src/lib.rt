@@ -6,9 +6,9 @@ mod starts;
 mod states;
 
 use door_parts::{Door, DoorAnswer};
-use test_replay_lines::lines;
-use test_replay_lines::lines::Line;
-use test_replay_lines::memory::BYTES;
+use test_replay_lines::command::{Command, Part};
+use test_replay_lines::memory::Memory;
+use test_replay_lines::request::Request;
 
 // The door before the first start.
 pub fn closed() -> Door {
@@ -20,42 +20,43 @@ pub fn closed() -> Door {
     }
 }
 
-// A start, `put`, `waiting`, `width` or `show`. Every part is handed the line, and those that it does not
-// ask answer zeros: with no branch here the walk carries each state once.
-fn prepare(door: Door, b: &mut [u8; BYTES], l: Line) -> DoorAnswer {
-    let d = starts::dealer(door.dealer, b, l);
-    let c = starts::box_at(door.camera, lines::CAMERA, b, l);
-    let o = starts::box_at(door.office, lines::OFFICE, b, l);
-    let k = starts::lock(door.lock, b, l);
-    let dealer = d.dealer;
-    let camera = c.party;
-    let office = o.party;
-    let lock = k.lock;
-    DoorAnswer {
-        why: d.why | c.why | o.why | k.why,
-        word: 0,
-        door: Door {
-            dealer,
-            camera,
-            office,
-            lock,
+// A start, `put`, `waiting`, `width` or `show`: the next door, or why a start was refused.
+fn prepare(door: Door, m: &mut Memory, r: Request) -> Result<Door, u32> {
+    let mut next = door;
+    match r.part {
+        Some(Part::Camera) => next.camera = starts::party(door.camera, m, r)?,
+        Some(Part::Office) => next.office = starts::party(door.office, m, r)?,
+        Some(Part::Dealer) => next.dealer = starts::dealer(door.dealer, m, r)?,
+        Some(Part::Lock) => next.lock = starts::lock(door.lock, m, r)?,
+        None => {}
+    }
+    Ok(next)
+}
+
+// A refused start leaves the door as it was.
+fn prepared(door: Door, m: &mut Memory, r: Request) -> DoorAnswer {
+    match prepare(door, m, r) {
+        Ok(next) => DoorAnswer {
+            why: 0,
+            word: 0,
+            door: next,
         },
+        Err(why) => DoorAnswer { why, word: 0, door },
     }
 }
 
 // What a line asks: a call, or what stands beside the calls.
-pub fn call(door: Door, b: &mut [u8; BYTES], l: Line) -> DoorAnswer {
-    let command = l.command;
-    match command {
-        lines::DEAL | lines::BETWEEN => calls::deal(door, b, l),
-        lines::CLOCK => calls::clock(door, b, l),
-        lines::LOAD | lines::MIXED | lines::LOAD_BYTES => calls::load(door, b, l),
-        lines::TRIAL | lines::TRIAL_MIXED | lines::TRIAL_BYTES => calls::trial(door, b, l),
-        lines::MASK => calls::mask(door, b, l),
-        lines::TAKE => calls::take(door, b, l),
-        lines::FINISH => calls::finish(door, b, l),
-        lines::DROP => calls::drop(door, l),
-        lines::JOIN => calls::join(door, b, l),
-        _ => prepare(door, b, l),
+pub fn call(door: Door, m: &mut Memory, r: Request) -> DoorAnswer {
+    match r.command {
+        Command::Deal => calls::deal(door, m, r),
+        Command::Clock => calls::clock(door, m, r),
+        Command::Load | Command::Mixed | Command::Bytes => calls::load(door, m, r),
+        Command::Trial | Command::TrialMixed | Command::TrialBytes => calls::trial(door, m, r),
+        Command::Mask => calls::mask(door, m, r),
+        Command::Take => calls::take(door, m, r),
+        Command::Finish => calls::finish(door, m, r),
+        Command::Drop => calls::drop(door, r),
+        Command::Join => calls::join(door, m, r),
+        _ => prepared(door, m, r),
     }
 }
