@@ -66,29 +66,38 @@ fn next_state(s: u32) -> u32 {
     s.wrapping_mul(1664525).wrapping_add(1013904223)
 }
 
-// N:S, for N bytes of a generator with the seed S, so that a script can ask for long inputs in few
-// characters.
-fn generate<'a>(text: &[u8], out: &'a mut [u8]) -> Option<&'a mut [u8]> {
-    let [count, seed] = parse_words::<2>(text)?;
-    let bytes = out.get_mut(..count as usize)?;
+// The first bytes of a generator, so that a script can ask for long inputs in few characters.
+fn generate(seed: u32, out: &mut [u8]) {
     let mut s = seed;
-    for byte in bytes.iter_mut() {
+    for byte in out.iter_mut() {
         s = next_state(s);
         *byte = s.to_be_bytes()[0];
     }
-    Some(bytes)
 }
 
-// N:S:LOW:MASK, for N words, little-endian, of the generator with the seed S: of each state, 16 bits
-// under the mask, added to LOW. The low bits of a state repeat too soon.
-fn generate_words<'a>(text: &[u8], out: &'a mut [u8]) -> Option<&'a mut [u8]> {
-    let [count, seed, low, mask] = parse_words::<4>(text)?;
-    let bytes = out.get_mut(..4 * count as usize)?;
+// The first words of the generator, little-endian: of each state, 16 bits under the mask, added to
+// `low`. The low bits of a state repeat too soon.
+fn generate_words(seed: u32, low: u32, mask: u32, out: &mut [u8]) {
     let mut s = seed;
-    for word in bytes.as_chunks_mut::<4>().0 {
+    for word in out.as_chunks_mut::<4>().0 {
         s = next_state(s);
         *word = low.wrapping_add((s >> 16) & mask).to_le_bytes();
     }
+}
+
+// N:S, with N bytes wanted of the seed S.
+fn parse_generated<'a>(text: &[u8], out: &'a mut [u8]) -> Option<&'a mut [u8]> {
+    let [count, seed] = parse_words::<2>(text)?;
+    let bytes = out.get_mut(..count as usize)?;
+    generate(seed, bytes);
+    Some(bytes)
+}
+
+// N:S:LOW:MASK, with N words wanted of the seed S.
+fn parse_generated_words<'a>(text: &[u8], out: &'a mut [u8]) -> Option<&'a mut [u8]> {
+    let [count, seed, low, mask] = parse_words::<4>(text)?;
+    let bytes = out.get_mut(..4 * count as usize)?;
+    generate_words(seed, low, mask, bytes);
     Some(bytes)
 }
 
@@ -97,9 +106,46 @@ fn generate_words<'a>(text: &[u8], out: &'a mut [u8]) -> Option<&'a mut [u8]> {
 pub fn parse_bytes<'a>(field: &[u8], out: &'a mut [u8]) -> Option<&'a mut [u8]> {
     match field {
         b"-" => out.get_mut(..0),
-        [b'@', text @ ..] => generate(text, out),
-        [b'~', text @ ..] => generate_words(text, out),
+        [b'@', text @ ..] => parse_generated(text, out),
+        [b'~', text @ ..] => parse_generated_words(text, out),
         _ => parse_hex(field, out),
+    }
+}
+
+fn with_digit(n: u64, b: u8) -> Option<u64> {
+    if !b.is_ascii_digit() {
+        return None;
+    }
+    n.checked_mul(10)?.checked_add(u64::from(b - b'0'))
+}
+
+// The word at a place between colons. One that can't be read is some word all the same.
+fn some_word(text: &[u8], n: usize) -> u32 {
+    let field = text.split(|b| *b == b':').nth(n).unwrap_or(&[]);
+    let mut number = 0;
+    for b in field {
+        number = with_digit(number, *b).unwrap_or(0);
+    }
+    (number & 0xffffffff) as u32
+}
+
+// The bytes of a field into a buffer, for a program that answers a line all the same where a field
+// can't be read: a digit that is none counts as 0, and bytes without room are left out.
+pub fn fill(field: &[u8], out: &mut [u8]) {
+    match field {
+        [b'-', ..] => {}
+        [b'@', text @ ..] => generate(some_word(text, 1), out),
+        [b'~', text @ ..] => generate_words(
+            some_word(text, 1),
+            some_word(text, 2),
+            some_word(text, 3),
+            out,
+        ),
+        _ => {
+            for (byte, [high, low]) in out.iter_mut().zip(field.as_chunks::<2>().0) {
+                *byte = (digit(*high).unwrap_or(0) << 4) | digit(*low).unwrap_or(0);
+            }
+        }
     }
 }
 
