@@ -1,5 +1,5 @@
 // A whole check: what the dealer computes, and both boxes' words and answers; and the own term of a vector
-// by itself. A vector of n words stands at the start of an array.
+// by itself. A mask and a masked vector of n words stand at the start of an array.
 ghost use Rattle.std.specs.Prelude.{◌*◌, ◌<◌, ◌≤◌, ◌≡◌, length};
 
 use crate::{Dealt, deal};

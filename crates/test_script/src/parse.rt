@@ -112,6 +112,7 @@ pub fn parse_bytes<'a>(field: &[u8], out: &'a mut [u8]) -> Option<&'a mut [u8]> 
     }
 }
 
+// kept: (a) what fill makes of a number that can't be read may not change; parse_number reads the others.
 fn with_digit(n: u64, b: u8) -> Option<u64> {
     if !b.is_ascii_digit() {
         return None;
