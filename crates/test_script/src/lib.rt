@@ -95,8 +95,3 @@ pub fn next_line(text: &[u8], from: usize) -> Span
 {
     next_part(text, from, b'\n')
 }
-
-// The first byte, 0 if there is none.
-pub fn first_byte(text: &[u8]) -> u8 {
-    text.first().copied().unwrap_or(0)
-}
