@@ -23,8 +23,11 @@ overflow_cast-terms c =
 pub overflow_mul-size : goal.overflow_mul-size
 overflow_mul-size c =
     let fits = c.length_fits.ensures in
-    omega (arith, few (length c.args.order.seed.now) c.args.order.terms _ fits c.if-not-long-length_fits.false _
-    c.blocks_of-size.ensures)
+    omega (
+      arith,
+      few (length c.args.order.seed.now) c.args.order.terms _ fits c.if-not-long-length_fits.false _
+          c.blocks_of-size.ensures,
+    )
 
 pub returns-then-not-size-room0 : goal.returns-then-not-size-room0
 returns-then-not-size-room0 c =
