@@ -458,6 +458,7 @@ impl Party {
     }
 
     // Call 3: takes the other box's masked vector, and answers this box's word.
+    // kept: (d) label and name apart: a call of a box has one of each, and `base_messages::expected` takes both.
     pub fn take(self, label: Label, name: &[u8], v: &[u32]) -> PartyAnswer
         ensures { result ≡ take_of self label name.now v.now }
     {
@@ -483,6 +484,7 @@ impl Party {
     }
 
     // Call 4: takes the other box's word, and answers this box's share of the yes or no.
+    // kept: (d) label and name apart: a call of a box has one of each, and `base_messages::expected` takes both.
     pub fn finish(self, label: Label, name: &[u8], word: u32) -> PartyAnswer
         ensures { result ≡ finish_of self label name.now word }
     {

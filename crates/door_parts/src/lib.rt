@@ -32,6 +32,7 @@ pub struct Door {
     pub lock: Lock,
 }
 
+// kept: (a) an answer of a door holds what its part's holds, and that is the C interface.
 // Why a call was refused (0 if it was not), the number that it answered (the word of call 3, the share of
 // call 4, what a join reported, else 0), and the next door.
 #[derive(Clone, Copy)]
@@ -41,6 +42,7 @@ pub struct DoorAnswer {
     pub door: Door,
 }
 
+// kept: (a) as `DoorAnswer`.
 // The same of a deal by the clock, with a place where the others have a word.
 #[derive(Clone, Copy)]
 pub struct PlacedAnswer {
@@ -49,6 +51,7 @@ pub struct PlacedAnswer {
     pub door: Door,
 }
 
+// kept: (a) as `DoorAnswer`.
 // The same of a trial, with what it tells of the half.
 #[derive(Clone, Copy)]
 pub struct TriedAnswer {
@@ -164,6 +167,7 @@ impl Door {
     }
 
     // Call 3: takes the other box's masked vector, and answers this box's word.
+    // kept: (d) label and name apart: a call of a box has one of each, and `base_messages::expected` takes both.
     pub fn take(self, side: Side, label: Label, name: &[u8], v: &[u32]) -> DoorAnswer
         ensures { result ≡ call self
             (take (box_of side) (record { label = label; name = name.now; content = v.now })) }
@@ -173,6 +177,7 @@ impl Door {
     }
 
     // Call 4: takes the other box's word, and answers this box's share of the yes or no.
+    // kept: (d) label and name apart: a call of a box has one of each, and `base_messages::expected` takes both.
     pub fn finish(self, side: Side, label: Label, name: &[u8], word: u32) -> DoorAnswer
         ensures { result ≡ call self
             (finish (box_of side) (record { label = label; name = name.now; content = word })) }

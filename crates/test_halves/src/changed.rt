@@ -10,6 +10,7 @@ use measure_table::{MOST_ELEMENTS, Terms};
 use test_script::Line;
 
 // What is answered to a line that asks for something else: no refusal has this number.
+// kept: (a) what is printed stays: a number stands for a refusal there.
 const BAD_LINE: u32 = 99;
 
 // The refusal of the half with byte i flipped: 1 is xored into it where its place is even, else 128.

@@ -57,6 +57,7 @@ pub fn number(line: Line<'_>, place: usize) -> usize {
     word(line, place) as usize
 }
 
+// kept: (a) what may not change: of a word that is too large the lowest byte counts.
 pub fn byte(line: Line<'_>, place: usize) -> u8 {
     let [low, _, _, _] = word(line, place).to_le_bytes();
     low

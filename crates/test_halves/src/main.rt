@@ -18,10 +18,12 @@ const KEY: [u8; 32] = [
     26, 27, 28, 29, 30, 31,
 ];
 
+// kept: (d) printed field by field, as `put_each` and `put_answer`: a Display would be one more type for each answer.
 fn put_tag(half: &[u8], out: &mut Output) {
     out.put_hex(&poly1305_mac::mac(&KEY, half));
 }
 
+// kept: (d) as `put_tag`.
 // A refusal for each place, or for each length, with a space between two.
 fn put_each<F: Fn(usize) -> u32>(from: usize, to: usize, refusal: F, out: &mut Output)
     requires { F.IsAlwaysCallable refusal }
@@ -34,6 +36,7 @@ fn put_each<F: Fn(usize) -> u32>(from: usize, to: usize, refusal: F, out: &mut O
     }
 }
 
+// kept: (d) as `put_tag`; and a match on an enum, which is the plain form.
 fn put_answer(line: Line<'_>, out: &mut Output) {
     let d = dealt::made(line, 1);
     let from = fields::number(line, 10);

@@ -15,6 +15,7 @@ fn first(b: Buffer, n: usize) -> Buffer {
 }
 
 // The longest L that a deal takes.
+// kept: a length, and no kind.
 const MOST: usize = 512;
 
 // Both halves of an accepted deal of length `length` are kept in place of the oldest.
@@ -40,6 +41,7 @@ pub fn keep(r: Request, word: u32, m: &mut Memory) {
 }
 
 // load or trial BOX FROM K BYTES AT. Behind the half its first block stands again.
+// kept: the command's name, and no copy by hand.
 fn load(r: Request, m: &mut Memory) -> Option<()> {
     let half = m.half(r.size(3), r.from);
     let block = first(half, BLOCK);

@@ -11,6 +11,7 @@ use measure_table::Terms;
 pub const LONGEST: usize = 9728;
 
 // The fields of a line, its command's name included.
+// kept: a count, and no kind.
 pub const FIELDS: usize = 13;
 
 // The bytes of a box's state: nothing else in a buffer is longer.

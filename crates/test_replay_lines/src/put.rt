@@ -10,10 +10,12 @@ const KEY: [u8; 32] = [
     26, 27, 28, 29, 30, 31,
 ];
 
+// kept: (d) printed field by field, here and below: a Display would be one more type for each answer.
 fn put_tag(bytes: &[u8], out: &mut Output) {
     out.put_hex(&poly1305_mac::mac(&KEY, bytes));
 }
 
+// kept: (d) as `put_tag`.
 // The tags of a deal's two buffers.
 fn put_two_tags(m: &Memory, out: &mut Output) {
     put_tag(m.first.as_slice(), out);
@@ -30,6 +32,7 @@ pub fn refused(r: Request, why: u32, place: u32, out: &mut Output) {
     }
 }
 
+// kept: (d) as `put_tag`.
 // A trial: the name, the code and L that it told.
 fn put_told(m: &Memory, out: &mut Output) {
     out.put_hex(&m.name);
@@ -76,6 +79,7 @@ fn host_last(r: Request, m: &Memory) -> u64 {
     )
 }
 
+// kept: (d) as `put_tag`.
 fn put_host(r: Request, m: &Memory, out: &mut Output) {
     out.put_numbers(&[host_join(r, m)]);
     out.put_byte(b' ');

@@ -34,6 +34,7 @@ impl Request {
         self.numbers[i]
     }
 
+    // kept: (d) `i < 13` here and below: an index into the fields, and an enum of places would be one more name each.
     pub fn size(&self, i: usize) -> usize
         requires { i < 13 }
     {
@@ -58,6 +59,7 @@ impl Request {
     }
 
     // Field i, if it can be read as its kind.
+    // kept: a match on an enum, which is the plain form.
     fn read_field(&mut self, kind: Kind, field: &[u8], i: usize, m: &mut Memory) -> Option<()>
         requires { i < 13 }
     {

@@ -150,6 +150,7 @@ pub fn clock(door: Door, m: &mut Memory, r: Request) -> DoorAnswer {
     }
 }
 
+// kept: the call's name, and no copy by hand.
 // The bytes of a load stand in `first`.
 pub fn load(door: Door, m: &Memory, r: Request) -> DoorAnswer {
     door.load(side(r), m.first.as_slice())

@@ -44,6 +44,7 @@ fn put(p: Party, r: Request) -> Party {
     next
 }
 
+// kept: it puts what a line says into a state, and prints nothing.
 // waiting BOX NUMBER CODE L
 fn put_waiting(p: Party, r: Request) -> Party {
     let mut next = p;
@@ -55,6 +56,7 @@ fn put_waiting(p: Party, r: Request) -> Party {
     next
 }
 
+// kept: as `put_waiting`.
 // width BOX WIDTH MARK
 fn put_width(p: Party, r: Request) -> Party {
     let mut next = p;

@@ -45,10 +45,12 @@ pub fn no_lock() -> Lock {
     }
 }
 
+// kept: (d) one line by `to_le_bytes`, under a name since it stands four times.
 fn put_number(b: &mut Buffer, n: u64) {
     b.put(&n.to_le_bytes());
 }
 
+// kept: (d) a state's bytes, field by field in their order: a derive would not say the order.
 // A set, open or waiting.
 fn put_set(b: &mut Buffer, s: Set) {
     put_number(b, s.number);
