@@ -1,19 +1,12 @@
--- A search and a count over two lists side by side, as an iterator makes them and as `specs/Search.antt` defines them.
+-- A search over two lists side by side, as an iterator makes it and as `specs/Search.antt` defines it.
 -- Assumes nothing.
-use Rattle.std.proofs.Common.{◌≡◌, refl, sym, ap, subst, ◌∙◌, ℕ, zero, suc, ◌+◌, ◌≤◌, ◌<◌}
+use Rattle.std.proofs.Common.{◌≡◌, refl, sym, subst, ℕ, suc, ◌+◌, ◌≤◌, ◌<◌}
 use Rattle.std.proofs.Common.{Bool, true, false, not, cond, List, []}
 use Rattle.std.proofs.Common.{◌∷◌, length, get_or, Option, Some, None, arith, ltb, ltb-true, ltb-false}
-use Rattle.std.specs.List.{zip, position_or_len, count_by}
+use Rattle.std.specs.List.{zip, position_or_len}
 use Rattle.std.specs.Option.{MatchOption}
-use Rattle.std.proofs.lemmas.List.Sums.{sum_by-cons}
 use Rattle.std.proofs.lemmas.Slice.Zip.{length-zip}
-use Rattle.call_day.specs.Search.{least, count}
-
--- the first number below n counts first
-count_front : (p : ℕ → Bool) (n : ℕ) → count p (suc n) ≡ cond (p 0) 1 0 + count (λ i. p (suc i)) n
-unfolding count
-count_front p zero = omega arith
-count_front p (suc n) = omega (arith, count_front p n)
+use Rattle.call_day.specs.Search.{least}
 
 flip : (b : Bool) {k l : ℕ} → k ≡ l → cond (not b) (1 + k) 0 ≡ cond b 0 (suc l)
 flip true e = refl
@@ -32,16 +25,6 @@ module _ (q : ℕ → ℕ → Bool) where
   position-zip [] ys h = refl
   position-zip (x ∷ xs) [] h = absurd (omega arith)
   position-zip (x ∷ xs) (y ∷ ys) h = flip (q x y) (position-zip xs ys (omega arith))
-
-  pub count-zip : (xs ys : List ℕ) → length ys ≡ length xs
-      → count_by of_pair (zip xs ys) ≡ count (λ i. q (get_or xs i 0) (get_or ys i 0)) (length xs)
-  unfolding count
-  count-zip [] ys h = refl
-  count-zip (x ∷ xs) [] h = absurd (omega arith)
-  count-zip (x ∷ xs) (y ∷ ys) h =
-      sum_by-cons (λ p. cond (of_pair p) 1 0) (x, y) (zip xs ys)
-      ∙ ap (λ k. cond (q x y) 1 0 + k) (count-zip xs ys (omega arith))
-      ∙ sym (count_front (at (x ∷ xs) (y ∷ ys)) (length xs))
 
   abbrev place : List ℕ → List ℕ → ℕ
   place xs ys = position_or_len of_pair (zip xs ys)

@@ -1,20 +1,29 @@
-use Rattle.std.proofs.Common.{◌∙◌, ℕ, rules, tests}
-use Rattle.std.proofs.lemmas.Iterator.{YieldsList-from_slice, YieldsList-from_zip}
-use Rattle.std.proofs.lemmas.Iterator.Consumers.{YieldsList-at, YieldsList-from_filter, count_from_yields_List}
-use Rattle.std.proofs.lemmas.List.Sums.{length-filter}
-use Rattle.call_day.specs.Table.{in_row, holds, rows_with}
-use Rattle.call_day.proofs.Zipped.{of_pair, count-zip}
+use mathlib.Core.Path.{◌≡◌, sym, ◌∙◌}
+use native.Mathlib.Omega.{arith}
+use lib.ListN.{length}
+use Rattle.call_day.specs.Search.{count, count_yes, count_no}
+use Rattle.call_day.specs.Table.{holds, rows_with}
+use Rattle.std.proofs.Common.{rules}
 use Rattle.call_day.proofs.Rows.with.Goals as goal
+use Rattle.call_day.proofs.Rows.with.Goals.{then-in_row, else-in_row}
+
+pub loop-i-init : goal.loop-i-init
+unfolding count
+loop-i-init c = search rules
+
+pub loop-i-preserved : goal.loop-i-preserved
+unfolding holds
+loop-i-preserved c =
+    let rows = c.args.self in
+    let in_row = holds rows.firsts.now rows.lasts.now c.args.minute in
+    let tested = sym c.in_row.ensures in
+    elim c.if-in_row.branch [
+      | then-in_row w ↦ (omega (arith, count_yes in_row c.loop-i.i (tested ∙ w.if-in_row.true)), omega arith)
+      | else-in_row w ↦ (omega (arith, count_no in_row c.loop-i.i (tested ∙ w.if-in_row.false)), omega arith)
+    ]
 
 pub returns : goal.returns
-unfolding rows_with holds
+unfolding rows_with
 returns c =
-    let a = c.args in
-    let q = λ (f l : ℕ). in_row f l a.minute in
-    count_from_yields_List c.filter.result _ c.count.ensures.ran
-    (YieldsList-from_filter _ (of_pair q) (YieldsList-at c.filter.ensures.source
-    (YieldsList-from_zip (YieldsList-from_slice a.self.firsts.now cc) (YieldsList-from_slice a.self.lasts.now cc)))
-    c.filter.ensures.closure
-    (λ x r q k. search (rules, tests)))
-    ∙ length-filter (of_pair q) _
-    ∙ count-zip q _ _ a.self.same_length
+    let all : c.loop-i.i ≡ length c.args.self.firsts.now = omega arith in
+    rw all at c.loop-i.invariant.0
