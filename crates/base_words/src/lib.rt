@@ -1,5 +1,5 @@
 // A word is a u32; sums, differences and products are taken modulo 2^32 (01, "Measures"). [SPEC 2.1, 2.2]
-// kept: add, sub, mul, rotate_left: u32's methods, with contracts over the definitions that the claims are over.
+// kept: (a) add, sub and rotate_left: u32's methods, with contracts over the definitions that the claims are over.
 #![tactic(auto)]
 
 ghost use Rattle.std.specs.Prelude.{◌≡◌, ◌<◌};
@@ -19,10 +19,11 @@ pub fn sub(a: u32, b: u32) -> u32
     a.wrapping_sub(b)
 }
 
+// kept: (a) a helper over u64, as SPEC 31.6 asks.
 pub fn mul(a: u32, b: u32) -> u32
     ensures { result ≡ mul_of a b }
 {
-    a.wrapping_mul(b)
+    ((a as u64) * (b as u64) % 4294967296) as u32
 }
 
 // A word rotated left by n bits.
