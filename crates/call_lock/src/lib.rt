@@ -101,21 +101,16 @@ fn why_not_join(lock: Lock, camera: Answer, office: Answer) -> Result<(), Refusa
         camera.entry.label camera.entry.name.now camera.entry.answer
         office.entry.label office.entry.name.now office.entry.answer }
 {
-    if !((camera.name.len() == NAME) & (office.name.len() == NAME)) {
-        return Err(Refusal::WrongLength);
-    }
     let first = camera.expected(lock.name, base_messages::CAMERA);
     let second = office.expected(lock.name, base_messages::OFFICE);
-    if !(first & second) {
-        return Err(Refusal::WrongMessage);
-    }
-    let last = lock.last;
-    if !((last < camera.label.number) & (office.label.number == camera.label.number)) {
-        return Err(Refusal::WrongNumber);
-    }
     let sum = base_words::add(camera.answer, office.answer);
-    if !(sum <= 1) {
-        return Err(Refusal::BadSum);
-    }
-    Ok(())
+    let lengths = (camera.name.len() == NAME) & (office.name.len() == NAME);
+    let labels = first & second;
+    let numbers = (lock.last < camera.label.number) & (office.label.number == camera.label.number);
+    base_messages::first_refusal(
+        (lengths, Refusal::WrongLength),
+        (labels, Refusal::WrongMessage),
+        (numbers, Refusal::WrongNumber),
+        (sum <= 1, Refusal::BadSum),
+    )
 }

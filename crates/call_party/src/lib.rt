@@ -282,20 +282,13 @@ fn why_not_message(
     ensures { why_of result ≡ unless turn out_of_turn (unless lengths wrong_length (unless (expected kind who.name
         (office_party - who.party) label name.now) wrong_message (unless (eqb label.number number) wrong_number 0))) }
 {
-    if !turn {
-        return Err(Refusal::OutOfTurn);
-    }
-    if !lengths {
-        return Err(Refusal::WrongLength);
-    }
-    let sender = other(who.party);
-    if !base_messages::expected(kind, who.name, sender, label, name) {
-        return Err(Refusal::WrongMessage);
-    }
-    if !(label.number == number) {
-        return Err(Refusal::WrongNumber);
-    }
-    Ok(())
+    let fits = base_messages::expected(kind, who.name, other(who.party), label, name);
+    base_messages::first_refusal(
+        (turn, Refusal::OutOfTurn),
+        (lengths, Refusal::WrongLength),
+        (fits, Refusal::WrongMessage),
+        (label.number == number, Refusal::WrongNumber),
+    )
 }
 
 // A box's share of the product: MX is party 0's masked vector, MY party 1's.
