@@ -163,7 +163,7 @@ impl Dealer {
         if !((long == KEY) & measure_table::length_fits(terms)) {
             return Err(Refusal::WrongLength);
         }
-        let size = BLOCK * half_content::blocks_of(terms.n as u16);
+        let size = BLOCK * half_content::blocks_of(terms.n);
         if !((size <= room0) & (size <= room1)) {
             return Err(Refusal::ShortBuffer);
         }

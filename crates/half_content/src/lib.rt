@@ -80,6 +80,7 @@ pub fn no_set() -> Set
 
 // ---- where the fields of plain content stand, each past the one before it. Vectors have n elements,
 // and n is one that two bytes can hold.
+// kept: (a) `n ≤ 65535` stands in eleven contracts: documents name these functions, and a u16 asks more of callers.
 
 // Name, party, measure code and L: the bytes before the vectors, of which the own mask is the first.
 pub const PARTY_AT: usize = 16;
@@ -107,58 +108,67 @@ pub const MARK_IN_TAIL: usize = WIDTH_IN_TAIL + 4;
 pub const TAIL: usize = MARK_IN_TAIL + 1;
 
 // The share of X's mask.
-pub fn x_at(n: u16) -> usize
+pub fn x_at(n: usize) -> usize
+    requires { n ≤ 65535 }
     ensures { result ≡ offset n x_field }
 {
-    HEAD + 4 * usize::from(n)
+    HEAD + 4 * n
 }
 
 // The share of Y's mask.
-pub fn y_at(n: u16) -> usize
+pub fn y_at(n: usize) -> usize
+    requires { n ≤ 65535 }
     ensures { result ≡ offset n y_field }
 {
-    x_at(n) + 4 * usize::from(n)
+    x_at(n) + 4 * n
 }
 
-pub fn c_at(n: u16) -> usize
+pub fn c_at(n: usize) -> usize
+    requires { n ≤ 65535 }
     ensures { result ≡ offset n c_field }
 {
-    y_at(n) + 4 * usize::from(n)
+    y_at(n) + 4 * n
 }
 
-pub fn r_at(n: u16) -> usize
+pub fn r_at(n: usize) -> usize
+    requires { n ≤ 65535 }
     ensures { result ≡ offset n r_field }
 {
     c_at(n) + R_IN_TAIL
 }
 
 // The key seed.
-pub fn seed_at(n: u16) -> usize
+pub fn seed_at(n: usize) -> usize
+    requires { n ≤ 65535 }
     ensures { result ≡ offset n seed_field }
 {
     c_at(n) + SEED_IN_TAIL
 }
 
-pub fn corrections_at(n: u16) -> usize
+pub fn corrections_at(n: usize) -> usize
+    requires { n ≤ 65535 }
     ensures { result ≡ offset n corrections_field }
 {
     c_at(n) + CORRECTIONS_IN_TAIL
 }
 
 // The final word.
-pub fn last_at(n: u16) -> usize
+pub fn last_at(n: usize) -> usize
+    requires { n ≤ 65535 }
     ensures { result ≡ offset n last_field }
 {
     c_at(n) + LAST_IN_TAIL
 }
 
-pub fn width_at(n: u16) -> usize
+pub fn width_at(n: usize) -> usize
+    requires { n ≤ 65535 }
     ensures { result ≡ offset n width_field }
 {
     c_at(n) + WIDTH_IN_TAIL
 }
 
-pub fn mark_at(n: u16) -> usize
+pub fn mark_at(n: usize) -> usize
+    requires { n ≤ 65535 }
     ensures { result ≡ offset n mark_field }
 {
     c_at(n) + MARK_IN_TAIL
@@ -176,14 +186,16 @@ pub fn width_fits(width: u32, mark: u32) -> bool
 }
 
 // The bytes of all fields.
-pub fn size_of(n: u16) -> usize
+pub fn size_of(n: usize) -> usize
+    requires { n ≤ 65535 }
     ensures { result ≡ size n }
 {
     c_at(n) + TAIL
 }
 
 // How many blocks the content of a set of length n fills.
-pub fn blocks_of(n: u16) -> usize
+pub fn blocks_of(n: usize) -> usize
+    requires { n ≤ 65535 }
     ensures { result ≡ block_count n }
 {
     size_of(n).div_ceil(TEXT)

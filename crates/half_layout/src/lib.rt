@@ -84,13 +84,12 @@ fn joined(h: &[u8; HEAD], s: &Set, t: &[u8; TAIL]) -> [u8; ROOM]
         ∷ bytes_of (take n s.now.y) ∷ t.now ∷ []) ++ replicate (room_bytes - size n) 0 }
 {
     let n = s.terms.n;
-    let length = n as u16;
     let mut out = [0u8; ROOM];
     base_slices::copy(&mut out, 0, h);
     base_slices::store_all(&mut out, HEAD, &s.mask[..n]);
-    base_slices::store_all(&mut out, half_content::x_at(length), &s.x[..n]);
-    base_slices::store_all(&mut out, half_content::y_at(length), &s.y[..n]);
-    base_slices::copy(&mut out, half_content::c_at(length), t);
+    base_slices::store_all(&mut out, half_content::x_at(n), &s.x[..n]);
+    base_slices::store_all(&mut out, half_content::y_at(n), &s.y[..n]);
+    base_slices::copy(&mut out, half_content::c_at(n), t);
     out
 }
 

@@ -77,7 +77,7 @@ fn corrections_in(f: &[u8]) -> [Correction; 32]
 }
 
 // The comparison key of plain content whose vectors have n elements.
-fn key_in(b: &[u8], n: u16) -> Key
+fn key_in(b: &[u8], n: usize) -> Key
     requires { (n ≡ length_in b.now) × (n ≤ most_elements) × (size n ≤ length b.now) }
     ensures { result ≡ key_in b.now }
 {
@@ -95,7 +95,7 @@ pub fn read_set(number: u64, b: &[u8]) -> Set
     ensures { result ≡ set_in number b.now }
 {
     let terms = terms_in(b);
-    let n = terms.n as u16;
+    let n = terms.n;
     let x_at = half_content::x_at(n);
     let y_at = half_content::y_at(n);
     let c_at = half_content::c_at(n);
@@ -104,9 +104,9 @@ pub fn read_set(number: u64, b: &[u8]) -> Set
     Set {
         number,
         terms,
-        mask: vector(&b[HEAD..x_at], terms.n),
-        x: vector(&b[x_at..y_at], terms.n),
-        y: vector(&b[y_at..c_at], terms.n),
+        mask: vector(&b[HEAD..x_at], n),
+        x: vector(&b[x_at..y_at], n),
+        y: vector(&b[y_at..c_at], n),
         c: base_slices::load(b, c_at),
         r: base_slices::load(b, half_content::r_at(n)),
         seed: seed_in(&b[seed_at..corrections_at]),
@@ -148,7 +148,7 @@ pub fn content_fits(name: [u8; 16], party: u32, count: usize, b: &[u8]) -> bool
     if !measure_table::length_fits(terms) {
         return false;
     }
-    let n = terms.n as u16;
+    let n = terms.n;
     if half_content::blocks_of(n) != count {
         return false;
     }

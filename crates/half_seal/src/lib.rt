@@ -85,7 +85,7 @@ pub fn write_half(key: &[u8; 32], name: [u8; 16], party: u32, s: Set, out: &mut 
     ensures { out.new ≡ over 0 (half key.now name party s) out.old }
 {
     let number = s.number;
-    let count = half_content::blocks_of(s.terms.n as u16);
+    let count = half_content::blocks_of(s.terms.n);
     let p = half_layout::lay_out(name, party, s);
     write_blocks(key, number, count, &p, out);
 }

@@ -6,8 +6,8 @@ use Rattle.half_seal.proofs.Laws.{half_law}
 use Rattle.std.proofs.Common.{rules}
 use Rattle.half_seal.proofs.write_half.Goals as goal
 
-pub overflow_cast-s : goal.overflow_cast-s
-overflow_cast-s c =
+pub blocks_of-count-requires : goal.blocks_of-count-requires
+blocks_of-count-requires c =
     omega (arith, length_fits_lem c.args.s.terms c.requires.proper.length_fits_lem)
 
 pub lay_out-p-requires : goal.lay_out-p-requires

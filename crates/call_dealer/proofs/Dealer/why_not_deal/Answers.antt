@@ -14,8 +14,8 @@ returns-then-not-long-length_fits c =
     bad_length c.args.self _ refl refl _ _ _ c.is_code.ensures c.if-not-is_code.false _
     c.length_fits.ensures c.if-not-long-length_fits.true
 
-pub overflow_cast-terms : goal.overflow_cast-terms
-overflow_cast-terms c =
+pub blocks_of-size-requires : goal.blocks_of-size-requires
+blocks_of-size-requires c =
     let order = c.args.order in
     let fits = c.length_fits.ensures in
     omega (arith, (short (length order.seed.now) order.terms _ fits c.if-not-long-length_fits.false).1)
