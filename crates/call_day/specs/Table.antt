@@ -131,3 +131,10 @@ abbrev pub choice_of : Result (Option Row) BadTable → Choice
 choice_of (Ok (Some r)) = record { why = 0; place = r.place; threshold = r.threshold }
 choice_of (Ok None) = record { why = 0; place = 0; threshold = no_threshold }
 choice_of (Err b) = record { why = number_of b.why; place = b.place; threshold = no_threshold }
+
+-- a row that is told has its place, counted from 1: for a minute that is not of the day none is told, and no row of
+-- place 0 in its stead, which to `choice_of` is the same
+abbrev pub Placed : Result (Option Row) BadTable → Type 0
+Placed (Ok (Some r)) = 1 ≤ r.place
+Placed (Ok None) = Unit {0}
+Placed (Err _) = Unit {0}

@@ -5,7 +5,7 @@
 ghost use Rattle.std.specs.Prelude.{◌≡◌, ◌≤◌, length};
 ghost use Rattle.call_day.specs.Table.{in_row, row_fits, rows_with, first_bad_row, first_bad_minute, row_at};
 ghost use Rattle.call_day.specs.Table.{shaped, Finds, table_in, why_not_table, fault_of};
-ghost use Rattle.call_day.specs.Table.{choose as choose_of, choice_of};
+ghost use Rattle.call_day.specs.Table.{choose as choose_of, choice_of, Placed};
 ghost use Rattle.call_day.specs.Turns.{lower_of};
 
 use base_messages::Refusal;
@@ -168,7 +168,8 @@ pub fn why_not(table: Lists) -> Result<(), BadTable>
 
 // The row of a minute, where the table is good: a minute that is not of the day has none.
 pub fn choose(table: Lists, minute: u32) -> Result<Option<Row>, BadTable>
-    ensures { choice_of result ≡ choose_of (table_in table.entry) minute }
+    ensures value { choice_of result ≡ choose_of (table_in table.entry) minute }
+    ensures placed { Placed result }
 {
     why_not(table)?;
     if !(minute < DAY) {

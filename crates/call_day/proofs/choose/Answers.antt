@@ -4,13 +4,15 @@ use Rattle.call_day.specs.Table.{table_in}
 use Rattle.call_day.proofs.Told as told
 use Rattle.call_day.proofs.choose.Goals as goal
 
-pub returns-in_err-why_not : goal.returns-in_err-why_not
-returns-in_err-why_not c =
+-- A table that is turned down:
+-- its number and its place are told.
+pub returns-in_err-why_not-clause-value : goal.returns-in_err-why_not-clause-value
+returns-in_err-why_not-clause-value c =
     let p = err_from_is_err_and c.from_residual.result c.from_residual.ensures.1 in
     rw (p.1, p.2) (told.turned_down (table_in c.args.table) c.args.minute _ _ c.in_err-why_not.ensures)
 
-pub returns-then-not-minute : goal.returns-then-not-minute
-returns-then-not-minute c =
+pub returns-then-not-minute-clause-value : goal.returns-then-not-minute-clause-value
+returns-then-not-minute-clause-value c =
     told.past_day_lem (table_in c.args.table) c.args.minute c.in_ok-why_not.ensures c.if-not-minute.true
 
 pub invariant_of-rows : goal.invariant_of-rows
@@ -44,8 +46,8 @@ bounds-table-at c =
     let at = told.found t c.args.minute c.at.ensures c.unwrap-at.ensures in
     omega (arith, at.1, good.is_shaped.thresholds_too)
 
-pub returns : goal.returns
-returns c =
+pub returns-clause-value : goal.returns-clause-value
+returns-clause-value c =
     let t = table_in c.args.table in
     let at = told.found t c.args.minute c.at.ensures c.unwrap-at.ensures in
     told.row_of t c.args.minute c.in_ok-why_not.ensures c.if-not-minute.false _ at.0

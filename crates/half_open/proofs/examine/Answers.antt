@@ -5,12 +5,16 @@ use Rattle.std.proofs.lemmas.Result.{err_from_is_err_and}
 use Rattle.half_open.proofs.Whole.{refuses, early_why, late_why, its_blocks, reads, examined_refused, examined_taken}
 use Rattle.half_open.proofs.examine.Goals as goal
 
+-- A half that is turned down:
+-- its number is told, and no set.
 pub returns-in_err-number : goal.returns-in_err-number
 returns-in_err-number c =
     let p = err_from_is_err_and c.from_residual.result c.from_residual.ensures.1 in
     let some = refuses c.in_err-number.field-0.0 in
     rw (p.1, p.2) (examined_refused _ _ _ _ _ _ (early_why _ _ _ _ _ _ c.in_err-number.ensures.value some) some)
 
+-- What is opened is of whole blocks:
+-- neither too few nor too many.
 pub why_not_within-requires : goal.why_not_within-requires
 why_not_within-requires c =
     let blocks = its_blocks _ _ _ c.in_ok-number.ensures.value refl in

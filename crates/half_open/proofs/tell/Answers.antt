@@ -5,12 +5,16 @@ use Rattle.std.proofs.lemmas.Result.{err_from_is_err_and}
 use Rattle.half_open.proofs.Whole.{refuses, early_why, late_why, its_blocks, has_terms, told_refused, told_taken}
 use Rattle.half_open.proofs.tell.Goals as goal
 
+-- A half that is turned down:
+-- its number is told, and no terms.
 pub returns-in_err-why_not_numbered : goal.returns-in_err-why_not_numbered
 returns-in_err-why_not_numbered c =
     let p = err_from_is_err_and c.from_residual.result c.from_residual.ensures.1 in
     let some = refuses c.in_err-why_not_numbered.field-0.0 in
     rw (p.1, p.2) (told_refused _ _ _ _ _ _ (early_why _ _ _ _ _ _ c.in_err-why_not_numbered.ensures.value some) some)
 
+-- What is opened is of whole blocks:
+-- neither too few nor too many.
 pub why_not_within-requires : goal.why_not_within-requires
 why_not_within-requires c =
     let blocks = its_blocks _ _ _ c.in_ok-why_not_numbered.ensures.value refl in

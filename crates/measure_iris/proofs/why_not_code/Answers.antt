@@ -5,6 +5,9 @@ use Rattle.measure_iris.proofs.Refused.{failed, held}
 use Rattle.measure_iris.specs.Iris.{why_not_code}
 use Rattle.measure_iris.proofs.why_not_code.Goals as goal
 
+-- A code of another length is refused for it,
+-- and for nothing else:
+-- its other tests are not made.
 pub returns-in_default-clause-why : goal.returns-in_default-clause-why
 unfolding why_not_code
 returns-in_default-clause-why c = unless_false _ _ _ (ne_eqb _ _ c.in_default.ensures.cases)

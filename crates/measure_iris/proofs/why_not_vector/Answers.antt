@@ -8,6 +8,9 @@ use Rattle.measure_iris.specs.Iris.{iris_terms, why_not_vector}
 use Rattle.measure_iris.specs.Laws.{vector_fits}
 use Rattle.measure_iris.proofs.why_not_vector.Goals as goal
 
+-- A vector of another length is refused for it,
+-- and for nothing else:
+-- its other tests are not made.
 pub returns-in_default-clause-why : goal.returns-in_default-clause-why
 unfolding why_not_vector
 returns-in_default-clause-why c = unless_false _ _ _ (ne_eqb _ _ c.in_default.ensures.cases)
@@ -34,9 +37,10 @@ pub returns-clause-why : goal.returns-clause-why
 unfolding why_not_vector
 returns-clause-why c =
     let tested = c.all_in_range.ensures ∙ ap (all_in_range iris_terms) c.in-Some.ensures.cases.same in
+    let enough = held _ _ c.require.ensures c.in_ok-require.was in
+    let small = held _ _ c.require-2.ensures c.in_ok-require-2.was in
     unless_true _ _ _ (eq-eqb _ _ (c.in-Some.ensures.variant.0 refl))
-    (unless_true _ _ _ (held _ _ c.require.ensures c.in_ok-require.was)
-    (unless_true _ _ _ (sym tested ∙ held _ _ c.require-2.ensures c.in_ok-require-2.was) refl))
+    (unless_true _ _ _ enough (unless_true _ _ _ (sym tested ∙ small) refl))
 
 pub returns-clause-taken : goal.returns-clause-taken
 returns-clause-taken c =
