@@ -14,19 +14,19 @@ use test_script::Line;
 const BAD_LINE: u32 = 99;
 
 // The refusal of the half with byte i flipped: 1 is xored into it where its place is even, else 128.
-pub fn flip(d: Dealt, i: usize) -> u32 {
-    let mut changed = d;
+// `d` is lent, since a Dealt by value is a copy of 16 KB.
+pub fn flip(d: &Dealt, i: usize) -> u32 {
+    let mut half = d.half;
     if i < HALF {
-        changed.half[i] ^= if i % 2 == 0 { 1 } else { 128 };
+        half[i] ^= if i % 2 == 0 { 1 } else { 128 };
     }
-    dealt::refusal(d.holder, changed.as_slice())
+    dealt::refusal(d.holder, &half[..BLOCK * d.blocks])
 }
 
 // The refusal of other content.
-fn of_content(d: Dealt, plain: [u8; ROOM]) -> u32 {
-    let mut changed = d;
-    changed.half = dealt::sealed(&d.holder.key, d.number, d.blocks, plain);
-    dealt::refusal(d.holder, changed.as_slice())
+fn of_content(d: &Dealt, plain: [u8; ROOM]) -> u32 {
+    let half = dealt::sealed(&d.holder.key, d.number, d.blocks, plain);
+    dealt::refusal(d.holder, &half[..BLOCK * d.blocks])
 }
 
 // All bytes from one place to before another set.
@@ -39,7 +39,7 @@ fn spread(plain: [u8; ROOM], from: usize, to: usize, byte: u8) -> [u8; ROOM] {
 }
 
 // The refusal of the half with byte i of its content set.
-pub fn set(d: Dealt, i: usize, byte: u8) -> u32 {
+pub fn set(d: &Dealt, i: usize, byte: u8) -> u32 {
     of_content(d, spread(d.plain, i, i.saturating_add(1), byte))
 }
 
@@ -48,7 +48,7 @@ fn blocks_before(n: usize) -> usize
     requires { n ≤ 512 }
     ensures { result ≤ most_blocks }
 {
-    half_content::width_at(n as u16).div_ceil(TEXT)
+    half_content::width_at(n).div_ceil(TEXT)
 }
 
 // The refusal of a half of length n as it was laid out then: zeros stand for the width and the mark.
@@ -65,7 +65,7 @@ pub fn before(h: Half, n: usize) -> u32 {
     }
     let length = n.min(MOST_ELEMENTS);
     let blocks = blocks_before(length);
-    let plain = spread(d.plain, half_content::width_at(length as u16), ROOM, 0);
+    let plain = spread(d.plain, half_content::width_at(length), ROOM, 0);
     let half = dealt::sealed(&d.holder.key, d.number, blocks, plain);
     dealt::refusal(d.holder, &half[..BLOCK * blocks])
 }
@@ -108,7 +108,7 @@ pub fn refusal(d: Dealt, c: Option<Command>, line: Line<'_>) -> u32 {
         Some(Command::Cut) => cut(d, n),
         Some(Command::Spread) => {
             let to = fields::number(line, 11);
-            of_content(d, spread(d.plain, n, to, fields::byte(line, 12)))
+            of_content(&d, spread(d.plain, n, to, fields::byte(line, 12)))
         }
         Some(Command::Mixed) => mixed(
             d,

@@ -63,7 +63,7 @@ fn deal_to(b: Holder, set: Set) -> Dealt
     Dealt {
         holder: b,
         number: set.number,
-        blocks: half_content::blocks_of(set.terms.n as u16),
+        blocks: half_content::blocks_of(set.terms.n),
         plain,
         half,
     }

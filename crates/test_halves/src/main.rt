@@ -49,10 +49,10 @@ fn put_answer(line: Line<'_>, out: &mut Output) {
             Ok(again) => put_tag(again.as_slice(), out),
             Err(refusal) => out.put_numbers(&[refusal.number()]),
         },
-        Some(Command::Flip) => put_each(from, to.min(HALF), |i| changed::flip(d, i), out),
+        Some(Command::Flip) => put_each(from, to.min(HALF), |i| changed::flip(&d, i), out),
         Some(Command::Content) => {
             let byte = fields::byte(line, 12);
-            put_each(from, to.min(HALF), |i| changed::set(d, i, byte), out)
+            put_each(from, to.min(HALF), |i| changed::set(&d, i, byte), out)
         }
         Some(Command::Before) => {
             let h = fields::read_half(line, 1);

@@ -7,3 +7,4 @@ pub mod kept;
 pub mod memory;
 pub mod put;
 pub mod request;
+pub mod shown;

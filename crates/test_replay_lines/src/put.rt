@@ -1,5 +1,6 @@
 // Writes what answers a line.
 use crate::command::Command;
+use crate::memory;
 use crate::memory::Memory;
 use crate::request::Request;
 use test_script::Output;
@@ -39,7 +40,7 @@ fn put_told(m: &Memory, out: &mut Output) {
     out.put_byte(b' ');
     out.put_number(u64::from(m.terms.code));
     out.put_byte(b' ');
-    out.put_number(m.terms.n as u64);
+    out.put_number(memory::wide(m.terms.n));
 }
 
 // host NAME LAST and the ten fields of join: what the first C function answers.

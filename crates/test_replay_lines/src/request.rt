@@ -2,7 +2,7 @@
 ghost use Rattle.std.specs.Prelude.{◌<◌, ◌+◌};
 
 use crate::command::{Command, Kind, Part};
-use crate::memory::{Buffer, FIELDS, LONGEST, Memory};
+use crate::memory::{Buffer, FIELDS, Memory};
 use measure_table::Rule;
 use test_script::{Line, OneOrTwo};
 
@@ -81,14 +81,21 @@ impl Request {
             Kind::Box => self.part = Some(read_box(field)?),
             Kind::Part => self.part = Some(Part::of(field)?),
             Kind::Rule => self.rule = read_rule(field)?,
-            Kind::Bytes => m.fields[i] = read_bytes(field)?,
-            Kind::Vector => m.fields[i] = read_vector(field)?,
-            Kind::SentVector => {
-                m.fields[i] = match m.sent_by(field) {
-                    Some(sent) => sent.masked,
-                    None => read_vector(field)?,
-                }
+            Kind::Bytes => {
+                let out = &mut m.fields[i];
+                read_bytes(field, out)?
             }
+            Kind::Vector => {
+                let out = &mut m.fields[i];
+                read_vector(field, out)?
+            }
+            Kind::SentVector => match m.sent_by(field) {
+                Some(sent) => m.fields[i] = sent.masked,
+                None => {
+                    let out = &mut m.fields[i];
+                    read_vector(field, out)?
+                }
+            },
         }
         Some(())
     }
@@ -115,20 +122,18 @@ fn read_rule(field: &[u8]) -> Option<Rule> {
 }
 
 // Words are generated for vectors alone.
-fn read_bytes(field: &[u8]) -> Option<Buffer> {
+fn read_bytes(field: &[u8], out: &mut Buffer) -> Option<()> {
     if let [b'~', ..] = field {
         return None;
     }
-    let mut room: [u8; LONGEST] = test_script::zeros();
-    Some(Buffer::of(test_script::parse_bytes(field, &mut room)?))
+    out.read(field)
 }
 
 // A vector has whole words.
-fn read_vector(field: &[u8]) -> Option<Buffer> {
-    let mut room: [u8; LONGEST] = test_script::zeros();
-    let bytes = test_script::parse_bytes(field, &mut room)?;
-    if bytes.len() % 4 == 0 {
-        Some(Buffer::of(bytes))
+fn read_vector(field: &[u8], out: &mut Buffer) -> Option<()> {
+    out.read(field)?;
+    if out.as_slice().len() % 4 == 0 {
+        Some(())
     } else {
         None
     }

@@ -8,7 +8,7 @@ use call_lock::Answer;
 use door_parts::{Door, DoorAnswer, PlacedAnswer, Side};
 use measure_table::Terms;
 use test_replay_lines::command::Part;
-use test_replay_lines::memory::{Buffer, LONGEST, Memory};
+use test_replay_lines::memory::{LONGEST, Memory};
 use test_replay_lines::request::Request;
 
 // The longest buffer of a deal.
@@ -94,8 +94,8 @@ pub fn deal(door: Door, m: &mut Memory, r: Request) -> DoorAnswer {
         rule: r.rule,
     };
     let a = door.deal(order, out0, out1);
-    m.first = Buffer::of(out0);
-    m.second = Buffer::of(out1);
+    m.first.set(out0);
+    m.second.set(out1);
     a
 }
 
@@ -141,8 +141,8 @@ pub fn clock(door: Door, m: &mut Memory, r: Request) -> DoorAnswer {
     let out0 = &mut half0[..r.size(9).min(HALF_ROOM)];
     let out1 = &mut half1[..r.size(10).min(HALF_ROOM)];
     let a = by_clock(door, m, r, out0, out1);
-    m.first = Buffer::of(out0);
-    m.second = Buffer::of(out1);
+    m.first.set(out0);
+    m.second.set(out1);
     DoorAnswer {
         why: a.why,
         word: a.place,
@@ -175,9 +175,8 @@ pub fn mask(door: Door, m: &mut Memory, r: Request) -> DoorAnswer {
     let mut masked = no_masked();
     let out = &mut masked[..r.size(3).min(ROOM)];
     let a = door.mask(side(r), vector.as_slice(), out);
-    let mut first = Buffer::new();
-    first.put_words(out);
-    m.first = first;
+    m.first.set(&[]);
+    m.first.put_words(out);
     a
 }
 

@@ -19,7 +19,7 @@ pub fn dealer(d: Dealer, m: &mut Memory, r: Request) -> Result<Dealer, u32> {
     match r.command {
         Command::Dealer => start_dealer(m, r),
         Command::Show => {
-            m.first = states::dealer_bytes(d);
+            states::put_dealer(&mut m.first, d);
             Ok(d)
         }
         _ => Ok(d),
@@ -72,7 +72,7 @@ pub fn party(p: Party, m: &mut Memory, r: Request) -> Result<Party, u32> {
         Command::Waiting => Ok(put_waiting(p, r)),
         Command::Width => Ok(put_width(p, r)),
         Command::Show => {
-            m.first = states::party_bytes(p);
+            states::put_party(&mut m.first, p);
             Ok(p)
         }
         _ => Ok(p),
@@ -89,7 +89,7 @@ pub fn lock(lock: Lock, m: &mut Memory, r: Request) -> Result<Lock, u32> {
     match r.command {
         Command::Lock => start_lock(m, r),
         Command::Show => {
-            m.first = states::lock_bytes(lock);
+            states::put_lock(&mut m.first, lock);
             Ok(lock)
         }
         _ => Ok(lock),

@@ -6,6 +6,7 @@ use call_lock::Lock;
 use call_party::{Check, Party};
 use half_content::Set;
 use measure_table::MOST_ELEMENTS;
+use test_replay_lines::memory;
 use test_replay_lines::memory::Buffer;
 
 pub fn no_dealer() -> Dealer {
@@ -55,10 +56,10 @@ fn put_number(b: &mut Buffer, n: u64) {
 fn put_set(b: &mut Buffer, s: Set) {
     put_number(b, s.number);
     b.put_words(&[s.terms.code]);
-    put_number(b, s.terms.n as u64);
-    b.put_words(&s.mask);
-    b.put_words(&s.x);
-    b.put_words(&s.y);
+    put_number(b, memory::wide(s.terms.n));
+    b.put_vector(&s.mask);
+    b.put_vector(&s.x);
+    b.put_vector(&s.y);
     b.put_words(&[s.c, s.r]);
     b.put_words(&s.seed);
     for correction in s.key.corrections {
@@ -68,29 +69,30 @@ fn put_set(b: &mut Buffer, s: Set) {
     b.put_words(&[s.key.last, s.width, s.mark]);
 }
 
-pub fn party_bytes(p: Party) -> Buffer {
-    let mut b = Buffer::of(&p.who.name);
+// kept: (d) as `put_set`, here and below.
+// Into a buffer that is lent: one by value is a copy of 17 KB.
+pub fn put_party(b: &mut Buffer, p: Party) {
+    b.set(&p.who.name);
     b.put_words(&[p.who.party]);
     b.put(&p.who.key);
-    put_number(&mut b, p.last);
+    put_number(b, p.last);
     b.put_words(&[p.check.phase]);
-    put_set(&mut b, p.check.set);
-    b.put_words(&p.check.masked);
+    put_set(b, p.check.set);
+    b.put_vector(&p.check.masked);
     b.put_words(&[p.check.own, p.check.word]);
-    put_set(&mut b, p.waiting);
-    b
+    put_set(b, p.waiting);
 }
 
-pub fn dealer_bytes(d: Dealer) -> Buffer {
-    let mut b = Buffer::of(&d.name);
+// kept: (d) as `put_set`.
+pub fn put_dealer(b: &mut Buffer, d: Dealer) {
+    b.set(&d.name);
     b.put(&d.key0);
     b.put(&d.key1);
-    put_number(&mut b, d.last);
-    b
+    put_number(b, d.last);
 }
 
-pub fn lock_bytes(l: Lock) -> Buffer {
-    let mut b = Buffer::of(&l.name);
-    put_number(&mut b, l.last);
-    b
+// kept: (d) as `put_set`.
+pub fn put_lock(b: &mut Buffer, l: Lock) {
+    b.set(&l.name);
+    put_number(b, l.last);
 }

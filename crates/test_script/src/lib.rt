@@ -14,7 +14,7 @@ mod parse;
 ghost use Rattle.test_script.specs.Script.{NextPart};
 
 pub use line::{Line, Lines};
-pub use output::Output;
+pub use output::{Output, ROOM};
 pub use parse::{
     OneOrTwo, fill, parse_array, parse_bytes, parse_number, parse_one_or_two, parse_vector,
     parse_word,
@@ -94,4 +94,47 @@ pub fn next_line(text: &[u8], from: usize) -> Span
     ensures { NextPart text.now from 10 result }
 {
     next_part(text, from, b'\n')
+}
+
+// How many parts the marks divide a text into: one more than there are marks.
+pub fn part_count(text: &[u8], mark: u8) -> usize {
+    text.split(|b| *b == mark).count()
+}
+
+// The n-th part between the marks, counted from 0; no bytes if there are fewer parts.
+pub fn part(text: &[u8], mark: u8, n: usize) -> &[u8] {
+    text.split(|b| *b == mark).nth(n).unwrap_or(&[])
+}
+
+// As many words as the bytes make and there is room for, little-endian.
+pub fn load_words(bytes: &[u8], words: &mut [u32]) {
+    for (word, four) in words.iter_mut().zip(bytes.as_chunks::<4>().0) {
+        *word = u32::from_le_bytes(*four);
+    }
+}
+
+// kept: (a) public names, from here on: the programs slice, and ask for a first byte by a pattern.
+// The first bytes of a text, or all if there are fewer. A caller that takes `&text[..n]` has to prove
+// that n is in range.
+pub fn first(text: &[u8], n: usize) -> &[u8] {
+    &text[..n.min(text.len())]
+}
+
+pub fn first_mut(text: &mut [u8], n: usize) -> &mut [u8] {
+    let end = n.min(text.len());
+    &mut text[..end]
+}
+
+pub fn first_words(w: &[u32], n: usize) -> &[u32] {
+    &w[..n.min(w.len())]
+}
+
+pub fn first_words_mut(w: &mut [u32], n: usize) -> &mut [u32] {
+    let end = n.min(w.len());
+    &mut w[..end]
+}
+
+// The first byte, 0 if there is none.
+pub fn first_byte(text: &[u8]) -> u8 {
+    if text.is_empty() { 0 } else { text[0] }
 }

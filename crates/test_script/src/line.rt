@@ -45,12 +45,12 @@ pub struct Line<'a> {
 
 impl<'a> Line<'a> {
     pub fn count(self) -> usize {
-        self.text.split(|b| *b == b' ').count()
+        crate::part_count(self.text, b' ')
     }
 
     // No bytes if there are fewer fields.
     pub fn field(self, n: usize) -> &'a [u8] {
-        self.text.split(|b| *b == b' ').nth(n).unwrap_or(&[])
+        crate::part(self.text, b' ', n)
     }
 
     pub fn number(self, n: usize) -> Option<u64> {

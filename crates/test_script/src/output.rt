@@ -4,12 +4,13 @@
 // for words, and a Result at every put: here none can fail.
 ghost use Rattle.std.specs.Prelude.{◌≤◌, length};
 
-const OUTPUT: usize = 4096;
+// The bytes that wait to be written out, at most.
+pub const ROOM: usize = 4096;
 
 // The answers that are not yet written out stand in the first bytes.
 #[derive(Drop)]
 pub struct Output {
-    text: [u8; OUTPUT],
+    text: [u8; ROOM],
     len: usize,
     ghost within: { len ≤ length text },
 }
@@ -29,7 +30,7 @@ impl Output {
     }
 
     pub fn put_byte(&mut self, b: u8) {
-        if self.len == OUTPUT {
+        if self.len == ROOM {
             io::write_all(1, &self.text);
             self.len = 0;
         }

@@ -9,12 +9,25 @@ fn digit(b: u8) -> Option<u8> {
     }
 }
 
-// A decimal number below 2^64. `parse` alone would take a sign.
-pub fn parse_number(field: &[u8]) -> Option<u64> {
-    if !field.iter().all(|b| b.is_ascii_digit()) {
+fn with_digit(n: u64, b: u8) -> Option<u64> {
+    if !b.is_ascii_digit() {
         return None;
     }
-    std::str::from_utf8(field).ok()?.parse().ok()
+    n.checked_mul(10)?.checked_add(u64::from(b - b'0'))
+}
+
+// A decimal number below 2^64.
+// kept: (b) digit by digit: `from_utf8` and `parse`, which alone would take a sign, look at each byte again, and a
+// script of short numbers took half as long again.
+pub fn parse_number(field: &[u8]) -> Option<u64> {
+    if field.is_empty() {
+        return None;
+    }
+    let mut n = 0;
+    for b in field {
+        n = with_digit(n, *b)?;
+    }
+    Some(n)
 }
 
 // A decimal number below 2^32.
@@ -112,15 +125,8 @@ pub fn parse_bytes<'a>(field: &[u8], out: &'a mut [u8]) -> Option<&'a mut [u8]> 
     }
 }
 
-// kept: (a) what fill makes of a number that can't be read may not change; parse_number reads the others.
-fn with_digit(n: u64, b: u8) -> Option<u64> {
-    if !b.is_ascii_digit() {
-        return None;
-    }
-    n.checked_mul(10)?.checked_add(u64::from(b - b'0'))
-}
-
 // The word at a place between colons. One that can't be read is some word all the same.
+// kept: (a) what fill makes of a number that can't be read may not change; parse_number reads the others.
 fn some_word(text: &[u8], n: usize) -> u32 {
     let field = text.split(|b| *b == b':').nth(n).unwrap_or(&[]);
     let mut number = 0;
@@ -166,13 +172,11 @@ const VECTOR: usize = 2048;
 // The bytes of a field as words, little-endian, into the first of a buffer, if it has room for them.
 pub fn parse_vector<'a>(field: &[u8], out: &'a mut [u32]) -> Option<&'a mut [u32]> {
     let mut buffer: [u8; 4 * VECTOR] = crate::zeros();
-    let (words, rest) = parse_bytes(field, &mut buffer)?.as_chunks::<4>();
-    if !rest.is_empty() {
+    let bytes = parse_bytes(field, &mut buffer)?;
+    if bytes.len() % 4 != 0 {
         return None;
     }
-    let out = out.get_mut(..words.len())?;
-    for (x, bytes) in out.iter_mut().zip(words) {
-        *x = u32::from_le_bytes(*bytes);
-    }
-    Some(out)
+    let words = out.get_mut(..bytes.len() / 4)?;
+    crate::load_words(bytes, words);
+    Some(words)
 }

@@ -21,8 +21,8 @@ lay_out-plain-requires c =
       mark_bound = mark_byte _ proper;
     }
 
-pub overflow_cast-set : goal.overflow_cast-set
-overflow_cast-set c =
+pub blocks_of-requires : goal.blocks_of-requires
+blocks_of-requires c =
     omega (arith, length_fits_lem _ c.requires.proper.length_fits_lem)
 
 pub invariant_of-result : goal.invariant_of-result
